@@ -1,0 +1,12 @@
+//! Prices, quantities and tick sizes, and the texts of prices and money.
+#![tactic(auto)]
+
+pub mod numbers;
+pub mod reading;
+#[cfg(test)]
+mod tests;
+pub mod writing;
+
+pub use numbers::{JournalLimit, Price, Quantity, TickSize};
+pub use reading::{PriceFault, read_price};
+pub use writing::{write_money, write_price, write_whole};

@@ -1,0 +1,108 @@
+//! The price of a text.
+ghost use Rattle.std.specs.Prelude.{◌≡◌, ◌<◌, ◌≤◌, ◌^◌, length, IfSome};
+ghost use Rattle.std.specs.Option.{ForSome};
+ghost use Rattle.xm_ticks.specs.Reading.{number_of, point_of, price_of, price_of_parts, price_of_amount};
+
+use crate::numbers::{Price, TickSize};
+
+/// Why a text is no price, in the order of the checks.
+#[derive(Clone, Copy, PartialEq, Eq, Debug)]
+pub enum PriceFault {
+    /// It isn't at most 16 bytes of digits, with or without a point between digits.
+    NotANumber,
+    /// It has more than four decimals.
+    TooManyDecimals,
+    /// It is no multiple of the tick size.
+    OffTick,
+    /// It is not 1 to 1,000,000 ticks.
+    OutOfRange,
+}
+
+/// Reads a price in euros, as `12.345`.
+///
+/// A price text has at most 16 bytes: digits, then optionally a point and digits.
+pub fn read_price(text: &[u8], tick: TickSize) -> Result<Price, PriceFault>
+    ensures { result ≡ price_of text.now tick }
+{
+    if text.len() > 16 {
+        return Err(PriceFault::NotANumber);
+    }
+    match point(text) {
+        None => price_of_parts(number(text), Some(0), 0, tick),
+        Some(i) => price_of_parts(
+            number(&text[..i]),
+            number(&text[i + 1..]),
+            text.len() - (i + 1),
+            tick,
+        ),
+    }
+}
+
+/// Where the point stands.
+fn point(text: &[u8]) -> Option<usize>
+    ensures place { result ≡ point_of text.now }
+    ensures within { IfSome result (λ i. i < length text.now) }
+{
+    text.iter().position(|byte| *byte == b'.')
+}
+
+/// The number that digits write, if there is a digit and nothing else.
+fn number(text: &[u8]) -> Option<u64>
+    requires { length text.now ≤ 16 }
+    ensures value { result ≡ number_of text.now }
+    ensures small { IfSome result (λ n. n < 10 ^ 16) }
+{
+    if text.is_empty() {
+        return None;
+    }
+    let mut n = 0u64;
+    for byte in text {
+        if !byte.is_ascii_digit() {
+            return None;
+        }
+        n = n * 10 + u64::from(*byte - b'0');
+    }
+    Some(n)
+}
+
+/// The price of the numbers before and after a point, of which the second has so many digits.
+fn price_of_parts(
+    whole: Option<u64>,
+    decimals: Option<u64>,
+    places: usize,
+    tick: TickSize,
+) -> Result<Price, PriceFault>
+    requires { ForSome decimals (λ n. n < 10 ^ 16) }
+    ensures { result ≡ price_of_parts whole decimals places tick }
+{
+    match whole {
+        None => Err(PriceFault::NotANumber),
+        Some(whole) => match decimals {
+            None => Err(PriceFault::NotANumber),
+            Some(decimals) => {
+                if places > 4 {
+                    return Err(PriceFault::TooManyDecimals);
+                }
+                let part = u128::from(decimals) * 10u128.pow(4 - places as u32);
+                price_of_amount(u128::from(whole) * 10_000 + part, tick)
+            }
+        },
+    }
+}
+
+/// The price of ten-thousandths of a euro.
+fn price_of_amount(amount: u128, tick: TickSize) -> Result<Price, PriceFault>
+    ensures { result ≡ price_of_amount amount tick }
+{
+    let tick = u128::from(tick.get());
+    if amount % tick != 0 {
+        return Err(PriceFault::OffTick);
+    }
+    match u32::try_from(amount / tick) {
+        Ok(ticks) => match Price::new(ticks) {
+            Some(price) => Ok(price),
+            None => Err(PriceFault::OutOfRange),
+        },
+        Err(_) => Err(PriceFault::OutOfRange),
+    }
+}

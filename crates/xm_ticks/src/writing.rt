@@ -1,0 +1,78 @@
+//! The texts of prices and money, and the loop that writes a text.
+ghost use Rattle.std.specs.Prelude.{◌≡◌, ◌+◌, ◌<◌, ◌≤◌, ◌++◌, length, OnOk, OnErr};
+ghost use Rattle.std.specs.Io.KnownBytes.{Appends};
+ghost use Rattle.xm_ticks.specs.Writing.{AppendsFront, amount_text, price_text, money_text};
+
+use crate::numbers::{Price, TickSize};
+use arrayvec::ArrayVec;
+use itoa::Buffer;
+use std::io;
+
+/// Writes a price in euros with four decimals.
+///
+/// The error is the writer's; what went out before it is a front of the text.
+pub fn write_price<W: io::Write>(out: &mut W, price: Price, tick: TickSize) -> io::Result<()>
+    ensures ok { OnOk result (Appends (W.contents out.old) (W.contents out.new) (price_text price tick)) }
+    ensures err { OnErr result (AppendsFront (W.contents out.old) (W.contents out.new) (price_text price tick)) }
+{
+    let amount = u128::from(price.get()) * u128::from(tick.get());
+    write_whole(out, amount_text(b"", amount).as_slice())
+}
+
+/// Writes ten-thousandths of a euro in euros with four decimals, and a minus sign before a
+/// negative amount.
+///
+/// The error is the writer's; what went out before it is a front of the text.
+pub fn write_money<W: io::Write>(out: &mut W, money: i128) -> io::Result<()>
+    ensures ok { OnOk result (Appends (W.contents out.old) (W.contents out.new) (money_text money)) }
+    ensures err { OnErr result (AppendsFront (W.contents out.old) (W.contents out.new) (money_text money)) }
+{
+    let sign: &[u8] = if money < 0 { b"-" } else { b"" };
+    write_whole(out, amount_text(sign, money.unsigned_abs()).as_slice())
+}
+
+/// Writes a text, in as many calls as the writer asks for.
+///
+/// The error is the writer's, or `WriteZero` where it takes no byte; what went out before it is a
+/// front of the text.
+pub fn write_whole<W: io::Write>(out: &mut W, text: &[u8]) -> io::Result<()>
+    ensures ok { OnOk result (Appends (W.contents out.old) (W.contents out.new) text.now) }
+    ensures err { OnErr result (AppendsFront (W.contents out.old) (W.contents out.new) text.now) }
+{
+    let mut done = 0;
+    while done < text.len() {
+        match out.write(&text[done..]) {
+            Ok(0) => return Err(io::Error::from(io::ErrorKind::WriteZero)),
+            Ok(count) => done += count,
+            Err(error) => return Err(error),
+        }
+    }
+    Ok(())
+}
+
+/// A sign and the text of an amount in ten-thousandths of a euro, which fit 48 bytes.
+fn amount_text(sign: &[u8], amount: u128) -> ArrayVec<u8, 48>
+    requires { length sign.now ≤ 1 }
+    ensures { result.items ≡ sign.now ++ amount_text amount }
+{
+    let mut text = ArrayVec::new();
+    let mut whole = Buffer::new();
+    text.try_extend_from_slice(sign).unwrap();
+    text.try_extend_from_slice(whole.format(amount / 10_000).as_bytes())
+        .unwrap();
+    text.push(b'.');
+    let decimals = (amount % 10_000) as u16;
+    text.push(digit(decimals / 1000));
+    text.push(digit(decimals / 100 % 10));
+    text.push(digit(decimals / 10 % 10));
+    text.push(digit(decimals % 10));
+    text
+}
+
+/// The character of a digit.
+fn digit(n: u16) -> u8
+    requires { n < 10 }
+    ensures { result ≡ 48 + n }
+{
+    b'0' + n as u8
+}
