@@ -2,11 +2,13 @@
 #![tactic(auto)]
 
 pub mod numbers;
+pub mod ranges;
 pub mod reading;
 #[cfg(test)]
 mod tests;
 pub mod writing;
 
 pub use numbers::{JournalLimit, Price, Quantity, TickSize};
+pub use ranges::inside;
 pub use reading::{PriceFault, read_price};
 pub use writing::{write_money, write_price, write_whole};

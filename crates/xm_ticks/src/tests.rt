@@ -1,6 +1,6 @@
 use crate::{
-    JournalLimit, Price, PriceFault, Quantity, TickSize, read_price, write_money, write_price,
-    write_whole,
+    JournalLimit, Price, PriceFault, Quantity, TickSize, inside, read_price, write_money,
+    write_price, write_whole,
 };
 use std::io::{self, Write};
 use std::test::Fail;
@@ -167,5 +167,28 @@ fn the_fault_is_the_writers(rt: HostRuntime) -> Result<(), Fail> {
     let fault = write_whole(&mut full, b"text").map_err(|error| error.kind());
     assert_eq!(rt; fault, Err(io::ErrorKind::WriteZero));
     assert!(rt; full.bytes.is_empty());
+    Ok(())
+}
+
+#[test]
+fn range_edges(rt: HostRuntime) -> Result<(), Fail> {
+    let edges = [
+        (1020, 1000, 20, true),
+        (1021, 1000, 20, false),
+        (1018, 999, 20, true),
+        (1019, 999, 20, false),
+        (980, 999, 20, true),
+        (979, 999, 20, false),
+        (1, 1, 999, true),
+        (2, 1, 999, false),
+        (1_000_000, 1_000_000, 0, true),
+        (1, 1_000_000, 999, false),
+    ];
+    for (price, reference, width, want) in edges {
+        let price = Price::new(price).ok_or("no price")?;
+        let reference = Price::new(reference).ok_or("no price")?;
+        assert!(rt; width <= 999);
+        assert_eq!(rt; inside(price, reference, width), want);
+    }
     Ok(())
 }

@@ -1,0 +1,15 @@
+//! Price ranges.
+ghost use Rattle.std.specs.Prelude.{◌≡◌, ◌≤◌};
+ghost use Rattle.xm_ticks.specs.Ranges.{inside};
+
+use crate::numbers::Price;
+
+/// Whether a price is inside the range of this width, in thousandths, around a reference price.
+/// The edges are inside.
+pub fn inside(price: Price, reference: Price, width: u32) -> bool
+    requires { width ≤ 999 }
+    ensures { result ≡ inside price reference width }
+{
+    let distance = price.get().abs_diff(reference.get());
+    1000 * u64::from(distance) <= u64::from(width) * u64::from(reference.get())
+}
