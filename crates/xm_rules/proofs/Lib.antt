@@ -1,0 +1,15 @@
+pub mod Ahead
+pub mod Allotments
+pub mod Choices
+pub mod Journals
+pub mod LawfulJournals
+pub mod Orderings
+pub mod Places
+pub mod Prices
+pub mod Queues
+pub mod Sums
+pub mod Sweeps
+pub mod TimeLists
+pub mod Units
+pub mod Untraded
+pub mod Volumes

@@ -1,0 +1,16 @@
+pub mod Active
+pub mod Allotment
+pub mod Auction
+pub mod Commands
+pub mod Orders
+pub mod Priority
+pub mod Quote
+pub mod Refusals
+pub mod Rows
+pub mod Served
+pub mod Settling
+pub mod Sides
+pub mod State
+pub mod Step
+pub mod Sums
+pub mod Sweep

@@ -1,0 +1,41 @@
+-- Priority: which of two active orders of a side is ahead, and how many units are ahead of one.
+use Rattle.std.specs.Prelude.{ℕ, ◌-◌, Bool, true, false, ◌&&◌, ◌||◌, not, if◌then◌else◌, nat_le, nat_lt, List, [], ◌∷◌, filter, map, sum_by}
+use Rattle.xm_rules.specs.Active.{Placed, placed_from}
+use Rattle.xm_rules.specs.Sides.{reaches}
+use Rattle.xm_rules.specs.declared.orders.Order.{Order}
+use Rattle.xm_rules.specs.declared.orders.OrderKind.{OrderKind}
+use Rattle.xm_rules.specs.declared.orders.OrderKind.TheVariants.{Market, Limit}
+use Rattle.xm_rules.specs.declared.orders.Side.{Side}
+
+-- market orders come first, then better limits
+abbrev pub is_better : Side → OrderKind → OrderKind → Bool
+is_better side Market Market = false
+is_better side Market (Limit q) = true
+is_better side (Limit p) Market = false
+is_better side (Limit p) (Limit q) = not (reaches side q p)
+
+-- then the earlier in the time list
+abbrev pub is_ahead : Side → Placed → Placed → Bool
+is_ahead side i j = is_better side i.order.kind j.order.kind || (not (is_better side j.order.kind i.order.kind) && nat_lt i.place j.place)
+
+-- the units that rest ahead of an order of a side
+abbrev pub before : Side → List Placed → Placed → ℕ
+before side queue j = sum_by (λ (i : Placed). if is_ahead side i j then i.order.rest else 0) queue
+
+-- a time list after these units were taken from its orders; an order that has none left is gone
+abbrev pub less : (Placed → ℕ) → List Order → List Order
+less taken orders =
+    filter (λ (o : Order). nat_lt 0 o.rest) (map (λ (i : Placed). let o = i.order in record o { rest = o.rest - taken i }) (placed_from 0 orders))
+
+module _ {A : Type 0} where
+  abbrev pub insert_in_order : ℕ × A → List (ℕ × A) → List (ℕ × A)
+  insert_in_order x [] = x ∷ []
+  insert_in_order x (y ∷ ys) = if nat_le x.0 y.0 then x ∷ y ∷ ys else y ∷ insert_in_order x ys
+
+  abbrev pub sorted : List (ℕ × A) → List (ℕ × A)
+  sorted [] = []
+  sorted (x ∷ xs) = insert_in_order x (sorted xs)
+
+  -- in rising order of their numbers
+  abbrev pub in_order : List (ℕ × A) → List A
+  in_order xs = map (λ (x : ℕ × A). x.1) (sorted xs)

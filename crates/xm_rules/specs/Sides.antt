@@ -1,0 +1,27 @@
+-- Buy and sell are mirrors: what is said of a side's prices is said once, with the side as a parameter.
+use Rattle.std.specs.Prelude.{ℕ, Bool, true, false, if◌then◌else◌, nat_le, List, [], ◌∷◌, Option, Some, None}
+use Rattle.xm_rules.specs.declared.orders.Side.{Side}
+use Rattle.xm_rules.specs.declared.orders.Side.TheVariants.{Buy, Sell}
+
+abbrev pub opposite : Side → Side
+opposite Buy = Sell
+opposite Sell = Buy
+
+abbrev pub same_side : Side → Side → Bool
+same_side Buy Buy = true
+same_side Sell Sell = true
+same_side _ _ = false
+
+-- the first price is as good for priority as the second: as high on the buy side, as low on the sell side
+abbrev pub reaches : Side → ℕ → ℕ → Bool
+reaches Buy p q = nat_le q p
+reaches Sell p q = nat_le p q
+
+-- the best of a price and others: the highest on the buy side, the lowest on the sell side
+abbrev pub best_from : Side → ℕ → List ℕ → ℕ
+best_from side p [] = p
+best_from side p (q ∷ qs) = best_from side (if reaches side p q then p else q) qs
+
+abbrev pub best : Side → List ℕ → Option ℕ
+best side [] = None
+best side (p ∷ ps) = Some (best_from side p ps)

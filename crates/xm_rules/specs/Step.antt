@@ -1,0 +1,137 @@
+-- The step of a state by an accepted command, with its reply; lawful journals, and the replay of a journal.
+use Rattle.std.specs.Prelude.{ℕ, ◌+◌, ◌==◌, Bool, true, false, ◌&&◌, not, if◌then◌else◌, nat_le, List, [], ◌∷◌, ◌++◌, length, filter, map, drop, find, is_none, Option, Some, None}
+use Rattle.xm_rules.specs.Allotment.{Uncrossing, auction_trades, orders_after}
+use Rattle.xm_rules.specs.Auction.{auction_price}
+use Rattle.xm_rules.specs.Commands.{order_kind, trigger_of, outlasts}
+use Rattle.xm_rules.specs.Orders.{is_named, is_stop_named}
+use Rattle.xm_rules.specs.Refusals.{refusal_of}
+use Rattle.xm_rules.specs.Settling.{come, swept, sweep_of, settle}
+use Rattle.xm_rules.specs.State.{State, opening, ref1, ranges, inside_both, inside_wide}
+use Rattle.xm_rules.specs.Sums.{total_quantity, total_money}
+use Rattle.xm_rules.specs.Sweep.{is_fillable}
+use Rattle.xm_rules.specs.declared.commands.Command.{Command}
+use Rattle.xm_rules.specs.declared.commands.Command.TheVariants.{Enter, Change, Cancel, CancelAll, StartOpening, StartIntraday, StartClosing, Uncross, EndDay}
+use Rattle.xm_rules.specs.declared.commands.Condition.{Condition}
+use Rattle.xm_rules.specs.declared.commands.Condition.TheVariants.{Plain, Ioc, Fok}
+use Rattle.xm_rules.specs.declared.orders.Order.{Order}
+use Rattle.xm_rules.specs.declared.orders.OrderKind.{OrderKind}
+use Rattle.xm_rules.specs.declared.orders.OrderKind.TheVariants.{Market, Limit}
+use Rattle.xm_rules.specs.declared.orders.Stop.{Stop}
+use Rattle.xm_rules.specs.declared.phases.Auction.{Auction}
+use Rattle.xm_rules.specs.declared.phases.Auction.TheVariants.{Opening, Intraday, Closing}
+use Rattle.xm_rules.specs.declared.phases.CallStage.{CallStage}
+use Rattle.xm_rules.specs.declared.phases.CallStage.TheVariants.{Ordinary, Interrupted, Extended}
+use Rattle.xm_rules.specs.declared.phases.Phase.{Phase}
+use Rattle.xm_rules.specs.declared.phases.Phase.TheVariants.{Call, Continuous, PostTrading, Ended}
+use Rattle.xm_rules.specs.declared.replies.Reply.{Reply}
+use Rattle.xm_rules.specs.declared.settings.DeskSettings.{DeskSettings}
+
+-- what is kept after a test of orders and one of stops
+abbrev pub kept : (Order → Bool) → (Stop → Bool) → State → State
+kept keeps_order keeps_stop s = record s { orders = filter keeps_order s.orders; stops = filter keeps_stop s.stops }
+
+-- an immediate-or-cancel order's rest is deleted; a fill-or-kill order comes in only where it can be executed whole
+abbrev pub come_on : Condition → State → Order → State
+come_on Plain s o = come s o
+come_on Ioc s o = swept s o
+come_on Fok s o = if is_fillable (sweep_of s o) then come s o else s
+
+abbrev pub stop_of : ℕ → Order → Stop
+stop_of trigger o =
+    record { member = o.member; reference = o.reference; side = o.side; trigger = trigger; becomes = o.kind; quantity = o.rest; validity = o.validity }
+
+-- a stop joins the held ones last; an order comes in on its condition
+abbrev pub entered : State → Condition → Option ℕ → Order → State
+entered s condition None o = come_on condition s o
+entered s condition (Some trigger) o = record s { stops = s.stops ++ stop_of trigger o ∷ [] }
+
+abbrev pub same_limit : Option ℕ → OrderKind → Bool
+same_limit None kind = true
+same_limit (Some p) Market = false
+same_limit (Some p) (Limit q) = p == q
+
+abbrev pub changed_kind : Option ℕ → OrderKind → OrderKind
+changed_kind None kind = kind
+changed_kind (Some p) kind = Limit p
+
+abbrev pub without : State → ℕ → ℕ → State
+without s member reference = kept (λ o. not (is_named member reference o)) (λ stop. not (is_stop_named member reference stop)) s
+
+-- with the same limit and no higher quantity an order keeps its place; else it leaves the list and comes in again
+abbrev pub changed : State → ℕ → Option ℕ → Option Order → State
+changed s quantity limit None = s
+changed s quantity limit (Some o) =
+    if same_limit limit o.kind && nat_le quantity o.rest
+    then record s { orders = map (λ (x : Order). if is_named o.member o.reference x then record x { rest = quantity } else x) s.orders }
+    else come (without s o.member o.reference) (record o { kind = changed_kind limit o.kind; rest = quantity })
+
+-- after a call comes post-trading, if it was the closing call, and else continuous trading
+abbrev pub next_phase : Auction → Phase
+next_phase Closing = PostTrading
+next_phase _ = Continuous
+
+-- the trades of a price determination, which takes the next number
+abbrev pub traded : State → Uncrossing → State
+traded s u =
+    record s { phase = next_phase u.auction; orders = orders_after u; trades = s.trades ++ auction_trades (s.sweeps + 1) u; sweeps = s.sweeps + 1 }
+
+-- a potential price outside a range that its stage asks leads to the next stage: an ordinary call asks the dynamic and the
+-- static range, an interrupted one the wide range, an extended one none
+abbrev pub uncrossed_at : State → Auction → CallStage → Option (ℕ × ℕ) → State
+uncrossed_at s auction stage None = record s { phase = next_phase auction }
+uncrossed_at s auction stage (Some priced) = determined stage where
+  trade : State
+  trade = traded s (record { auction = auction; stage = stage; orders = s.orders; price = priced.0; volume = priced.1 })
+
+  determined : CallStage → State
+  determined Ordinary = if inside_both (ranges s) priced.0 then trade else record s { phase = Call auction Interrupted }
+  determined Interrupted = if inside_wide (ranges s) priced.0 then trade else record s { phase = Call auction Extended }
+  determined Extended = trade
+
+abbrev pub uncrossed : State → Phase → State
+uncrossed s (Call auction stage) = uncrossed_at s auction stage (auction_price (Call auction stage) s.orders (ref1 s))
+uncrossed s _ = s
+
+-- what a command does, before the stops that it reached are settled
+abbrev pub act : State → Command → State
+act s (Enter member reference side kind quantity validity restriction condition) =
+    entered s condition (trigger_of kind) (record { member = member; reference = reference; side = side; kind = order_kind kind; rest = quantity; validity = validity; restriction = restriction })
+act s (Change member reference quantity limit) = changed s quantity limit (find (is_named member reference) s.orders)
+act s (Cancel member reference) = without s member reference
+act s (CancelAll member) = kept (λ (o : Order). not (o.member == member)) (λ (stop : Stop). not (stop.member == member)) s
+act s StartOpening = record s { phase = Call Opening Ordinary }
+act s StartIntraday = record s { phase = Call Intraday Ordinary }
+act s StartClosing = record s { phase = Call Closing Ordinary }
+act s Uncross = uncrossed s s.phase
+act s EndDay = kept (λ (o : Order). outlasts s.settings.today o.validity) (λ (stop : Stop). outlasts s.settings.today stop.validity) (record s { phase = Ended })
+
+-- the state after an accepted command
+abbrev pub step : State → Command → State
+step s command = let t = settle (act s command) [] in record t { accepted = s.accepted + 1 }
+
+-- the reply to a command that led from one state to the next
+abbrev pub reply : State → State → Reply
+reply s t =
+    let trades = drop (length s.trades) t.trades in
+    record { version = t.accepted; first_trade = length s.trades; trades = length trades; quantity = total_quantity trades; money = total_money trades; phase = t.phase }
+
+-- the state after a list of commands
+abbrev pub replay_from : State → List Command → State
+replay_from s [] = s
+replay_from s (c ∷ cs) = replay_from (step s c) cs
+
+-- each command is one that the state before it doesn't refuse
+abbrev pub is_lawful_from : State → List Command → Bool
+is_lawful_from s [] = true
+is_lawful_from s (c ∷ cs) = is_none (refusal_of s c) && is_lawful_from (step s c) cs
+
+-- a journal is its settings and the accepted commands
+pub record Journal : Type 0 where
+  pub settings : DeskSettings
+  pub commands : List Command
+
+abbrev pub replay : Journal → State
+replay j = replay_from (opening j.settings) j.commands
+
+abbrev pub is_lawful : Journal → Bool
+is_lawful j = is_lawful_from (opening j.settings) j.commands

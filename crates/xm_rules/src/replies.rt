@@ -1,0 +1,85 @@
+//! What a desk answers.
+use crate::phases::Phase;
+use xm_ticks::Price;
+
+/// Why a command is refused, in the order of the checks. A refusal changes nothing.
+#[derive(Clone, Copy, PartialEq, Eq, Hash, Debug)]
+pub enum Refusal {
+    /// The index of the security is out of the segment.
+    UnknownSecurity,
+    /// The index of the member is out of the segment.
+    UnknownMember,
+    /// The day has ended.
+    DayEnded,
+    /// The quantity is 0 or above 1,000,000.
+    BadQuantity,
+    /// A limit or a trigger is 0 or above 1,000,000.
+    BadPrice,
+    /// The order would be valid till a date before today.
+    BadValidity,
+    /// An immediate-or-cancel or fill-or-kill order with a restriction or a stop, or a stop with a
+    /// restriction.
+    BadCombination,
+    /// A command of the phases, or an immediate-or-cancel or fill-or-kill order, outside its phase.
+    WrongPhase,
+    /// The member has a live order or a held stop with this reference.
+    DuplicateReference,
+    /// The member has no live order and no held stop with this reference.
+    UnknownOrder,
+    /// A stop, or a limit given to a market order.
+    NotChangeable,
+    /// The reference price has already reached the trigger.
+    TriggerReached,
+    /// The journal has taken all the commands that it takes.
+    JournalFull,
+    /// A growth was refused.
+    OutOfMemory,
+}
+
+/// A growth was refused.
+#[derive(Clone, Copy, PartialEq, Eq, Hash, Debug)]
+pub struct OutOfMemory;
+
+/// The sums over trades, each of which counts once.
+#[derive(Clone, Copy, PartialEq, Eq, Hash, Debug)]
+pub struct Totals {
+    /// In units.
+    pub quantity: u64,
+    /// In ticks times units.
+    pub money: u64,
+}
+
+/// The reply to an accepted command.
+#[derive(Clone, Copy, PartialEq, Eq, Hash, Debug)]
+pub struct Reply {
+    /// The number of accepted commands, with this one.
+    pub version: u64,
+    /// The number of trades before it.
+    pub first_trade: u64,
+    /// The number of its own trades.
+    pub trades: u64,
+    /// The quantity of its own trades in units.
+    pub quantity: u64,
+    /// The money of its own trades in ticks times units.
+    pub money: u64,
+    /// The phase after it.
+    pub phase: Phase,
+}
+
+/// What is shown of a security to those who watch it.
+#[derive(Clone, Copy, PartialEq, Eq, Hash, Debug)]
+pub struct Quote {
+    /// The number of accepted commands.
+    pub version: u64,
+    pub phase: Phase,
+    /// The best limit of the active buy orders.
+    pub best_buy: Option<Price>,
+    /// The best limit of the active sell orders.
+    pub best_sell: Option<Price>,
+    /// The price of the last trade, or the opening reference.
+    pub ref1: Price,
+    /// The price of the last auction trade, or the opening reference.
+    pub ref2: Price,
+    /// The traded quantity so far in units.
+    pub quantity: u64,
+}

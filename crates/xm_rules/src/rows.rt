@@ -1,0 +1,6 @@
+//! What the definitions give on worked examples. Each function promises one by its contract.
+pub mod calls;
+pub mod days;
+pub mod refusals;
+pub mod replays_of_calls;
+pub mod sweeps;

@@ -1,0 +1,77 @@
+//! Who takes part in a call, its price, and who trades with whom.
+ghost use Rattle.std.specs.Prelude.{◌≡◌, [], ◌∷◌, Some, None, true, false};
+ghost use Rattle.xm_rules.specs.Active.{is_active};
+ghost use Rattle.xm_rules.specs.Allotment.{auction_trades, orders_after};
+ghost use Rattle.xm_rules.specs.Auction.{auction_price};
+ghost use Rattle.xm_rules.specs.Rows.{takes_part_in, crossed_orders, four_orders, queued_orders, order, buy, sell, trade, uncrossing};
+ghost use Rattle.xm_rules.specs.declared.orders.OrderKind.TheVariants.{Market, Limit};
+ghost use Rattle.xm_rules.specs.declared.orders.Restriction.TheVariants.{Free, OpeningOnly, AuctionsOnly, ClosingOnly};
+ghost use Rattle.xm_rules.specs.declared.orders.Side.TheVariants.{Buy, Sell};
+ghost use Rattle.xm_rules.specs.declared.orders.TradeKind.TheVariants as made;
+ghost use Rattle.xm_rules.specs.declared.phases.Auction.TheVariants.{Opening};
+ghost use Rattle.xm_rules.specs.declared.phases.CallStage.TheVariants.{Ordinary, Extended};
+ghost use Rattle.xm_rules.specs.declared.phases.Phase.TheVariants.{Call};
+
+/// In which phases an order takes part: before the day, the opening call, continuous trading, an intraday call, one after
+/// an interruption, the closing call, post-trading, and after the day. The stage of a call doesn't matter.
+pub fn restrictions_take_part_in_their_phases()
+    ensures free { takes_part_in Free ≡ false ∷ true ∷ true ∷ true ∷ true ∷ true ∷ false ∷ false ∷ [] }
+    ensures opening_only { takes_part_in OpeningOnly ≡ false ∷ true ∷ false ∷ false ∷ false ∷ false ∷ false ∷ false ∷ [] }
+    ensures auctions_only { takes_part_in AuctionsOnly ≡ false ∷ true ∷ false ∷ true ∷ true ∷ true ∷ false ∷ false ∷ [] }
+    ensures closing_only { takes_part_in ClosingOnly ≡ false ∷ false ∷ false ∷ false ∷ false ∷ true ∷ false ∷ false ∷ [] }
+    ensures extended { is_active (Call Opening Extended) OpeningOnly ≡ true }
+{}
+
+/// Buys 102x30 and 101x40 meet sells 100x20 and 101x30 at 101, in 50 units and three trades.
+pub fn three_trades_of_a_call()
+    ensures price { auction_price (Call Opening Ordinary) four_orders 1000 ≡ Some (101, 50) }
+    ensures trades { auction_trades 7 (uncrossing four_orders 101 50)
+        ≡ trade (made.Auction Opening Ordinary) 7 20 101 (0, 1) (1, 1)
+        ∷ trade (made.Auction Opening Ordinary) 7 10 101 (0, 1) (1, 2)
+        ∷ trade (made.Auction Opening Ordinary) 7 20 101 (0, 2) (1, 2) ∷ [] }
+    ensures left { orders_after (uncrossing four_orders 101 50) ≡ buy 2 101 20 ∷ [] }
+{}
+
+/// At the price market orders come first, and then the earlier of equal limits; one order is executed in part.
+pub fn market_orders_come_first_in_a_call()
+    ensures price { auction_price (Call Opening Ordinary) queued_orders 1000 ≡ Some (101, 13) }
+    ensures trades { auction_trades 1 (uncrossing queued_orders 101 13)
+        ≡ trade (made.Auction Opening Ordinary) 1 5 101 (0, 2) (1, 1)
+        ∷ trade (made.Auction Opening Ordinary) 1 5 101 (0, 2) (1, 2)
+        ∷ trade (made.Auction Opening Ordinary) 1 3 101 (0, 1) (1, 2) ∷ [] }
+    ensures left { orders_after (uncrossing queued_orders 101 13) ≡ buy 1 101 7 ∷ [] }
+{}
+
+/// Where the highest volume stands at several limits and only one side has a surplus, the price is the highest
+/// limit for a surplus of buys, and the lowest for one of sells.
+pub fn surplus_decides_the_price()
+    ensures of_buys { auction_price (Call Opening Ordinary) (buy 1 103 50 ∷ sell 1 100 30 ∷ []) 1000 ≡ Some (103, 30) }
+    ensures of_sells { auction_price (Call Opening Ordinary) (buy 1 103 30 ∷ sell 1 100 50 ∷ []) 1000 ≡ Some (100, 30) }
+{}
+
+/// Where there is a surplus of buys at one limit and an equal one of sells at another, the price is the reference, kept
+/// between the two; so it is where there is no surplus.
+pub fn reference_decides_between_limits()
+    ensures between { auction_price (Call Opening Ordinary) crossed_orders 95 ≡ Some (95, 10) }
+    ensures above { auction_price (Call Opening Ordinary) crossed_orders 105 ≡ Some (100, 10) }
+    ensures below { auction_price (Call Opening Ordinary) crossed_orders 80 ≡ Some (90, 10) }
+    ensures no_surplus { auction_price (Call Opening Ordinary) (buy 1 100 10 ∷ sell 1 90 10 ∷ []) 95 ≡ Some (95, 10) }
+{}
+
+/// Market orders alone are executed at the reference, and beside one limit at that limit: they set no limit themselves.
+pub fn market_orders_set_no_limit()
+    ensures alone { auction_price (Call Opening Ordinary) (order 0 1 Buy Market 10 ∷ order 1 1 Sell Market 4 ∷ []) 1000 ≡ Some (1000, 4) }
+    ensures one_side { auction_price (Call Opening Ordinary) (order 0 1 Buy Market 10 ∷ []) 1000 ≡ None }
+    ensures beside_a_limit { auction_price (Call Opening Ordinary) (order 0 1 Buy Market 10 ∷ sell 1 1005 3 ∷ []) 1000 ≡ Some (1005, 3) }
+{}
+
+/// Of limits of equal volume the one with the lesser surplus is the price, though one buys and one sells.
+pub fn lesser_surplus_decides()
+    ensures price { auction_price (Call Opening Ordinary) (buy 1 100 10 ∷ buy 2 90 3 ∷ sell 1 90 10 ∷ sell 2 100 5 ∷ []) 95 ≡ Some (90, 10) }
+{}
+
+/// Where the best buy is below the best sell there is no price.
+pub fn no_price_where_nothing_crosses()
+    ensures price { auction_price (Call Opening Ordinary) (buy 1 990 5 ∷ sell 1 1010 5 ∷ []) 1000 ≡ None }
+    ensures empty { auction_price (Call Opening Ordinary) [] 1000 ≡ None }
+{}

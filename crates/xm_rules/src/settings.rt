@@ -1,0 +1,28 @@
+//! The settings of a security for its day.
+use xm_ticks::{JournalLimit, Price, TickSize};
+
+/// The widths of the price ranges in thousandths of their reference price. A desk opens only with
+/// each within 1 to 999 and `dynamic` below `wide`.
+#[derive(Clone, Copy, PartialEq, Eq, Hash, Debug)]
+pub struct Widths {
+    /// Of the range around the price of the last trade.
+    pub dynamic: u32,
+    /// Of the range around the price of the last auction trade of the day.
+    pub statics: u32,
+    /// Of the range around the price of the last trade that an interrupted call is held to.
+    pub wide: u32,
+}
+
+/// The settings that a desk is opened with.
+#[derive(Clone, Copy, PartialEq, Eq, Hash, Debug)]
+pub struct DeskSettings {
+    /// The date, as a number.
+    pub today: u32,
+    /// The number of members.
+    pub members: u32,
+    pub tick: TickSize,
+    /// The last price of a previous day.
+    pub reference: Price,
+    pub widths: Widths,
+    pub limit: JournalLimit,
+}
