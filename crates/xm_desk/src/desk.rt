@@ -1,0 +1,141 @@
+//! The desk of one security.
+ghost use Rattle.std.specs.Prelude.{◌≡◌, ◌≢◌, ◌++◌, ◌∷◌, [], IsTrue, None, Some, Err, IfOk, IfErr, OnErr, OnOk};
+ghost use Rattle.xm_desk.specs.Opening.{open_fault};
+ghost use Rattle.xm_rules.specs.Refusals.{refusal_of};
+ghost use Rattle.xm_rules.specs.Served.{is_served};
+ghost use Rattle.xm_rules.specs.State.{ref1, ref2};
+ghost use Rattle.xm_rules.specs.Step.{is_lawful, replay, reply};
+
+use crate::market::Market;
+use crate::opening::{OpenFault, open_fault};
+use std::alloc::Allocator;
+use std::marker::Model;
+use xm_rules::{Command, DeskSettings, Order, OutOfMemory, Phase, Refusal, Reply};
+use xm_ticks::Price;
+
+/// One security. A clause sees it as its journal: the settings that it was opened with, and the
+/// commands that it accepted. The journal is lawful, and the state is its replay.
+#[derive(Drop)]
+pub struct Desk<A: Allocator> {
+    market: Market<A>,
+    journal: Vec<Command, A>,
+}
+
+impl<A: Allocator> Model for Desk<A> {
+    ghost use Rattle.std.specs.Prelude.{◌≡◌, true};
+    ghost use Rattle.xm_rules.specs.Step.{Journal, is_lawful, replay};
+
+    ghost Value = { Journal };
+
+    ghost view = { λ d. record { settings = d.market.settings; commands = d.journal.items } };
+
+    ghost invariant = { λ d. record {
+      replayed : d.market ≡ replay (record { settings = d.market.settings; commands = d.journal.items });
+      lawful : is_lawful (record { settings = d.market.settings; commands = d.journal.items }) ≡ true;
+    } };
+}
+
+impl<A: Allocator + Copy> Desk<A> {
+    /// A desk before the day.
+    ///
+    /// More than 1,000 members are `TooMany`; `BadWidths` is each width within 1 to 999 thousandths
+    /// and the dynamic one below the wide one.
+    pub fn open(alloc: A, settings: DeskSettings) -> Result<Desk<A>, OpenFault>
+        ensures opened { IfOk result (λ desk. desk ≡ record { settings = settings; commands = [] }) }
+        ensures sound { OnOk result (open_fault settings ≡ None) }
+        ensures refused { IfErr result (λ fault. fault ≢ OpenFault.OutOfMemory → open_fault settings ≡ Some fault) }
+        ensures memory { result ≡ Err OpenFault.OutOfMemory → open_fault settings ≡ None }
+    {
+        if let Some(fault) = open_fault(&settings) {
+            return Err(fault);
+        }
+        Ok(Desk {
+            market: Market {
+                settings,
+                accepted: 0,
+                phase: Phase::PreTrading,
+                orders: Vec::new(alloc),
+            },
+            journal: Vec::new(alloc),
+        })
+    }
+
+    /// The live orders in time order.
+    pub fn orders(&self) -> Result<Vec<Order, A>, OutOfMemory>
+        ensures { IfOk result (λ orders. orders.items ≡ (replay self.now).orders) }
+    {
+        let alloc = *self.journal.allocator();
+        Vec::from_slice(alloc, self.market.orders.as_slice()).map_err(|_| OutOfMemory)
+    }
+}
+
+impl<A: Allocator> Desk<A> {
+    /// The settings that the desk was opened with.
+    pub fn settings(&self) -> DeskSettings
+        ensures opened { result ≡ self.now.settings }
+        ensures kept { result ≡ (replay self.now).settings }
+    {
+        self.market.settings
+    }
+
+    pub fn phase(&self) -> Phase
+        ensures { result ≡ (replay self.now).phase }
+    {
+        self.market.phase
+    }
+
+    /// The price of the last trade, or the opening reference.
+    pub fn ref1(&self) -> Price
+        ensures { result ≡ ref1 (replay self.now) }
+    {
+        self.market.ref1()
+    }
+
+    /// The price of the last auction trade of the day, or the opening reference.
+    pub fn ref2(&self) -> Price
+        ensures { result ≡ ref2 (replay self.now) }
+    {
+        self.market.ref2()
+    }
+
+    /// The commands that the desk accepted. Each was lawful when it came.
+    pub fn journal(&self) -> &[Command]
+        ensures commands { result.now ≡ self.now.commands }
+        ensures lawful { IsTrue (is_lawful self.now) }
+    {
+        self.journal.as_slice()
+    }
+
+    /// Why a command would be refused, memory aside: the first of its checks that fails.
+    pub fn refusal_of(&self, command: &Command) -> Option<Refusal>
+        requires { IsTrue (is_served (replay self.now).phase command.now) }
+        ensures { result ≡ refusal_of (replay self.now) command.now }
+    {
+        self.market.refusal_of(command)
+    }
+
+    /// Takes a command into the journal and answers its reply. A refused one changes nothing.
+    pub fn apply(&mut self, command: Command) -> Result<Reply, Refusal>
+        requires { IsTrue (is_served (replay self.old).phase command) }
+        ensures accepted { OnOk result (refusal_of (replay self.old) command ≡ None) }
+        ensures journal { OnOk result (self.new ≡ record self.old { commands = self.old.commands ++ command ∷ [] }) }
+        ensures reply { IfOk result (λ answer. answer ≡ reply (replay self.old) (replay self.new)) }
+        ensures refused { IfErr result (λ refusal. refusal ≢ Refusal.OutOfMemory → refusal_of (replay self.old) command ≡ Some refusal) }
+        ensures memory { result ≡ Err Refusal.OutOfMemory → refusal_of (replay self.old) command ≡ None }
+        ensures kept { OnErr result (self.new ≡ self.old) }
+    {
+        if let Some(refusal) = self.market.refusal_of(&command) {
+            return Err(refusal);
+        }
+        if self.journal.reserve(1).is_err() {
+            return Err(Refusal::OutOfMemory);
+        }
+        match self.market.take(&command) {
+            Ok(reply) => {
+                self.journal.push_reserved(command);
+                Ok(reply)
+            }
+            Err(_) => Err(Refusal::OutOfMemory),
+        }
+    }
+}

@@ -1,0 +1,11 @@
+//! One security: its state is the replay of the commands that it accepted.
+#![tactic(auto)]
+
+mod desk;
+mod market;
+pub mod opening;
+#[cfg(test)]
+mod tests;
+
+pub use crate::desk::Desk;
+pub use crate::opening::{OpenFault, are_widths};

@@ -1,0 +1,51 @@
+//! Which settings open a desk.
+ghost use Rattle.std.specs.Prelude.{◌≡◌};
+ghost use Rattle.xm_desk.specs.Opening.{are_widths, is_width, open_fault};
+
+use xm_rules::{DeskSettings, Widths};
+
+/// Why a desk or a segment is not opened, in the order of the checks.
+#[derive(Clone, Copy, PartialEq, Eq, Debug, thiserror::Error)]
+pub enum OpenFault {
+    /// The segment has no security.
+    #[error("no security")]
+    NoSecurity,
+    /// More than 8 securities or 1,000 members.
+    #[error("too many securities or members")]
+    TooMany,
+    /// A width is not 1 to 999 thousandths, or the dynamic one is not below the wide one.
+    #[error("bad widths of the price ranges")]
+    BadWidths,
+    /// A growth was refused.
+    #[error("out of memory")]
+    OutOfMemory,
+}
+
+/// What is wrong with the settings of a desk, if anything is.
+pub fn open_fault(settings: &DeskSettings) -> Option<OpenFault>
+    ensures { result ≡ open_fault settings.now }
+{
+    if settings.members > 1000 {
+        Some(OpenFault::TooMany)
+    } else if !are_widths(&settings.widths) {
+        Some(OpenFault::BadWidths)
+    } else {
+        None
+    }
+}
+
+/// Whether each width is 1 to 999 thousandths and the dynamic one is below the wide one.
+pub fn are_widths(widths: &Widths) -> bool
+    ensures { result ≡ are_widths widths.now }
+{
+    is_width(widths.dynamic)
+        && is_width(widths.statics)
+        && is_width(widths.wide)
+        && widths.dynamic < widths.wide
+}
+
+fn is_width(width: u32) -> bool
+    ensures { result ≡ is_width width }
+{
+    1 <= width && width <= 999
+}
