@@ -1,0 +1,103 @@
+-- The day of desks that take rows.
+use Rattle.std.proofs.Common.{◌≡◌, ℕ, ◌+◌, ◌<◌, ◌≤◌, Bool, true, false, List, [], ◌∷◌, ◌++◌, length, map, slice_get, set, get_or, take, drop, suc, All, arith, Option, Some, None, option_map, refl, ap, sym, ◌∙◌, not, cond}
+use Rattle.std.proofs.Math.Seq.{drop-cons, take-length}
+use Rattle.std.proofs.Math.ListN.{drop_of_length-le}
+use Rattle.std.proofs.lemmas.List.{append-nil, map-set}
+use Rattle.std.proofs.lemmas.List.Elements.{All-cons, All-nil}
+use Rattle.std.proofs.lemmas.Option.{slice_get-map, slice_get_past}
+use Rattle.xm_rules.proofs.Untraded.{opening-untraded}
+use Rattle.xm_rules.proofs.Journals.{replay_from-push}
+use Rattle.xm_rules.specs.Refusals.{refusal_of}
+use Rattle.xm_rules.specs.Served.{is_served, IsUntraded}
+use Rattle.xm_rules.specs.Settling.{is_continuous}
+use Rattle.xm_rules.specs.State.{State, opening}
+use Rattle.xm_rules.specs.Step.{Journal, replay, step}
+use Rattle.xm_rules.specs.declared.commands.Command.{Command}
+use Rattle.xm_rules.specs.declared.commands.Command.TheVariants.{Enter, Change, Cancel, CancelAll, StartOpening, StartIntraday, StartClosing, Uncross, EndDay}
+use Rattle.xm_rules.specs.declared.commands.Condition.{Condition}
+use Rattle.xm_rules.specs.declared.commands.Condition.TheVariants.{Plain, Ioc, Fok}
+use Rattle.xm_rules.specs.declared.commands.Kind.{Kind}
+use Rattle.xm_rules.specs.declared.commands.Kind.TheVariants as kind
+use Rattle.xm_rules.specs.declared.orders.Restriction.{Restriction}
+use Rattle.xm_rules.specs.declared.orders.Restriction.TheVariants.{Free, OpeningOnly, AuctionsOnly, ClosingOnly}
+use Rattle.xm_rules.specs.declared.orders.Side.{Side}
+use Rattle.xm_rules.specs.declared.orders.Validity.{Validity}
+use Rattle.xm_rules.specs.declared.orders.Validity.TheVariants.{Day, TillDate, TillCancelled}
+use Rattle.xm_rules.specs.declared.replies.Refusal.{Refusal}
+use Rattle.xm_day.specs.Day.{Day as TheDay, after_row, after_rows, answered, day, day_of, journal_of, on_security, settings_of}
+use Rattle.xm_day.specs.Rows.{is_first_path}
+use Rattle.xm_day.specs.declared.config.SecurityConfig.{SecurityConfig}
+use Rattle.xm_day.specs.declared.config.SegmentConfig.{SegmentConfig}
+use Rattle.xm_day.specs.declared.rows.Row.{Row}
+
+entry-served : (s : State) (member reference : ℕ) (side : Side) (k : Kind) (quantity : ℕ) (v : Validity) (r : Restriction) (condition : Condition)
+    → is_first_path (Enter member reference side k quantity v r condition) ≡ true → IsUntraded s → is_served s.phase (Enter member reference side k quantity v r condition) ≡ true
+entry-served s member reference side (kind.Limit p) quantity Day Free Plain h u = rw u.before refl
+entry-served s member reference side _ quantity _ _ _ h u = cc
+
+-- what an order file gives is served before trading
+pub first_path-served : (s : State) (c : Command) → is_first_path c ≡ true → IsUntraded s → is_served s.phase c ≡ true
+first_path-served s (Enter member reference side kind quantity validity restriction condition) h u = entry-served s member reference side kind quantity validity restriction condition h u
+first_path-served s (Cancel member reference) h u = refl
+first_path-served s StartOpening h u = refl
+first_path-served s _ h u = cc
+
+abbrev pub with_command : Journal → Command → Journal
+with_command j c = record j { commands = j.commands ++ c ∷ [] }
+
+pub replay-push : (j : Journal) (c : Command) → replay (with_command j c) ≡ step (replay j) c
+replay-push j c = replay_from-push (opening j.settings) j.commands c
+
+pub on_unknown : (js : List Journal) (row : Row) (a r : ℕ) → length js ≤ row.security → after_row (day_of js a r) row ≡ day_of js a (r + 1)
+on_unknown js row a r past =
+    let none : slice_get (map replay js) row.security ≡ None = slice_get-map replay js row.security ∙ ap (option_map replay) (slice_get_past js row.security past) in
+    ap (on_security (day_of js a r) row) none
+
+found : (js : List Journal) (row : Row) (j : Journal) (a r : ℕ) → slice_get js row.security ≡ Some j → after_row (day_of js a r) row ≡ answered (day_of js a r) row (replay j) (refusal_of (replay j) row.command)
+found js row j a r is =
+    let some : slice_get (map replay js) row.security ≡ Some (replay j) = slice_get-map replay js row.security ∙ ap (option_map replay) is in
+    ap (on_security (day_of js a r) row) some
+
+pub on_refused : (js : List Journal) (row : Row) (j : Journal) (refusal : Refusal) (a r : ℕ) → slice_get js row.security ≡ Some j → refusal_of (replay j) row.command ≡ Some refusal
+    → after_row (day_of js a r) row ≡ day_of js a (r + 1)
+on_refused js row j refusal a r is refuses = found js row j a r is ∙ ap (answered (day_of js a r) row (replay j)) refuses
+
+pub on_accepted : (js : List Journal) (row : Row) (j : Journal) (a r : ℕ) → slice_get js row.security ≡ Some j → refusal_of (replay j) row.command ≡ None
+    → after_row (day_of js a r) row ≡ day_of (set js row.security (with_command j row.command)) (a + 1) r
+on_accepted js row j a r is passes =
+    let states = map-set replay js row.security (with_command j row.command) ∙ ap (set (map replay js) row.security) (replay-push j row.command) in
+    found js row j a r is ∙ ap (answered (day_of js a r) row (replay j)) passes ∙ ap (λ (ss : List State). record { states = ss; accepted = a + 1; refused = r }) (sym states)
+
+-- a row more, of those that are left
+pub rows-step : (desks new : List Journal) (rows : List Row) (i : ℕ) (d : Row) (a r a' r' : ℕ) (whole : TheDay) → i < length rows → after_row (day_of desks a r) (get_or rows i d) ≡ day_of new a' r'
+    → after_rows (day_of desks a r) (drop i rows) ≡ whole → after_rows (day_of new a' r') (drop (i + 1) rows) ≡ whole
+rows-step desks new rows i d a r a' r' whole within step goes_on =
+    let next : suc i ≡ i + 1 = omega arith in
+    let left = drop-cons rows i d within ∙ ap (λ (k : ℕ). get_or rows i d ∷ drop k rows) next in
+    ap (λ (x : TheDay). after_rows x (drop (i + 1) rows)) (sym step) ∙ ap (after_rows (day_of desks a r)) (sym left) ∙ goes_on
+
+-- the desks of a segment begin its day
+pub opened-day : (config : SegmentConfig) (securities : List SecurityConfig) → map replay (map (journal_of config) securities) ≡ map (λ (security : SecurityConfig). opening (settings_of config security)) securities
+opened-day config [] = refl
+opened-day config (security ∷ more) = ap (λ (ss : List State). opening (settings_of config security) ∷ ss) (opened-day config more)
+
+-- before any row the desks have traded nothing
+pub opened-untraded : (config : SegmentConfig) (securities : List SecurityConfig) → All (λ (j : Journal). IsUntraded (replay j)) (map (journal_of config) securities)
+opened-untraded config [] = All-nil (λ (j : Journal). IsUntraded (replay j))
+opened-untraded config (security ∷ more) =
+    All-cons (λ (j : Journal). IsUntraded (replay j)) (journal_of config security) (map (journal_of config) more) (opening-untraded (settings_of config security)) (opened-untraded config more)
+
+-- a slice that was lent whole comes back whole
+pub lent_back : {X : Type 0} (new old : List X) (n : ℕ) → length new ≡ length old → n ≡ length old → take n (new ++ drop (length new) old) ≡ new
+lent_back new old n kept whole =
+    let none : drop (length new) old ≡ [] = drop_of_length-le old (omega arith) in
+    ap (λ xs. take n (new ++ xs)) none ∙ ap (take n) (append-nil new) ∙ ap (λ (k : ℕ). take k new) (whole ∙ sym kept) ∙ take-length new
+
+-- desks that were opened for a segment and took the rows are at its day
+pub day-taken : (config : SegmentConfig) (opened desks : List Journal) (taken rows : List Row) (a r : ℕ) → opened ≡ map (journal_of config) config.securities → taken ≡ rows
+    → day_of desks a r ≡ after_rows (day_of opened 0 0) taken → day_of desks a r ≡ day config rows
+day-taken config opened desks taken rows a r begin all h =
+    h
+    ∙ ap (λ (js : List Journal). after_rows (day_of js 0 0) taken) begin
+    ∙ ap (λ (ss : List State). after_rows (record { states = ss; accepted = 0; refused = 0 }) taken) (opened-day config config.securities)
+    ∙ ap (day config) all

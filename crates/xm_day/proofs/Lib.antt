@@ -1,0 +1,11 @@
+pub mod Known
+pub mod NameFacts
+pub mod Values
+pub mod Distinct
+pub mod Documents
+pub mod Takes
+pub mod Unread
+pub mod Progress
+pub mod FirstPath
+pub mod Lines
+pub mod Days

@@ -1,0 +1,100 @@
+-- The lines of a statement, as they are written one after another, and those that there are none of before trading.
+use Rattle.std.proofs.Common.{◌≡◌, ℕ, ℤ, pos, ◌+◌, ◌*◌, ◌<◌, ◌++◌, List, [], ◌∷◌, length, map, append_assoc, get_or, take, refl, arith, ap, sym, ◌∙◌, suc, zero, All}
+use Rattle.std.specs.List.{flat_map, range_with_len}
+use Rattle.std.proofs.lemmas.List.Concat.{flat_map-cons}
+use Rattle.std.proofs.lemmas.List.{append-nil, flat_map_more, take_more, length-map, length-take, map-append}
+use Rattle.xm_rules.specs.Served.{IsUntraded}
+use Rattle.xm_rules.specs.State.{State}
+use Rattle.xm_rules.specs.Step.{Journal, replay}
+use Rattle.xm_rules.specs.Sums.{total_money, total_quantity}
+use Rattle.xm_rules.specs.declared.orders.Trade.{Trade}
+use Rattle.xm_day.specs.Names.{NameLists}
+use Rattle.xm_day.specs.Statement.{cash, cash_line, heading_text, member_indices, member_line, name_at, net_line, order_line, securities_text, security_text, stop_line, today_of, total_cash, total_text, trade_line}
+
+-- one more number of a range
+pub range_with_len-more : (from n : ℕ) → range_with_len from (n + 1) ≡ range_with_len from n ++ (from + n) ∷ []
+range_with_len-more from zero = let same : from ≡ from + 0 = omega arith in ap (λ (k : ℕ). k ∷ []) same
+range_with_len-more from (suc n) =
+    let longer : suc n + 1 ≡ suc (n + 1) = omega arith in
+    let last : from + 1 + n ≡ from + suc n = omega arith in
+    rw longer (ap (λ (ks : List ℕ). from ∷ ks) (range_with_len-more (from + 1) n ∙ ap (λ (k : ℕ). range_with_len (from + 1) n ++ k ∷ []) last))
+
+-- one more line for a number
+pub lines-more : (line : ℕ → List ℕ) (text : List ℕ) (n : ℕ) → (text ++ flat_map line (range_with_len 0 n)) ++ line n ≡ text ++ flat_map line (range_with_len 0 (n + 1))
+lines-more line text n =
+    let last : 0 + n ≡ n = omega arith in
+    flat_map_more line text (range_with_len 0 n) n ∙ ap (λ (ks : List ℕ). text ++ flat_map line ks) (sym (range_with_len-more 0 n ∙ ap (λ (k : ℕ). range_with_len 0 n ++ k ∷ []) last))
+
+-- one more security
+pub securities_text-more : (names : NameLists) (index : ℕ) (states : List State) (s : State) → securities_text names index (states ++ s ∷ []) ≡ securities_text names index states ++ security_text names (index + length states) s
+securities_text-more names index [] s =
+    let same : index ≡ index + 0 = omega arith in
+    append-nil (security_text names index s) ∙ ap (λ (k : ℕ). security_text names k s) same
+securities_text-more names index (t ∷ ts) s =
+    let same : index + 1 + length ts ≡ index + length (t ∷ ts) = omega arith in
+    ap (λ (text : List ℕ). security_text names index t ++ text) (securities_text-more names (index + 1) ts s ∙ ap (λ (k : ℕ). securities_text names (index + 1) ts ++ security_text names k s) same)
+    ∙ sym (append_assoc (security_text names index t) (securities_text names (index + 1) ts) (security_text names (index + length (t ∷ ts)) s))
+
+net_line-none : (names : NameLists) (s : State) (member : ℕ) → s.trades ≡ [] → net_line names s member ≡ []
+net_line-none names s member none = rw none refl
+
+-- before trading no member has a net position
+pub net_lines-none : (names : NameLists) (s : State) (members : List ℕ) → s.trades ≡ [] → flat_map (net_line names s) members ≡ []
+net_lines-none names s [] none = refl
+net_lines-none names s (m ∷ ms) none = flat_map-cons (net_line names s) m ms ∙ rw (net_line-none names s m none, net_lines-none names s ms none) refl
+
+parts : (text heading orders total full_total trades stops nets : List ℕ) → trades ≡ [] → stops ≡ [] → nets ≡ [] → total ≡ full_total
+    → ((text ++ heading) ++ orders) ++ total ≡ text ++ (((((heading ++ trades) ++ orders) ++ stops) ++ nets) ++ full_total)
+parts text heading orders total full_total trades stops nets a b c d = rw (a, b, c, d) (simp (append-nil, append_assoc))
+
+-- so a security has its heading, its orders and an empty total
+pub security-untraded : (names : NameLists) (index : ℕ) (s : State) (text : List ℕ) → IsUntraded s
+    → ((text ++ heading_text (name_at names.securities index) s) ++ flat_map (order_line names s.settings.tick) s.orders) ++ total_text s.settings.tick 0 0 ≡ text ++ security_text names index s
+security-untraded names index s text u =
+    parts text (heading_text (name_at names.securities index) s) (flat_map (order_line names s.settings.tick) s.orders)
+    (total_text s.settings.tick 0 0) (total_text s.settings.tick (total_quantity s.trades) (total_money s.trades))
+    (flat_map (trade_line names s.settings.tick) s.trades) (flat_map (stop_line names s.settings.tick) s.stops) (flat_map (net_line names s) (member_indices names))
+    (ap (flat_map (trade_line names s.settings.tick)) u.trades) (ap (flat_map (stop_line names s.settings.tick)) u.stops) (net_lines-none names s (member_indices names) u.trades)
+    (ap (λ (ts : List Trade). total_text s.settings.tick (total_quantity ts) (total_money ts)) (sym u.trades))
+
+cash-none : (s : State) (member : ℕ) → s.trades ≡ [] → cash s member ≡ pos 0
+cash-none s member none =
+    let nothing : 0 * s.settings.tick ≡ 0 = omega arith in
+    rw (none, nothing) refl
+
+-- and no member has cash
+total_cash-none : (js : List Journal) (member : ℕ) → All (λ (j : Journal). IsUntraded (replay j)) js → total_cash (map replay js) member ≡ pos 0
+total_cash-none [] member h = refl
+total_cash-none (j ∷ js) member h =
+    let first : IsUntraded (replay j) = h 0 j (omega arith) in
+    let rest : All (λ (k : Journal). IsUntraded (replay k)) js = λ i d l. h (suc i) d (omega arith) in
+    rw (cash-none (replay j) member first.trades, total_cash-none js member rest) refl
+
+pub member_lines-none : (names : NameLists) (js : List Journal) (members : List ℕ) → All (λ (j : Journal). IsUntraded (replay j)) js → flat_map (cash_line names (pos 0)) members ≡ flat_map (member_line names (map replay js)) members
+member_lines-none names js [] h = refl
+member_lines-none names js (m ∷ ms) h =
+    flat_map-cons (cash_line names (pos 0)) m ms
+    ∙ ap (λ (text : List ℕ). cash_line names (pos 0) m ++ text) (member_lines-none names js ms h)
+    ∙ ap (λ (amount : ℤ). cash_line names amount m ++ flat_map (member_line names (map replay js)) ms) (sym (total_cash-none js m h))
+    ∙ sym (flat_map-cons (member_line names (map replay js)) m ms)
+
+-- the securities up to one, and it
+pub securities-taken : (names : NameLists) (js : List Journal) (i : ℕ) (j : Journal) → i < length js → j ≡ get_or js i j
+    → securities_text names 0 (map replay (take (i + 1) js)) ≡ securities_text names 0 (map replay (take i js)) ++ security_text names i (replay j)
+securities-taken names js i j within is =
+    let more = take_more js i j within ∙ ap (λ (k : Journal). take i js ++ k ∷ []) (sym is) in
+    let place : 0 + length (map replay (take i js)) ≡ i = simp (length-map, length-take) (omega arith) in
+    ap (λ (ks : List Journal). securities_text names 0 (map replay ks)) more
+    ∙ ap (securities_text names 0) (map-append replay (take i js) (j ∷ []))
+    ∙ securities_text-more names 0 (map replay (take i js)) (replay j)
+    ∙ ap (λ (k : ℕ). securities_text names 0 (map replay (take i js)) ++ security_text names k (replay j)) place
+
+-- four parts of a text that was empty
+pub four_parts : (t t1 t2 t3 t4 a b c d : List ℕ) → t ≡ [] → t1 ≡ t ++ a → t2 ≡ t1 ++ b → t3 ≡ t2 ++ c → t4 ≡ t3 ++ d → t4 ≡ a ++ b ++ c ++ d
+four_parts t t1 t2 t3 t4 a b c d e e1 e2 e3 e4 =
+    e4 ∙ ap (λ (u : List ℕ). u ++ d) (e3 ∙ ap (λ (u : List ℕ). u ++ c) (e2 ∙ ap (λ (u : List ℕ). u ++ b) (e1 ∙ ap (λ (u : List ℕ). u ++ a) e)))
+
+-- the date is that of the first security
+pub today_of-first : (js : List Journal) (j : Journal) → 0 < length js → j ≡ get_or js 0 j → (replay j).settings.today ≡ today_of (map replay js)
+today_of-first [] j some first = absurd (omega arith)
+today_of-first (k ∷ ks) j some first = ap (λ (i : Journal). (replay i).settings.today) first

@@ -1,0 +1,50 @@
+use Rattle.std.proofs.Common.{◌≡◌, ◌∙◌, ℕ, List, All, Err, length, map, refl, ap, sym, subst}
+use Rattle.std.specs.Io.KnownBytes.{Appends}
+use Rattle.xm_rules.specs.Served.{IsUntraded}
+use Rattle.xm_rules.specs.State.{State}
+use Rattle.xm_rules.specs.Step.{Journal, replay}
+use Rattle.xm_ticks.specs.Writing.{AppendsFront}
+use Rattle.xm_day.proofs.Days.{day-taken, lent_back, opened-untraded}
+use Rattle.xm_day.specs.Answers.{statement_of}
+use Rattle.xm_day.specs.Day.{Day, day, day_of}
+use Rattle.xm_day.specs.Statement.{statement}
+use Rattle.xm_day.specs.declared.faults.DayFault.TheVariants.{WriteFailed}
+use Rattle.xm_day.proofs.day.run_orders.Goals as goal
+
+pub take_rows-requires-clause-untraded : goal.take_rows-requires-clause-untraded
+take_rows-requires-clause-untraded g c =
+    let AllUntraded : List Journal → Type 0 = λ js. All (λ (j : Journal). IsUntraded (replay j)) js in
+    subst AllUntraded (sym (c.as_mut_slice.ensures.value ∙ c.in-Ok-open_desks.ensures.opened)) (opened-untraded c.args.config.now c.args.config.now.securities)
+
+pub returns-in-Ok-statement-clause-day : goal.returns-in-Ok-statement-clause-day
+returns-in-Ok-statement-clause-day g c =
+    let config = c.args.config.now in
+    let rows = c.in-Ok.rows.items in
+    let report = c.in-Ok-take_rows.report in
+    let taken = day-taken config c.as_mut_slice.result.now c.take_rows.new.desks c.as_slice.result.now rows report.accepted report.refused
+    (c.as_mut_slice.ensures.value ∙ c.in-Ok-open_desks.ensures.opened) c.as_slice.ensures.value c.in-Ok-take_rows.ensures.taken in
+    let same = c.as_slice-2.ensures.value ∙ lent_back c.take_rows.new.desks c.in-Ok-open_desks.desks.items c.in-Ok-open_desks.desks.len (c.take_rows.auto.desks ∙ ap length c.as_mut_slice.ensures.value) c.in-Ok-open_desks.desks.ok.0 in
+    let Writes : List Journal → Type 0 = λ js. Appends (g.W.Write.contents c.args.out.now) (g.W.Write.contents c.statement.new.out) (statement c.args.names.now (map replay js) report.accepted report.refused) in
+    let WritesOf : Day → Type 0 = λ d. Appends (g.W.Write.contents c.args.out.now) (g.W.Write.contents c.statement.new.out) (statement_of c.args.names.now d) in
+    record {
+      rows = rows;
+      is_day = record { read = c.in-Ok.ensures.read; accepted = ap (λ (d : Day). d.accepted) taken; refused = ap (λ (d : Day). d.refused) taken };
+      written = subst WritesOf taken (subst Writes same c.in-Ok-statement.ensures.ok);
+    }
+
+pub returns-clause-failed : goal.returns-clause-failed
+returns-clause-failed g c = λ failed.
+    let fault : c.in-Err-statement.fault ≡ WriteFailed = cc in
+    let config = c.args.config.now in
+    let rows = c.in-Ok.rows.items in
+    let report = c.in-Ok-take_rows.report in
+    let taken = day-taken config c.as_mut_slice.result.now c.take_rows.new.desks c.as_slice.result.now rows report.accepted report.refused
+    (c.as_mut_slice.ensures.value ∙ c.in-Ok-open_desks.ensures.opened) c.as_slice.ensures.value c.in-Ok-take_rows.ensures.taken in
+    let same = c.as_slice-2.ensures.value ∙ lent_back c.take_rows.new.desks c.in-Ok-open_desks.desks.items c.in-Ok-open_desks.desks.len (c.take_rows.auto.desks ∙ ap length c.as_mut_slice.ensures.value) c.in-Ok-open_desks.desks.ok.0 in
+    let Writes : List Journal → Type 0 = λ js. AppendsFront (g.W.Write.contents c.args.out.now) (g.W.Write.contents c.statement.new.out) (statement c.args.names.now (map replay js) report.accepted report.refused) in
+    let WritesOf : Day → Type 0 = λ d. AppendsFront (g.W.Write.contents c.args.out.now) (g.W.Write.contents c.statement.new.out) (statement_of c.args.names.now d) in
+    record {
+      rows = rows;
+      read = c.in-Ok.ensures.read;
+      written = subst WritesOf taken (subst Writes same (c.in-Err-statement.ensures.failed (ap Err fault)));
+    }

@@ -1,0 +1,195 @@
+-- The rows of one record of an order file.
+use Rattle.std.specs.Prelude.{ℕ, Bool, true, false, ◌&&◌, if◌then◌else◌, nat_le, ◌==◌, List, [], ◌∷◌, length, map, Option, Some, None, option_map, option_and_then, unwrap_or, slice_get, Result, Ok, Err, codes}
+use Rattle.std.specs.List.{list_all, position_or_len, range_with_len}
+use Rattle.std.specs.Option.{option_map_or}
+use Rattle.std.specs.Str.{bytes_eq}
+use Rattle.csv.specs.Records.{field_at}
+use Rattle.xm_rules.specs.declared.commands.Command.{Command}
+use Rattle.xm_rules.specs.declared.commands.Command.TheVariants as command
+use Rattle.xm_rules.specs.declared.commands.Condition.{Condition}
+use Rattle.xm_rules.specs.declared.commands.Condition.TheVariants.{Plain}
+use Rattle.xm_rules.specs.declared.commands.Kind.{Kind}
+use Rattle.xm_rules.specs.declared.commands.Kind.TheVariants as kind
+use Rattle.xm_rules.specs.declared.orders.Restriction.{Restriction}
+use Rattle.xm_rules.specs.declared.orders.Restriction.TheVariants.{Free}
+use Rattle.xm_rules.specs.declared.orders.Side.{Side}
+use Rattle.xm_rules.specs.declared.orders.Side.TheVariants.{Buy, Sell}
+use Rattle.xm_rules.specs.declared.orders.Validity.{Validity}
+use Rattle.xm_rules.specs.declared.orders.Validity.TheVariants.{Day}
+use Rattle.xm_ticks.specs.Reading.{number_of, price_of}
+use Rattle.xm_ticks.specs.declared.reading.PriceFault.{PriceFault}
+use Rattle.xm_ticks.specs.declared.reading.PriceFault.TheVariants.{NotANumber}
+use Rattle.xm_day.specs.Names.{NameLists}
+use Rattle.xm_day.specs.declared.columns.Column.{Column}
+use Rattle.xm_day.specs.declared.columns.Column.TheVariants as column
+use Rattle.xm_day.specs.declared.config.SecurityConfig.{SecurityConfig}
+use Rattle.xm_day.specs.declared.config.SegmentConfig.{SegmentConfig}
+use Rattle.xm_day.specs.declared.entries.Entry.{Entry}
+use Rattle.xm_day.specs.declared.entries.Entry.TheVariants.{One, Each}
+use Rattle.xm_day.specs.declared.entries.Word.{Word}
+use Rattle.xm_day.specs.declared.entries.Word.TheVariants as word
+use Rattle.xm_day.specs.declared.rows.Row.{Row}
+
+-- a step that asks for the value of the step before
+infixl 10 ◌>>=◌
+abbrev ◌>>=◌ : {A B : Type 0} → Option A → (A → Option B) → Option B
+value >>= next = option_and_then next value
+
+-- the columns, in their order
+abbrev pub columns : List Column
+columns = column.Command ∷ column.Member ∷ column.Reference ∷ column.Security ∷ column.Side ∷ column.Kind ∷ column.Limit ∷ column.Trigger ∷ column.Quantity ∷ column.Validity ∷ column.Restriction ∷ column.Condition ∷ []
+
+-- where a column stands
+abbrev pub place_of : Column → ℕ
+place_of column.Command = 0
+place_of column.Member = 1
+place_of column.Reference = 2
+place_of column.Security = 3
+place_of column.Side = 4
+place_of column.Kind = 5
+place_of column.Limit = 6
+place_of column.Trigger = 7
+place_of column.Quantity = 8
+place_of column.Validity = 9
+place_of column.Restriction = 10
+place_of column.Condition = 11
+
+-- what the header says of a column
+abbrev pub title_of : Column → List ℕ
+title_of column.Command = codes "command"
+title_of column.Member = codes "member"
+title_of column.Reference = codes "reference"
+title_of column.Security = codes "security"
+title_of column.Side = codes "side"
+title_of column.Kind = codes "kind"
+title_of column.Limit = codes "limit"
+title_of column.Trigger = codes "trigger"
+title_of column.Quantity = codes "quantity"
+title_of column.Validity = codes "validity"
+title_of column.Restriction = codes "restriction"
+title_of column.Condition = codes "condition"
+
+-- the field of a record in a column
+abbrev pub field : Column → List (List ℕ) → List ℕ
+field column record_fields = unwrap_or (field_at record_fields (place_of column)) []
+
+-- the header has a field for each column, which is the column's title
+abbrev pub is_header : List (List ℕ) → Bool
+is_header fields = (length fields == 12) && list_all (λ column. bytes_eq (field column fields) (title_of column)) columns
+
+-- the fields in these columns are empty
+abbrev pub are_empty : List Column → List (List ℕ) → Bool
+are_empty blank fields = list_all (λ column. length (field column fields) == 0) blank
+
+-- a number of one to ten digits that 32 bits hold
+abbrev pub whole_of : List ℕ → Option ℕ
+whole_of text = if nat_le (length text) 10 then number_of text >>= (λ n. if nat_le n 4294967295 then Some n else None) else None
+
+-- the index of a name, which must not be empty; what is no name has the number of names as its index
+abbrev pub index_of : List (List ℕ) → List ℕ → Option ℕ
+index_of names text = if length text == 0 then None else Some (position_or_len (bytes_eq text) names)
+
+abbrev pub side_of : List ℕ → Option Side
+side_of text = if bytes_eq text (codes "buy") then Some Buy else (if bytes_eq text (codes "sell") then Some Sell else None)
+
+-- the raw price of a text that is a number; it is 0, which is refused later, where the number is no price
+abbrev pub raw_price : Result ℕ PriceFault → Option ℕ
+raw_price (Ok price) = Some price
+raw_price (Err NotANumber) = None
+raw_price (Err fault) = Some 0
+
+-- the tick of a security, and the finest one where the security is unknown
+abbrev pub tick_of : List SecurityConfig → ℕ → ℕ
+tick_of securities index = option_map_or (λ security. security.tick) (slice_get securities index) 1
+
+-- the kind of an order: a limit order has a limit and no trigger
+abbrev pub kind_of : ℕ → List (List ℕ) → Option Kind
+kind_of tick fields =
+    if bytes_eq (field column.Kind fields) (codes "limit") && are_empty (column.Trigger ∷ []) fields
+    then option_map kind.Limit (raw_price (price_of (field column.Limit fields) tick)) else None
+
+-- an empty field is the plain case, and no other is served yet
+abbrev pub validity_of : List ℕ → Option Validity
+validity_of text = if length text == 0 then Some Day else None
+
+abbrev pub restriction_of : List ℕ → Option Restriction
+restriction_of text = if length text == 0 then Some Free else None
+
+abbrev pub condition_of : List ℕ → Option Condition
+condition_of text = if length text == 0 then Some Plain else None
+
+-- the order that a member enters in a security with this tick
+abbrev pub order_of : ℕ → ℕ → List (List ℕ) → Option Command
+order_of tick member fields =
+    whole_of (field column.Reference fields) >>= (λ reference.
+    side_of (field column.Side fields) >>= (λ side.
+    kind_of tick fields >>= (λ kind.
+    whole_of (field column.Quantity fields) >>= (λ quantity.
+    validity_of (field column.Validity fields) >>= (λ validity.
+    restriction_of (field column.Restriction fields) >>= (λ restriction.
+    condition_of (field column.Condition fields) >>= (λ condition.
+    Some (command.Enter member reference side kind quantity validity restriction condition))))))))
+
+-- a member's row, whose command the member's and the security's index make
+abbrev pub member_row : NameLists → List (List ℕ) → (ℕ → ℕ → Option Command) → Option Entry
+member_row names fields make =
+    index_of names.members (field column.Member fields) >>= (λ member.
+    index_of names.securities (field column.Security fields) >>= (λ security.
+    make member security >>= (λ made.
+    Some (One (record { security = security; command = made })))))
+
+abbrev pub enter_of : NameLists → List SecurityConfig → List (List ℕ) → Option Entry
+enter_of names securities fields = member_row names fields (λ member security. order_of (tick_of securities security) member fields)
+
+-- a cancellation has a member, a reference and a security, and nothing else
+abbrev pub cancel_blank : List Column
+cancel_blank = column.Side ∷ column.Kind ∷ column.Limit ∷ column.Trigger ∷ column.Quantity ∷ column.Validity ∷ column.Restriction ∷ column.Condition ∷ []
+
+abbrev pub cancel_of : NameLists → List (List ℕ) → Option Entry
+cancel_of names fields =
+    if are_empty cancel_blank fields
+    then member_row names fields (λ member security. option_map (command.Cancel member) (whole_of (field column.Reference fields))) else None
+
+-- a phase row has a security and nothing else; `*` is each security
+abbrev pub phase_blank : List Column
+phase_blank = column.Member ∷ column.Reference ∷ cancel_blank
+
+abbrev pub phase_of : Command → NameLists → List (List ℕ) → Option Entry
+phase_of phase names fields =
+    if are_empty phase_blank fields
+    then (if bytes_eq (field column.Security fields) (codes "*") then Some (Each phase)
+    else option_map (λ security. One (record { security = security; command = phase })) (index_of names.securities (field column.Security fields)))
+    else None
+
+-- the command words that are served
+abbrev pub word_of : List ℕ → Option Word
+word_of text =
+    if bytes_eq text (codes "enter") then Some word.Enter
+    else (if bytes_eq text (codes "cancel") then Some word.Cancel
+    else (if bytes_eq text (codes "open") then Some word.Open else None))
+
+-- what a record with this command word says, if each of its fields is lawful
+abbrev pub entry_with : Option Word → NameLists → List SecurityConfig → List (List ℕ) → Option Entry
+entry_with None names securities fields = None
+entry_with (Some word.Enter) names securities fields = enter_of names securities fields
+entry_with (Some word.Cancel) names securities fields = cancel_of names fields
+entry_with (Some word.Open) names securities fields = phase_of command.StartOpening names fields
+
+abbrev pub entry_of : NameLists → List SecurityConfig → List (List ℕ) → Option Entry
+entry_of names securities fields = entry_with (word_of (field column.Command fields)) names securities fields
+
+-- the rows of an entry in a segment of so many securities: one, or one per security in index order
+abbrev pub rows_of_entry : ℕ → Entry → List Row
+rows_of_entry count (One row) = row ∷ []
+rows_of_entry count (Each phase) = map (λ security. record { security = security; command = phase }) (range_with_len 0 count)
+
+-- the rows of a record, if it is lawful
+abbrev pub rows_of_record : NameLists → SegmentConfig → List (List ℕ) → Option (List Row)
+rows_of_record names config fields = option_map (rows_of_entry (length names.securities)) (entry_of names config.securities fields)
+
+-- the commands that are served so far: a plain limit order of the day, a cancellation, the opening
+abbrev pub is_first_path : Command → Bool
+is_first_path (command.Enter member reference side (kind.Limit limit) quantity Day Free Plain) = true
+is_first_path (command.Cancel member reference) = true
+is_first_path command.StartOpening = true
+is_first_path _ = false

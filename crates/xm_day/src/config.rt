@@ -1,0 +1,63 @@
+//! The settings of a segment.
+ghost use Rattle.std.specs.Prelude.{◌≡◌};
+
+use std::marker::Model;
+use xm_rules::Widths;
+use xm_ticks::{JournalLimit, Price, TickSize};
+
+/// The settings of a security.
+#[derive(Clone, Copy, PartialEq, Eq, Hash, Debug)]
+pub struct SecurityConfig {
+    pub tick: TickSize,
+    /// The last price of a previous day.
+    pub reference: Price,
+    pub widths: Widths,
+    pub limit: JournalLimit,
+}
+
+/// The settings of the securities of a segment, in index order. A clause sees their list.
+#[derive(Drop, Debug)]
+pub struct Securities {
+    settings: Vec<SecurityConfig>,
+}
+
+impl Model for Securities {
+    ghost use Rattle.std.specs.Prelude.{List};
+    ghost use Rattle.xm_day.specs.declared.config.SecurityConfig.{SecurityConfig};
+
+    ghost Value = { List SecurityConfig };
+
+    ghost view = { λ s. s.settings.items };
+}
+
+impl Securities {
+    /// The securities with these settings.
+    pub fn new(settings: Vec<SecurityConfig>) -> Self
+        ensures { result ≡ settings.items }
+    {
+        Self { settings }
+    }
+
+    /// Their settings, in index order.
+    pub fn as_slice(&self) -> &[SecurityConfig]
+        ensures { result.now ≡ self.now }
+    {
+        self.settings.as_slice()
+    }
+
+    /// Gives the settings back, and takes no memory.
+    pub fn into_vec(self) -> Vec<SecurityConfig>
+        ensures { result.items ≡ self }
+    {
+        let Securities { settings } = self;
+        settings
+    }
+}
+
+/// The settings of a segment: its date as a number, how many members it has, and its securities.
+#[derive(Drop, Debug)]
+pub struct SegmentConfig {
+    pub today: u32,
+    pub members: u32,
+    pub securities: Securities,
+}

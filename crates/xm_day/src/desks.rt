@@ -1,0 +1,137 @@
+//! The desks of a segment, and the rows that they take.
+ghost use Rattle.std.specs.Prelude.{◌≡◌, ◌≢◌, ◌+◌, ◌<◌, ◌^◌, [], All, Err, IfErr, IfOk, None, OnOk, Some, length, map, true};
+ghost use Rattle.std.specs.List.{list_all};
+ghost use Rattle.xm_day.specs.Day.{after_row, after_rows, day_of, journal_of, segment_fault};
+ghost use Rattle.xm_day.specs.Rows.{is_first_path};
+ghost use Rattle.xm_desk.specs.Opening.{are_widths};
+ghost use Rattle.xm_rules.specs.Served.{IsUntraded};
+ghost use Rattle.xm_rules.specs.Step.{replay};
+
+use crate::config::{SecurityConfig, SegmentConfig};
+use crate::day::DayReport;
+use crate::rows::Row;
+use std::alloc::{AllocError, Allocator, Global};
+use xm_desk::{Desk, OpenFault, are_widths};
+use xm_rules::{DeskSettings, OutOfMemory, Refusal};
+
+/// Opens a desk for each security of a segment.
+pub fn open_desks(alloc: Global, config: &SegmentConfig) -> Result<Vec<Desk<Global>>, OpenFault>
+    ensures opened { IfOk result (λ desks. desks.items ≡ map (journal_of config.now) config.now.securities) }
+    ensures sound { OnOk result (segment_fault config.now ≡ None) }
+    ensures refused { IfErr result (λ fault. fault ≢ OpenFault.OutOfMemory → segment_fault config.now ≡ Some fault) }
+    ensures memory { result ≡ Err OpenFault.OutOfMemory → segment_fault config.now ≡ None }
+{
+    if let Some(fault) = segment_fault(config) {
+        return Err(fault);
+    }
+    match desks_of(alloc, config) {
+        Ok(desks) => Ok(desks),
+        Err(_) => Err(OpenFault::OutOfMemory),
+    }
+}
+
+/// The desks of a segment without a fault.
+fn desks_of(alloc: Global, config: &SegmentConfig) -> Result<Vec<Desk<Global>>, AllocError>
+    ensures { IfOk result (λ desks. desks.items ≡ map (journal_of config.now) config.now.securities) }
+{
+    let mut desks = Vec::new(alloc);
+    for security in config.securities.as_slice() {
+        match Desk::open(alloc, settings_of(config, security)) {
+            Ok(desk) => desks.push(desk)?,
+            Err(_) => return Err(AllocError),
+        }
+    }
+    Ok(desks)
+}
+
+/// The settings that the desk of a security is opened with.
+fn settings_of(config: &SegmentConfig, security: &SecurityConfig) -> DeskSettings
+    ensures { record { settings = result; commands = [] } ≡ journal_of config.now security.now }
+{
+    DeskSettings {
+        today: config.today,
+        members: config.members,
+        tick: security.tick,
+        reference: security.reference,
+        widths: security.widths,
+        limit: security.limit,
+    }
+}
+
+/// What is wrong with a segment, if anything is. Today one security is served.
+fn segment_fault(config: &SegmentConfig) -> Option<OpenFault>
+    ensures { result ≡ segment_fault config.now }
+{
+    let securities = config.securities.as_slice();
+    if securities.is_empty() {
+        Some(OpenFault::NoSecurity)
+    } else if securities.len() > 1 || config.members > 1000 {
+        Some(OpenFault::TooMany)
+    } else if have_widths(securities) {
+        None
+    } else {
+        Some(OpenFault::BadWidths)
+    }
+}
+
+fn have_widths(securities: &[SecurityConfig]) -> bool
+    ensures { result ≡ list_all (λ security. are_widths security.widths) securities.now }
+{
+    securities
+        .iter()
+        .all(|security| are_widths(&security.widths))
+}
+
+/// Takes rows in their order, and counts which were accepted and refused. After `OutOfMemory` the
+/// rows before the one that was refused for it are taken.
+pub fn take_rows<A: Allocator + Copy>(
+    desks: &mut [Desk<A>],
+    rows: &[Row],
+) -> Result<DayReport, OutOfMemory>
+    requires untraded { All (λ j. IsUntraded (replay j)) desks.old }
+    requires served { list_all (λ row. is_first_path row.command) rows.now ≡ true }
+    ensures taken { IfOk result (λ report. day_of desks.new report.accepted report.refused ≡ after_rows (day_of desks.old 0 0) rows.now) }
+    ensures untraded { OnOk result (All (λ j. IsUntraded (replay j)) desks.new) }
+{
+    let mut report = DayReport {
+        accepted: 0,
+        refused: 0,
+    };
+    for row in rows {
+        report = take_row(desks, row, report)?;
+    }
+    Ok(report)
+}
+
+/// Takes a row, and counts it in a report. One of an unknown security is refused.
+fn take_row<A: Allocator + Copy>(
+    desks: &mut [Desk<A>],
+    row: &Row,
+    report: DayReport,
+) -> Result<DayReport, OutOfMemory>
+    requires untraded { All (λ j. IsUntraded (replay j)) desks.old }
+    requires served { is_first_path row.now.command ≡ true }
+    requires room { report.accepted + report.refused + 1 < 2 ^ 64 }
+    ensures taken { IfOk result (λ counted. after_row (day_of desks.old report.accepted report.refused) row.now ≡ day_of desks.new counted.accepted counted.refused) }
+    ensures counted { IfOk result (λ counted. counted.accepted + counted.refused ≡ report.accepted + report.refused + 1) }
+    ensures untraded { OnOk result (All (λ j. IsUntraded (replay j)) desks.new) }
+{
+    let refused = DayReport {
+        accepted: report.accepted,
+        refused: report.refused + 1,
+    };
+    let index = row.security as usize;
+    if index >= desks.len() {
+        return Ok(refused);
+    }
+    match desks[index].apply(row.command) {
+        Ok(_) => Ok(DayReport {
+            accepted: report.accepted + 1,
+            refused: report.refused,
+        }),
+        Err(refusal) => match refusal {
+            Refusal::OutOfMemory => Err(OutOfMemory),
+            _ => Ok(refused),
+        },
+    }
+}

@@ -1,0 +1,190 @@
+//! What one record of the order file says.
+ghost use Rattle.std.specs.Prelude.{◌≡◌};
+ghost use Rattle.csv.specs.Records.{fields_of};
+ghost use Rattle.xm_day.specs.declared.columns.Column.TheVariants as column;
+ghost use Rattle.xm_day.specs.Rows.{cancel_of, enter_of, entry_of, field, index_of, kind_of, order_of, phase_of, tick_of, word_of};
+
+use crate::columns::{Column, are_empty, field};
+use crate::config::{SecurityConfig, SegmentConfig};
+use crate::fields::{condition, is_word, price, restriction, side, validity, whole};
+use crate::names::Names;
+use crate::rows::Row;
+use csv::ByteRecord;
+use xm_rules::{Command, Kind};
+use xm_ticks::TickSize;
+
+/// What a record says: one row, or a command for each security.
+#[derive(Clone, Copy, PartialEq, Eq, Debug)]
+pub(crate) enum Entry {
+    One(Row),
+    Each(Command),
+}
+
+/// The command words that are served.
+#[derive(Clone, Copy, PartialEq, Eq, Debug)]
+enum Word {
+    Enter,
+    Cancel,
+    Open,
+}
+
+/// What a record says, if each of its fields is lawful.
+pub(crate) fn parse_entry(
+    fields: &ByteRecord,
+    names: &Names,
+    config: &SegmentConfig,
+) -> Option<Entry>
+    ensures { result ≡ entry_of names.now config.now.securities (fields_of fields.now) }
+{
+    match parse_word(field(fields, Column::Command))? {
+        Word::Enter => enter(fields, names, config.securities.as_slice()),
+        Word::Cancel => cancel(fields, names),
+        Word::Open => phase(fields, names, Command::StartOpening),
+    }
+}
+
+fn parse_word(text: &[u8]) -> Option<Word>
+    ensures { result ≡ word_of text.now }
+{
+    if is_word(text, "enter") {
+        Some(Word::Enter)
+    } else if is_word(text, "cancel") {
+        Some(Word::Cancel)
+    } else if is_word(text, "open") {
+        Some(Word::Open)
+    } else {
+        None
+    }
+}
+
+/// The index of the member in a record; an unknown name has the number of names as its index.
+fn member(fields: &ByteRecord, names: &Names) -> Option<u32>
+    ensures { result ≡ index_of names.now.members (field column.Member (fields_of fields.now)) }
+{
+    let name = field(fields, Column::Member);
+    if name.is_empty() {
+        None
+    } else {
+        Some(names.member_index(name))
+    }
+}
+
+/// The index of the security in a record; an unknown name has the number of names as its index.
+fn security(fields: &ByteRecord, names: &Names) -> Option<u32>
+    ensures { result ≡ index_of names.now.securities (field column.Security (fields_of fields.now)) }
+{
+    let name = field(fields, Column::Security);
+    if name.is_empty() {
+        None
+    } else {
+        Some(names.security_index(name))
+    }
+}
+
+/// The order that a record enters.
+fn enter(fields: &ByteRecord, names: &Names, securities: &[SecurityConfig]) -> Option<Entry>
+    ensures { result ≡ enter_of names.now securities.now (fields_of fields.now) }
+{
+    let member = member(fields, names)?;
+    let security = security(fields, names)?;
+    let command = order(fields, member, tick(securities, security))?;
+    Some(Entry::One(Row { security, command }))
+}
+
+/// The tick of a security, and the finest one where the security is unknown.
+fn tick(securities: &[SecurityConfig], security: u32) -> TickSize
+    ensures { result ≡ tick_of securities.now security }
+{
+    match securities.get(security as usize) {
+        Some(settings) => settings.tick,
+        None => TickSize::FINEST,
+    }
+}
+
+/// The order that a member enters in a security with this tick.
+fn order(fields: &ByteRecord, member: u32, tick: TickSize) -> Option<Command>
+    ensures { result ≡ order_of tick member (fields_of fields.now) }
+{
+    let reference = whole(field(fields, Column::Reference))?;
+    let side = side(field(fields, Column::Side))?;
+    let kind = kind(fields, tick)?;
+    let quantity = whole(field(fields, Column::Quantity))?;
+    let validity = validity(field(fields, Column::Validity))?;
+    let restriction = restriction(field(fields, Column::Restriction))?;
+    let condition = condition(field(fields, Column::Condition))?;
+    Some(Command::Enter {
+        member,
+        reference,
+        side,
+        kind,
+        quantity,
+        validity,
+        restriction,
+        condition,
+    })
+}
+
+/// The kind of an order with its prices.
+fn kind(fields: &ByteRecord, tick: TickSize) -> Option<Kind>
+    ensures { result ≡ kind_of tick (fields_of fields.now) }
+{
+    if !is_word(field(fields, Column::Kind), "limit") || !are_empty(fields, &[Column::Trigger]) {
+        return None;
+    }
+    match price(field(fields, Column::Limit), tick) {
+        Some(limit) => Some(Kind::Limit(limit)),
+        None => None,
+    }
+}
+
+/// The cancellation that a record is.
+fn cancel(fields: &ByteRecord, names: &Names) -> Option<Entry>
+    ensures { result ≡ cancel_of names.now (fields_of fields.now) }
+{
+    let blank = [
+        Column::Side,
+        Column::Kind,
+        Column::Limit,
+        Column::Trigger,
+        Column::Quantity,
+        Column::Validity,
+        Column::Restriction,
+        Column::Condition,
+    ];
+    if !are_empty(fields, &blank) {
+        return None;
+    }
+    let member = member(fields, names)?;
+    let security = security(fields, names)?;
+    let reference = whole(field(fields, Column::Reference))?;
+    Some(Entry::One(Row {
+        security,
+        command: Command::Cancel { member, reference },
+    }))
+}
+
+/// The phase command that a record gives to one security, or by `*` to each.
+fn phase(fields: &ByteRecord, names: &Names, command: Command) -> Option<Entry>
+    ensures { result ≡ phase_of command names.now (fields_of fields.now) }
+{
+    let blank = [
+        Column::Member,
+        Column::Reference,
+        Column::Side,
+        Column::Kind,
+        Column::Limit,
+        Column::Trigger,
+        Column::Quantity,
+        Column::Validity,
+        Column::Restriction,
+        Column::Condition,
+    ];
+    if !are_empty(fields, &blank) {
+        return None;
+    }
+    if is_word(field(fields, Column::Security), "*") {
+        return Some(Entry::Each(command));
+    }
+    let security = security(fields, names)?;
+    Some(Entry::One(Row { security, command }))
+}

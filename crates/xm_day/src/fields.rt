@@ -1,0 +1,100 @@
+//! The texts of the fields of the order file.
+ghost use Rattle.std.specs.Prelude.{◌≡◌, ◌<◌, ◌≤◌, ◌^◌, length, IfSome};
+ghost use Rattle.std.specs.Str.{bytes_eq};
+ghost use Rattle.xm_ticks.specs.Reading.{number_of, price_of};
+ghost use Rattle.xm_day.specs.Rows.{condition_of, raw_price, restriction_of, side_of, validity_of, whole_of};
+
+use xm_rules::{Condition, Restriction, Side, Validity};
+use xm_ticks::{PriceFault, TickSize, read_price};
+
+/// Whether a field is this word.
+pub(crate) fn is_word(text: &[u8], word: &str) -> bool
+    ensures { result ≡ bytes_eq text.now word.now }
+{
+    text == word.as_bytes()
+}
+
+/// The number that one to ten digits write, if 32 bits hold it.
+pub(crate) fn whole(text: &[u8]) -> Option<u32>
+    ensures { result ≡ whole_of text.now }
+{
+    if text.len() > 10 {
+        return None;
+    }
+    match digits(text) {
+        Some(number) => u32::try_from(number).ok(),
+        None => None,
+    }
+}
+
+/// The number that digits write, if there is a digit and nothing else.
+fn digits(text: &[u8]) -> Option<u64>
+    requires { length text.now ≤ 10 }
+    ensures value { result ≡ number_of text.now }
+    ensures small { IfSome result (λ n. n < 10 ^ 10) }
+{
+    if text.is_empty() {
+        return None;
+    }
+    let mut number = 0u64;
+    for byte in text {
+        if !byte.is_ascii_digit() {
+            return None;
+        }
+        number = number * 10 + u64::from(*byte - b'0');
+    }
+    Some(number)
+}
+
+/// The raw price of a text: 0 where it is a number and no price, so that its row is refused.
+pub(crate) fn price(text: &[u8], tick: TickSize) -> Option<u32>
+    ensures { result ≡ raw_price (price_of text.now tick) }
+{
+    match read_price(text, tick) {
+        Ok(price) => Some(price.get()),
+        Err(PriceFault::NotANumber) => None,
+        Err(_) => Some(0),
+    }
+}
+
+pub(crate) fn side(text: &[u8]) -> Option<Side>
+    ensures { result ≡ side_of text.now }
+{
+    if is_word(text, "buy") {
+        Some(Side::Buy)
+    } else if is_word(text, "sell") {
+        Some(Side::Sell)
+    } else {
+        None
+    }
+}
+
+pub(crate) fn validity(text: &[u8]) -> Option<Validity>
+    ensures { result ≡ validity_of text.now }
+{
+    if text.is_empty() {
+        Some(Validity::Day)
+    } else {
+        None
+    }
+}
+
+pub(crate) fn restriction(text: &[u8]) -> Option<Restriction>
+    ensures { result ≡ restriction_of text.now }
+{
+    if text.is_empty() {
+        Some(Restriction::Free)
+    } else {
+        None
+    }
+}
+
+pub(crate) fn condition(text: &[u8]) -> Option<Condition>
+    ensures { result ≡ condition_of text.now }
+{
+    if text.is_empty() {
+        Some(Condition::Plain)
+    } else {
+        None
+    }
+}
