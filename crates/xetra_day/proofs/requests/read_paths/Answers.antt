@@ -1,0 +1,13 @@
+use Rattle.std.proofs.Common.{ap, ◌≡◌, ◌∙◌, true, map, string_bytes}
+use Rattle.clap.specs.Words.{App, app_of, kind_of, takes}
+use Rattle.clap.specs.declared.error.kind.ErrorKind.TheVariants as kind
+use Rattle.xetra_day.specs.Requests.{day_app}
+use Rattle.xetra_day.proofs.Runs.{err_from}
+use Rattle.xetra_day.proofs.requests.read_paths.Goals as goal
+
+pub returns-in_err-matches-clause-err : goal.returns-in_err-matches-clause-err
+returns-in_err-matches-clause-err c =
+    let app : app_of c.in_ok-command.command ≡ day_app = c.in_ok-command.ensures in
+    let passes : takes day_app (map string_bytes c.args.words.now) ≡ true → kind_of c.in_err-matches.field-0.0 ≡ kind.OutOfMemory =
+    λ t. c.in_err-matches.ensures.passes (ap (λ (a : App). takes a (map string_bytes c.args.words.now)) app ∙ t) in
+    err_from _ c.in_err-matches.field-0.0 _ c.from_residual-in_err-matches.ensures.1 (λ t named. passes t)

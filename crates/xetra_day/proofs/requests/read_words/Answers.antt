@@ -1,0 +1,17 @@
+use Rattle.std.proofs.Common.{◌≡◌, Some, refl, map, string_bytes}
+use Rattle.clap.specs.Words.{kind_of}
+use Rattle.clap.specs.declared.error.kind.ErrorKind.TheVariants as kind
+use Rattle.xetra_day.specs.Requests.{paths_of}
+use Rattle.xetra_day.proofs.Runs.{answer-memory, some_pair, taken}
+use Rattle.xetra_day.proofs.requests.read_words.Goals as goal
+
+pub returns-in-Ok-clause-run : goal.returns-in-Ok-clause-run
+returns-in-Ok-clause-run c = λ segment orders asks.
+    let named : paths_of (map string_bytes c.args.words.now) ≡ Some (c.in-Ok.segment.now, c.in-Ok.orders.now) = c.in-Ok.ensures.ok in
+    some_pair _ _ _ _ _ named (taken _ segment orders asks).paths
+
+pub returns-in-Err-clause-run : goal.returns-in-Err-clause-run
+returns-in-Err-clause-run c = λ segment orders asks.
+    let is = taken _ segment orders asks in
+    let memory : kind_of c.in-Err.error ≡ kind.OutOfMemory = c.in-Err.ensures.err is.taken (rw is.paths refl) in
+    rw (c.answer.ensures, answer-memory c.in-Err.error memory) refl

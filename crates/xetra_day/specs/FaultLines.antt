@@ -1,0 +1,55 @@
+-- The line that tells why a day has no statement.
+use Rattle.std.specs.Prelude.{ℕ, List, ◌++◌, codes}
+use Rattle.std.specs.Fmt.{decimal}
+use Rattle.xm_desk.specs.declared.opening.OpenFault.{OpenFault}
+use Rattle.xm_desk.specs.declared.opening.OpenFault.TheVariants as opening
+use Rattle.xm_day.specs.declared.faults.FileCause.{FileCause}
+use Rattle.xm_day.specs.declared.faults.FileCause.TheVariants as file
+use Rattle.xm_day.specs.declared.faults.FileFault.{FileFault}
+use Rattle.xm_day.specs.declared.faults.DayFault.{DayFault}
+use Rattle.xm_day.specs.declared.faults.DayFault.TheVariants as day
+
+-- a file's fault, by its name
+abbrev pub cause_name : FileCause → List ℕ
+cause_name file.ReadFailed = codes "ReadFailed"
+cause_name file.TooLong = codes "TooLong"
+cause_name file.Syntax = codes "Syntax"
+cause_name file.MissingKey = codes "MissingKey"
+cause_name file.UnknownKey = codes "UnknownKey"
+cause_name file.BadValue = codes "BadValue"
+cause_name file.DuplicateName = codes "DuplicateName"
+cause_name file.BadHeader = codes "BadHeader"
+cause_name file.BadField = codes "BadField"
+cause_name file.TooManyRows = codes "TooManyRows"
+cause_name file.OutOfMemory = codes "OutOfMemory"
+
+-- why a segment is not opened, by its name
+abbrev pub open_name : OpenFault → List ℕ
+open_name opening.NoSecurity = codes "NoSecurity"
+open_name opening.TooMany = codes "TooMany"
+open_name opening.BadWidths = codes "BadWidths"
+open_name opening.OutOfMemory = codes "OutOfMemory"
+
+-- a fault of a file: the file, the line and the cause
+abbrev pub file_line : List ℕ → FileFault → List ℕ
+file_line file fault =
+    codes "xetra-day: " ++ (file ++ (codes ": line " ++ (decimal fault.line ++ (codes ": " ++ cause_name fault.cause))))
+
+-- the line of a fault, without its line feed
+abbrev pub fault_line : DayFault → List ℕ
+fault_line (day.Segment fault) = file_line (codes "segment") fault
+fault_line (day.Orders fault) = file_line (codes "orders") fault
+fault_line (day.Open fault) = codes "xetra-day: open: " ++ open_name fault
+fault_line day.OutOfMemory = codes "xetra-day: out of memory"
+fault_line day.WriteFailed = codes "xetra-day: write failed"
+
+-- want of memory is told in one way, wherever it was met
+abbrev pub told_for : DayFault → FileCause → DayFault
+told_for fault file.OutOfMemory = day.OutOfMemory
+told_for fault _ = fault
+
+abbrev pub told : DayFault → DayFault
+told (day.Segment fault) = told_for (day.Segment fault) fault.cause
+told (day.Orders fault) = told_for (day.Orders fault) fault.cause
+told (day.Open opening.OutOfMemory) = day.OutOfMemory
+told fault = fault

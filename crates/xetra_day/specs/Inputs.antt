@@ -1,0 +1,10 @@
+-- What reads of an input give.
+use Rattle.std.specs.Prelude.{ℕ, List, Option, None}
+use Rattle.xetra_day.specs.declared.inputs.Input.{Input}
+use Rattle.xetra_day.specs.declared.inputs.Input.TheVariants.{Opened, Unopened}
+
+module _ {F : Type 0} where
+  -- the bytes that an input has left: its file's, and none that are known where there is no file
+  abbrev pub bytes_left : (F → Option (List ℕ)) → Input F → Option (List ℕ)
+  bytes_left file_left (Opened file) = file_left file
+  bytes_left file_left Unopened = None

@@ -1,0 +1,3 @@
+pub mod FaultLines
+pub mod Inputs
+pub mod Requests

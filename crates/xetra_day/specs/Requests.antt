@@ -1,0 +1,91 @@
+-- How the words of a command line are answered.
+use Rattle.std.specs.Prelude.{◌≡◌, ◌==◌, ℕ, Bool, true, not, if◌then◌else◌, List, [], ◌∷◌, Option, Some, None, Result, Ok, Err, ⊤, codes}
+use Rattle.std.specs.Str.{bytes_eq}
+use Rattle.clap.specs.Values.{kind_of}
+use Rattle.clap.specs.Words.{App, Row, Rule, Text, first_of, new_app, new_rule, subcommand_of, with_rule, with_subcommand}
+use Rattle.clap.specs.Simple.{on_top}
+use Rattle.clap.specs.declared.builder.action.ArgAction.TheVariants.{Set}
+use Rattle.clap.specs.declared.error.Error.{Error}
+use Rattle.clap.specs.declared.error.kind.ErrorKind.{ErrorKind}
+use Rattle.clap.specs.declared.error.kind.ErrorKind.TheVariants as kind
+use Rattle.xm_day.specs.declared.faults.DayFault.TheVariants as day
+use Rattle.xetra_day.specs.declared.requests.Request.{Request}
+use Rattle.xetra_day.specs.declared.requests.Request.TheVariants.{Run, Help}
+use Rattle.xetra_day.specs.declared.requests.Stop.{Stop}
+use Rattle.xetra_day.specs.declared.requests.Stop.TheVariants.{Day, Words}
+
+-- ---- the command line
+
+-- an argument that has to be given, with one value
+abbrev pub path_rule : Text → Rule
+path_rule id = record (new_rule id) { required = true; action = Some Set }
+
+-- `run SEGMENT ORDERS`
+abbrev pub run_app : App
+run_app = with_rule (with_rule (new_app (codes "run")) (path_rule (codes "SEGMENT"))) (path_rule (codes "ORDERS"))
+
+-- `xetra-day`, with a subcommand
+abbrev pub day_app : App
+day_app = with_subcommand (on_top (λ s. record s { subcommand_required = true; arg_required_else_help = true })
+    (new_app (codes "xetra-day"))) run_app.top
+
+-- the two paths among the values of a subcommand
+abbrev pub both_paths : Option Text → Option Text → Option (Text × Text)
+both_paths (Some segment) (Some orders) = Some (segment, orders)
+both_paths (Some segment) None = None
+both_paths None orders = None
+
+abbrev pub paths_in : Option (Text × List Row) → Option (Text × Text)
+paths_in None = None
+paths_in (Some p) =
+    if bytes_eq p.0 (codes "run") then both_paths (first_of (codes "SEGMENT") p.1) (first_of (codes "ORDERS") p.1)
+    else None
+
+-- the two files of the run that the words ask for
+abbrev pub paths_of : List Text → Option (Text × Text)
+paths_of words = paths_in (subcommand_of day_app words)
+
+-- ---- the answer
+
+-- a word that is taken as it stands: it does not begin with a hyphen
+abbrev pub is_plain : Text → Bool
+is_plain [] = true
+is_plain (first ∷ rest) = not (first == 45)
+
+-- the words are the program's name, `run` and two paths
+pub record AsksRun (words : List Text) (segment orders : Text) : Type 0 where
+  pub program : Text
+  pub words_are : words ≡ program ∷ codes "run" ∷ segment ∷ orders ∷ []
+  pub segment_is_plain : is_plain segment ≡ true
+  pub orders_is_plain : is_plain orders ≡ true
+
+-- the run of these two files, or want of memory
+abbrev pub IsRun : Result Request Stop → Text → Text → Type 0
+IsRun (Ok (Run s o)) segment orders = (s.now ≡ segment) × (o.now ≡ orders)
+IsRun (Ok (Help error)) segment orders = ⊥
+IsRun (Err stop) segment orders = stop ≡ Day day.OutOfMemory
+
+-- a run is one of the files that the words name
+abbrev pub IsOfPaths : Option (Text × Text) → Request → Type 0
+IsOfPaths paths (Run s o) = paths ≡ Some (s.now, o.now)
+IsOfPaths paths (Help error) = ⊤
+
+abbrev answer_at : Error → ErrorKind → Result Request Stop
+answer_at error kind.DisplayHelp = Ok (Help error)
+answer_at error kind.DisplayVersion = Ok (Help error)
+answer_at error kind.OutOfMemory = Err (Day day.OutOfMemory)
+answer_at error _ = Err (Words error)
+
+-- what is answered where no run was asked for: a help text, want of memory, or a mistake in the words
+abbrev pub answer_of : Error → Result Request Stop
+answer_of error = answer_at error (kind_of error)
+
+-- words that are not text are a mistake, or memory is wanting
+abbrev pub RefusesBytes : Stop → Type 0
+RefusesBytes (Day fault) = fault ≡ day.OutOfMemory
+RefusesBytes (Words error) = kind_of error ≡ kind.ValueValidation
+
+-- the status that the program stops with: 1 where the day has no statement, 2 where the words were mistaken
+abbrev pub stop_status : Stop → ℕ
+stop_status (Day fault) = 1
+stop_status (Words error) = 2

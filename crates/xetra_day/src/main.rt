@@ -1,0 +1,84 @@
+//! `xetra-day run SEGMENT ORDERS`: replays a trading day and writes its statement.
+#![tactic(auto)]
+
+ghost use Rattle.std.specs.Prelude.{◌≡◌};
+
+mod fault_lines;
+mod inputs;
+mod requests;
+#[cfg(test)]
+mod tests;
+
+use crate::fault_lines::{FaultLine, told};
+use crate::requests::{Request, Stop};
+use std::alloc::Global;
+use std::io::{Read, Write};
+use std::process::ExitCode;
+use std::rt::{Env, Files};
+use std::{env, io};
+use xm_day::DayFault;
+
+fn main(rt: HostRuntime) -> ExitCode {
+    match answer(&rt) {
+        Ok(()) => ExitCode::SUCCESS,
+        Err(stop) => {
+            let status = stop.status();
+            tell(&rt, stop);
+            ExitCode::from(status)
+        }
+    }
+}
+
+/// Does what the command line asks for.
+fn answer<R: Env + AllocGlobal + Files + Print>(rt: &R) -> Result<(), Stop> {
+    let words = read_command_line(rt)?;
+    match requests::read_words(rt.alloc(), words.as_slice())? {
+        Request::Run { segment, orders } => {
+            let mut segment = inputs::open(rt, segment);
+            let mut orders = inputs::open(rt, orders);
+            run(rt.alloc(), &mut segment, &mut orders, &mut io::writer(rt))?;
+        }
+        Request::Help(text) => {
+            if rt.print(text).is_err() {
+                return Err(Stop::Day(DayFault::WriteFailed));
+            }
+        }
+    }
+    Ok(())
+}
+
+/// The words of the command line, of which the first is the program's name.
+fn read_command_line<R: Env + AllocGlobal>(rt: &R) -> Result<Vec<String>, Stop> {
+    let words = match env::args(rt) {
+        Ok(words) => words.collect(rt.alloc()),
+        Err(error) if error.kind() == io::ErrorKind::InvalidData => {
+            return Err(requests::refuse_bytes(rt.alloc()));
+        }
+        Err(_) => return Err(Stop::Day(DayFault::OutOfMemory)),
+    };
+    match words {
+        Ok(words) => Ok(words),
+        Err(_) => Err(Stop::Day(DayFault::OutOfMemory)),
+    }
+}
+
+/// Writes the statement of the day in two files, and sees that all of it went out.
+fn run<S: Read, O: Read, W: Write>(
+    alloc: Global,
+    segment: &mut S,
+    orders: &mut O,
+    out: &mut W,
+) -> Result<(), DayFault> {
+    match xm_day::run_alone(alloc, segment, orders, out) {
+        Ok(_) => out.flush().map_err(|_| DayFault::WriteFailed),
+        Err(fault) => Err(told(fault)),
+    }
+}
+
+/// Tells on standard error why the program stops. Where that can't be written, the status tells alone.
+fn tell<R: Eprint>(rt: &R, stop: Stop) {
+    let _ = match stop {
+        Stop::Day(fault) => rt.eprintln(FaultLine(fault)),
+        Stop::Words(text) => rt.eprint(text),
+    };
+}

@@ -1,0 +1,164 @@
+//! What the words of the command line ask for.
+ghost use Rattle.std.specs.Prelude.{◌≡◌, List, ℕ, IfOk, IfErr, IsSome, map, option_map, string_bytes, false, true};
+ghost use Rattle.clap.specs.Words.{app_of, kind_of, subcommand_rows_of, takes};
+ghost use Rattle.clap.specs.declared.builder.command.Command.TheViews.{out-Command as fields_of};
+ghost use Rattle.clap.specs.declared.error.kind.ErrorKind.TheVariants as kind;
+ghost use Rattle.xetra_day.specs.Requests.{AsksRun, IsOfPaths, IsRun, RefusesBytes, answer_of, day_app, paths_in, paths_of, run_app, stop_status};
+
+use clap::error::ErrorKind;
+use clap::{Arg, ArgAction, ArgMatches, Command, Error};
+use std::alloc::{AllocError, Global};
+use xm_day::DayFault;
+
+const RUN: &str = "run";
+
+const SEGMENT: &str = "SEGMENT";
+
+const ORDERS: &str = "ORDERS";
+
+const STATUS_HELP: &str = "Exit status:
+  0  the statement was written
+  1  no statement: standard error has one line that names the fault
+  2  the command line is mistaken";
+
+/// What a command line asks for.
+#[derive(Debug, Drop)]
+pub enum Request<'a> {
+    /// The statement of the day in two files, which are given by their paths.
+    Run { segment: &'a str, orders: &'a str },
+    /// A help text.
+    Help(Error),
+}
+
+/// Why the program ends without what it was asked for.
+#[derive(Debug, Drop)]
+pub enum Stop {
+    /// The day has no statement.
+    Day(DayFault),
+    /// The words are mistaken, as the text says.
+    Words(Error),
+}
+
+impl Stop {
+    /// The status that the program then ends with.
+    pub fn status(&self) -> u8
+        ensures { result ≡ stop_status self.now }
+    {
+        match self {
+            Stop::Day(_) => 1,
+            Stop::Words(_) => 2,
+        }
+    }
+}
+
+impl From<DayFault> for Stop {
+    ghost use Rattle.xetra_day.specs.declared.requests.Stop.TheVariants.{Day};
+
+    ghost from_gives = { λ fault stop. stop ≡ Day fault };
+
+    fn from(fault: DayFault) -> Stop {
+        Stop::Day(fault)
+    }
+}
+
+/// What the words ask for, of which the first is the program's name.
+///
+/// A mistake in the words is refused as the text tells.
+pub fn read_words<'a>(alloc: Global, words: &'a [String]) -> Result<Request<'a>, Stop>
+    ensures paths { IfOk result (IsOfPaths (paths_of (map string_bytes words.entry.now))) }
+    ensures run { (segment orders : List ℕ) → AsksRun (map string_bytes words.entry.now) segment orders
+        → IsRun result segment orders }
+{
+    match read_paths(alloc, words) {
+        Ok((segment, orders)) => Ok(Request::Run { segment, orders }),
+        Err(error) => answer(error),
+    }
+}
+
+/// The answer to words that are not text.
+pub fn refuse_bytes(alloc: Global) -> Stop
+    ensures { RefusesBytes result }
+{
+    match bytes_error(alloc) {
+        Ok(error) => Stop::Words(error),
+        Err(_) => Stop::Day(DayFault::OutOfMemory),
+    }
+}
+
+/// What is answered where the words ask for no run.
+fn answer<'a>(error: Error) -> Result<Request<'a>, Stop>
+    ensures { result ≡ answer_of error }
+{
+    match error.kind() {
+        ErrorKind::DisplayHelp | ErrorKind::DisplayVersion => Ok(Request::Help(error)),
+        ErrorKind::OutOfMemory => Err(Stop::Day(DayFault::OutOfMemory)),
+        _ => Err(Stop::Words(error)),
+    }
+}
+
+/// The two paths of a run.
+fn read_paths<'a>(alloc: Global, words: &'a [String]) -> Result<(&'a str, &'a str), Error>
+    ensures ok { IfOk result (λ p. paths_of (map string_bytes words.entry.now) ≡ Some (p.0.now, p.1.now)) }
+    ensures err { IfErr result (λ e. takes day_app (map string_bytes words.entry.now) ≡ true
+        → IsSome (paths_of (map string_bytes words.entry.now)) → kind_of e ≡ kind.OutOfMemory) }
+{
+    let mut command = command_line(alloc)?;
+    let matches = command.try_get_matches_from_mut(words)?;
+    match paths_in(&matches) {
+        Some(paths) => Ok(paths),
+        None => Err(command.error(ErrorKind::MissingSubcommand, "no run is asked for")?),
+    }
+}
+
+/// The two paths of a run that was met.
+fn paths_in<'a>(matches: &ArgMatches<'a>) -> Option<(&'a str, &'a str)>
+    ensures { option_map (λ p. (p.0.now, p.1.now)) result ≡ paths_in (subcommand_rows_of matches.now) }
+{
+    let (name, run) = matches.subcommand()?;
+    if name != RUN {
+        return None;
+    }
+    let segment = run.get_str(SEGMENT)?;
+    let orders = run.get_str(ORDERS)?;
+    Some((segment, orders))
+}
+
+fn bytes_error(alloc: Global) -> Result<Error, AllocError>
+    ensures { IfOk result (λ error. kind_of error ≡ kind.ValueValidation) }
+{
+    let message = "a word of the command line is not UTF-8 text";
+    command_line(alloc)?.error(ErrorKind::ValueValidation, message)
+}
+
+/// The command line of the program.
+fn command_line<'a>(alloc: Global) -> Result<Command<'a>, AllocError>
+    ensures { IfOk result (λ command. app_of command ≡ day_app) }
+{
+    Command::new(alloc, "xetra-day")
+        .bin_name("xetra-day")?
+        .about("Replays a trading day of a segment of securities and writes its statement")
+        .after_help(STATUS_HELP)
+        .subcommand_required(true)
+        .arg_required_else_help(true)
+        .subcommand(run_command(alloc)?)
+}
+
+/// The part of the command line that runs a day.
+fn run_command<'a>(alloc: Global) -> Result<Command<'a>, AllocError>
+    ensures app { IfOk result (λ command. app_of command ≡ run_app) }
+    ensures local { IfOk result (λ command. (fields_of command).has_globals ≡ false) }
+{
+    let segment = Arg::new(alloc, SEGMENT)
+        .required(true)
+        .action(ArgAction::Set)
+        .help("The segment file (TOML): the date, the members and the securities");
+    let orders = Arg::new(alloc, ORDERS)
+        .required(true)
+        .action(ArgAction::Set)
+        .help("The order file (CSV): a header, then one command a row, in the order of the day");
+    Command::new(alloc, RUN)
+        .about("Runs the day of two files and writes its statement to standard output")
+        .after_help(STATUS_HELP)
+        .arg(segment)?
+        .arg(orders)
+}
