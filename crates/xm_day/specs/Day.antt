@@ -1,5 +1,5 @@
 -- The day of a segment: its rows taken one after another.
-use Rattle.std.specs.Prelude.{ℕ, ◌+◌, Bool, true, false, ◌&&◌, ◌||◌, not, if◌then◌else◌, nat_lt, List, [], ◌∷◌, length, map, slice_get, slice_set, Option, Some, None}
+use Rattle.std.specs.Prelude.{ℕ, ◌+◌, ◌||◌, not, if◌then◌else◌, nat_lt, List, [], ◌∷◌, length, map, slice_get, slice_set, Option, Some, None}
 use Rattle.std.specs.List.{list_all}
 use Rattle.xm_desk.specs.Opening.{are_widths}
 use Rattle.xm_desk.specs.declared.opening.OpenFault.{OpenFault}
@@ -7,7 +7,6 @@ use Rattle.xm_desk.specs.declared.opening.OpenFault.TheVariants.{NoSecurity, Too
 use Rattle.xm_rules.specs.Refusals.{refusal_of}
 use Rattle.xm_rules.specs.State.{State, opening}
 use Rattle.xm_rules.specs.Step.{Journal, replay, step}
-use Rattle.xm_rules.specs.declared.commands.Command.{Command}
 use Rattle.xm_rules.specs.declared.replies.Refusal.{Refusal}
 use Rattle.xm_rules.specs.declared.settings.DeskSettings.{DeskSettings}
 use Rattle.xm_day.specs.declared.config.SecurityConfig.{SecurityConfig}

@@ -1,12 +1,11 @@
-use Rattle.std.proofs.Common.{◌≡◌, ◌∙◌, ℕ, List, All, Err, length, map, refl, ap, sym, subst}
+use Rattle.std.proofs.Common.{◌≡◌, ◌∙◌, List, All, Err, length, map, ap, sym, subst}
 use Rattle.std.specs.Io.KnownBytes.{Appends}
 use Rattle.xm_rules.specs.Served.{IsUntraded}
-use Rattle.xm_rules.specs.State.{State}
 use Rattle.xm_rules.specs.Step.{Journal, replay}
 use Rattle.xm_ticks.specs.Writing.{AppendsFront}
 use Rattle.xm_day.proofs.Days.{day-taken, lent_back, opened-untraded}
 use Rattle.xm_day.specs.Answers.{statement_of}
-use Rattle.xm_day.specs.Day.{Day, day, day_of}
+use Rattle.xm_day.specs.Day.{Day}
 use Rattle.xm_day.specs.Statement.{statement}
 use Rattle.xm_day.specs.declared.faults.DayFault.TheVariants.{WriteFailed}
 use Rattle.xm_day.proofs.day.run_orders.Goals as goal

@@ -1,4 +1,4 @@
-use Rattle.std.proofs.Common.{◌≡◌, ◌<◌, ◌+◌, ◌∙◌, ℕ, List, Some, None, All, length, set, slice_get, get_or, refl, ap, sym, subst, arith, rules}
+use Rattle.std.proofs.Common.{◌≡◌, ◌<◌, ◌+◌, ◌∙◌, List, Some, None, All, length, set, refl, ap, sym, subst, arith, rules}
 use Rattle.std.proofs.lemmas.List.{set-get_or}
 use Rattle.std.proofs.lemmas.List.Elements.{All-set}
 use Rattle.std.proofs.lemmas.Option.{slice_get_read}
@@ -8,7 +8,7 @@ use Rattle.xm_rules.specs.Served.{IsUntraded}
 use Rattle.xm_rules.specs.State.{State}
 use Rattle.xm_rules.specs.Step.{Journal, replay, step}
 use Rattle.xm_day.proofs.Days.{first_path-served, on_accepted, on_refused, on_unknown, replay-push, with_command}
-use Rattle.xm_day.specs.Day.{after_row, day_of}
+use Rattle.xm_day.specs.Day.{day_of}
 use Rattle.xm_day.proofs.desks.take_row.Goals as goal
 
 pub returns-then-index-desks-clause-taken : goal.returns-then-index-desks-clause-taken

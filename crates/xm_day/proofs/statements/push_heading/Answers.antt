@@ -1,4 +1,4 @@
-use Rattle.std.proofs.Common.{◌≡◌, ℕ, List, ◌++◌, append_assoc, ap, ◌∙◌}
+use Rattle.std.proofs.Common.{ℕ, List, ◌++◌, append_assoc, ap, ◌∙◌}
 use Rattle.xm_rules.specs.State.{ref1, ref2}
 use Rattle.xm_rules.specs.Step.{replay}
 use Rattle.xm_rules.specs.declared.phases.Phase.{Phase}

@@ -1,4 +1,4 @@
-use Rattle.std.proofs.Common.{◌≡◌, ◌<◌, ℕ, List, ◌++◌, append_assoc, length, map, take, arith, ap, sym, ◌∙◌}
+use Rattle.std.proofs.Common.{◌<◌, ℕ, List, ◌++◌, append_assoc, length, map, take, arith, ap, sym, ◌∙◌}
 use Rattle.xm_rules.specs.Step.{replay}
 use Rattle.xm_day.proofs.Lines.{securities-taken}
 use Rattle.xm_day.specs.Statement.{securities_text, security_text}

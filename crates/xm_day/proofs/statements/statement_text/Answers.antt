@@ -1,9 +1,9 @@
-use Rattle.std.proofs.Common.{◌≡◌, ℕ, List, ◌++◌, map, pos, ap, ◌∙◌}
+use Rattle.std.proofs.Common.{ℕ, List, ◌++◌, map, ap, ◌∙◌}
 use Rattle.std.specs.List.{flat_map}
 use Rattle.xm_rules.specs.Step.{replay}
 use Rattle.xm_rules.specs.declared.settings.DeskSettings.{DeskSettings}
 use Rattle.xm_day.proofs.Lines.{four_parts, member_lines-none, today_of-first}
-use Rattle.xm_day.specs.Statement.{cash_line, day_line, member_indices, member_line, rows_line, securities_text, today_of}
+use Rattle.xm_day.specs.Statement.{day_line, member_indices, member_line, rows_line, securities_text, today_of}
 use Rattle.xm_day.proofs.statements.statement_text.Goals as goal
 
 pub returns : goal.returns
