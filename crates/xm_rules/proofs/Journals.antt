@@ -4,11 +4,12 @@ use Rattle.std.proofs.lemmas.Bool.{and_parts}
 use Rattle.std.proofs.lemmas.Bool.Decides.{nat_tests}
 use Rattle.xm_rules.specs.Commands.{member_of}
 use Rattle.xm_rules.specs.Refusals.{Check, first_failing, refusal_of, own_checks, is_unknown_member, is_ended, entries_more, is_full}
-use Rattle.xm_rules.specs.State.{State}
-use Rattle.xm_rules.specs.Step.{step, replay_from, is_lawful_from}
+use Rattle.xm_rules.specs.State.{State, opening}
+use Rattle.xm_rules.specs.Step.{Journal, step, replay, replay_from, is_lawful, is_lawful_from}
 use Rattle.xm_rules.specs.declared.commands.Command.{Command}
 use Rattle.xm_rules.specs.declared.replies.Refusal.{Refusal}
 use Rattle.xm_rules.specs.declared.replies.Refusal.TheVariants.{UnknownMember, DayEnded, JournalFull}
+use Rattle.xm_rules.specs.declared.settings.DeskSettings.{DeskSettings}
 
 pub replay_from-push : (s : State) (cs : List Command) (c : Command) → replay_from s (cs ++ c ∷ []) ≡ step (replay_from s cs) c
 replay_from-push s [] c = refl
@@ -20,10 +21,34 @@ is_lawful_from-push s (d ∷ ds) c h r =
     let holds = and_parts (is_none (refusal_of s d)) (is_lawful_from (step s d) ds) h in
     rw holds.0 (is_lawful_from-push (step s d) ds c holds.1 r)
 
+-- a journal that is opened, and one that takes a command more
+abbrev pub journal_of : DeskSettings → List Command → Journal
+journal_of settings commands = record { settings = settings; commands = commands }
+
+pub replay-opening : (settings : DeskSettings) → replay (journal_of settings []) ≡ opening settings
+unfolding replay
+replay-opening settings = refl
+
+pub replay-push : (j : Journal) (c : Command) → replay (journal_of j.settings (j.commands ++ c ∷ [])) ≡ step (replay j) c
+unfolding replay
+replay-push j c = replay_from-push (opening j.settings) j.commands c
+
+pub is_lawful-opening : (settings : DeskSettings) → is_lawful (journal_of settings []) ≡ true
+unfolding is_lawful
+is_lawful-opening settings = refl
+
+pub is_lawful-push : (j : Journal) (c : Command) → is_lawful j ≡ true → refusal_of (replay j) c ≡ None → is_lawful (journal_of j.settings (j.commands ++ c ∷ [])) ≡ true
+unfolding replay is_lawful
+is_lawful-push j c h r = is_lawful_from-push (opening j.settings) j.commands c h r
+
 -- the number of accepted commands is that of the journal
+step-accepted : (s : State) (c : Command) → (step s c).accepted ≡ s.accepted + 1
+unfolding step
+step-accepted s c = refl
+
 pub replay_from-accepted : (s : State) (cs : List Command) → (replay_from s cs).accepted ≡ s.accepted + length cs
 replay_from-accepted s [] = omega arith
-replay_from-accepted s (c ∷ cs) = omega (arith, replay_from-accepted (step s c) cs)
+replay_from-accepted s (c ∷ cs) = omega (arith, step-accepted s c, replay_from-accepted (step s c) cs)
 
 fails_first : (fails : Bool) (own : Refusal) (rest more : Option Refusal) (refusal : Refusal) → (rest ≡ Some refusal → more ≡ Some refusal)
     → (if fails then Some own else rest) ≡ Some refusal → (if fails then Some own else more) ≡ Some refusal
@@ -54,6 +79,7 @@ room_within (Some member) = omega arith
 
 -- a journal that takes a command has fewer entries than its limit and 64
 pub accepted-below : (s : State) (c : Command) → refusal_of s c ≡ None → s.accepted < s.settings.limit + 64
+unfolding refusal_of
 accepted-below s c h =
     let fits = last_passes
     (record { fails = is_unknown_member s (member_of c); refusal = UnknownMember } ∷ record { fails = is_ended s.phase; refusal = DayEnded } ∷ own_checks s c)

@@ -2,7 +2,9 @@ pub mod Ahead
 pub mod Allotments
 pub mod Choices
 pub mod Journals
+pub mod KeptSettings
 pub mod LawfulJournals
+pub mod Memory
 pub mod Orderings
 pub mod Places
 pub mod Prices

@@ -1,5 +1,5 @@
 -- Orders: their names, their limits, and the trades between them.
-use Rattle.std.specs.Prelude.{ℕ, Bool, true, ◌&&◌, ◌==◌, Option, Some, None}
+use Rattle.std.specs.Prelude.{ℕ, Bool, true, ◌&&◌, ◌==◌, if◌then◌else◌, List, map, Option, Some, None}
 use Rattle.xm_rules.specs.Sides.{reaches}
 use Rattle.xm_rules.specs.declared.orders.Order.{Order}
 use Rattle.xm_rules.specs.declared.orders.OrderKind.{OrderKind}
@@ -13,6 +13,10 @@ use Rattle.xm_rules.specs.declared.orders.TradeKind.{TradeKind}
 -- an order or a stop is named by its member and the member's reference
 abbrev pub is_named : ℕ → ℕ → Order → Bool
 is_named member reference o = (o.member == member) && (o.reference == reference)
+
+-- a time list in which the order of this name has another rest, and keeps its place
+abbrev pub with_rest : ℕ → ℕ → ℕ → List Order → List Order
+with_rest member reference rest orders = map (λ (o : Order). if is_named member reference o then record o { rest = rest } else o) orders
 
 abbrev pub is_stop_named : ℕ → ℕ → Stop → Bool
 is_stop_named member reference s = (s.member == member) && (s.reference == reference)

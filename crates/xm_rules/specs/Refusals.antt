@@ -113,5 +113,5 @@ checks s command =
     ++ record { fails = is_full s (member_of command); refusal = JournalFull }
     ∷ []
 
-abbrev pub refusal_of : State → Command → Option Refusal
+unfoldable pub refusal_of : State → Command → Option Refusal
 refusal_of s command = first_failing (checks s command)

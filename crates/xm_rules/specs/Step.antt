@@ -3,7 +3,7 @@ use Rattle.std.specs.Prelude.{ℕ, ◌+◌, ◌==◌, Bool, true, false, ◌&&�
 use Rattle.xm_rules.specs.Allotment.{Uncrossing, auction_trades, orders_after}
 use Rattle.xm_rules.specs.Auction.{auction_price}
 use Rattle.xm_rules.specs.Commands.{order_kind, trigger_of, outlasts}
-use Rattle.xm_rules.specs.Orders.{is_named, is_stop_named}
+use Rattle.xm_rules.specs.Orders.{is_named, is_stop_named, with_rest}
 use Rattle.xm_rules.specs.Refusals.{refusal_of}
 use Rattle.xm_rules.specs.Settling.{come, swept, sweep_of, settle}
 use Rattle.xm_rules.specs.State.{State, opening, ref1, ranges, inside_both, inside_wide}
@@ -62,7 +62,7 @@ abbrev pub changed : State → ℕ → Option ℕ → Option Order → State
 changed s quantity limit None = s
 changed s quantity limit (Some o) =
     if same_limit limit o.kind && nat_le quantity o.rest
-    then record s { orders = map (λ (x : Order). if is_named o.member o.reference x then record x { rest = quantity } else x) s.orders }
+    then record s { orders = with_rest o.member o.reference quantity s.orders }
     else come (without s o.member o.reference) (record o { kind = changed_kind limit o.kind; rest = quantity })
 
 -- after a call comes post-trading, if it was the closing call, and else continuous trading
@@ -106,11 +106,11 @@ act s Uncross = uncrossed s s.phase
 act s EndDay = kept (λ (o : Order). outlasts s.settings.today o.validity) (λ (stop : Stop). outlasts s.settings.today stop.validity) (record s { phase = Ended })
 
 -- the state after an accepted command
-abbrev pub step : State → Command → State
+unfoldable pub step : State → Command → State
 step s command = let t = settle (act s command) [] in record t { accepted = s.accepted + 1 }
 
 -- the reply to a command that led from one state to the next
-abbrev pub reply : State → State → Reply
+unfoldable pub reply : State → State → Reply
 reply s t =
     let trades = drop (length s.trades) t.trades in
     record { version = t.accepted; first_trade = length s.trades; trades = length trades; quantity = total_quantity trades; money = total_money trades; phase = t.phase }
@@ -130,8 +130,8 @@ pub record Journal : Type 0 where
   pub settings : DeskSettings
   pub commands : List Command
 
-abbrev pub replay : Journal → State
+unfoldable pub replay : Journal → State
 replay j = replay_from (opening j.settings) j.commands
 
-abbrev pub is_lawful : Journal → Bool
+unfoldable pub is_lawful : Journal → Bool
 is_lawful j = is_lawful_from (opening j.settings) j.commands

@@ -1,4 +1,6 @@
 //! Changes, cancellations, validities and a journal's end.
+#![tactic(auto, unfolding(crate::specs::Refusals::refusal_of, crate::specs::Step::step, crate::specs::Step::reply, crate::specs::Step::replay, crate::specs::Step::is_lawful))]
+
 ghost use Rattle.std.specs.Prelude.{◌≡◌, [], ◌∷◌, ◌++◌, true, Some, None};
 ghost use Rattle.xm_rules.specs.Quote.{quote};
 ghost use Rattle.xm_rules.specs.Refusals.{refusal_of};
