@@ -1,19 +1,18 @@
 -- The commands that a desk serves today.
-use Rattle.std.specs.Prelude.{◌≡◌, Bool, true, false, not, []}
+use Rattle.std.specs.Prelude.{◌≡◌, Bool, true, false, ◌&&◌, not, []}
+use Rattle.xm_rules.specs.Commands.{is_stop, trigger_of}
 use Rattle.xm_rules.specs.Settling.{is_continuous}
 use Rattle.xm_rules.specs.State.{State}
 use Rattle.xm_rules.specs.declared.commands.Command.{Command}
-use Rattle.xm_rules.specs.declared.commands.Command.TheVariants.{Enter, Cancel, StartOpening}
-use Rattle.xm_rules.specs.declared.commands.Condition.TheVariants.{Plain}
-use Rattle.xm_rules.specs.declared.commands.Kind.TheVariants.{Limit}
-use Rattle.xm_rules.specs.declared.orders.Restriction.TheVariants.{Free}
-use Rattle.xm_rules.specs.declared.orders.Validity.TheVariants.{Day}
+use Rattle.xm_rules.specs.declared.commands.Command.TheVariants.{Enter, Change, Cancel, CancelAll, StartOpening}
 use Rattle.xm_rules.specs.declared.phases.Phase.{Phase}
 
--- limit orders for the day outside continuous trading, cancellations, and the start of the opening call
+-- orders, but no stops, and their changes outside continuous trading; cancellations; and the start of the opening call
 abbrev pub is_served : Phase → Command → Bool
-is_served phase (Enter member reference side (Limit p) quantity Day Free Plain) = not (is_continuous phase)
+is_served phase (Enter member reference side kind quantity validity restriction condition) = not (is_continuous phase) && not (is_stop (trigger_of kind))
+is_served phase (Change member reference quantity limit) = not (is_continuous phase)
 is_served phase (Cancel member reference) = true
+is_served phase (CancelAll member) = true
 is_served phase StartOpening = true
 is_served phase _ = false
 

@@ -1,6 +1,6 @@
 //! The commands of a trading day. Their numbers are raw: a refusal says which is out of range.
 ghost use Rattle.std.specs.Prelude.{◌≡◌};
-ghost use Rattle.xm_rules.specs.Commands.{member_of};
+ghost use Rattle.xm_rules.specs.Commands.{is_stop, member_of, trigger_of};
 ghost use Rattle.xm_rules.specs.Served.{is_served};
 
 use crate::orders::{Restriction, Side, Validity};
@@ -15,6 +15,18 @@ pub enum Kind {
     StopMarket(u32),
     /// A stop that becomes a limit order.
     StopLimit { trigger: u32, limit: u32 },
+}
+
+impl Kind {
+    /// Whether it is a stop.
+    pub fn is_stop(&self) -> bool
+        ensures { result ≡ is_stop (trigger_of self.now) }
+    {
+        match self {
+            Kind::Market | Kind::Limit(_) => false,
+            Kind::StopMarket(_) | Kind::StopLimit { .. } => true,
+        }
+    }
 }
 
 /// What becomes of the part of an order that isn't executed at once.
@@ -81,20 +93,15 @@ impl Command {
         }
     }
 
-    /// Whether a desk serves the command in this phase. Today it serves limit orders for the day
-    /// outside continuous trading, cancellations, and the start of the opening call.
+    /// Whether a desk serves the command in this phase. Today it serves orders, but no stops, and
+    /// their changes outside continuous trading, cancellations, and the start of the opening call.
     pub fn is_served(&self, phase: Phase) -> bool
         ensures { result ≡ is_served phase self.now }
     {
         match self {
-            Command::Enter {
-                kind: Kind::Limit(_),
-                validity: Validity::Day,
-                restriction: Restriction::Free,
-                condition: Condition::Plain,
-                ..
-            } => phase != Phase::Continuous,
-            Command::Cancel { .. } | Command::StartOpening => true,
+            Command::Enter { kind, .. } => phase != Phase::Continuous && !kind.is_stop(),
+            Command::Change { .. } => phase != Phase::Continuous,
+            Command::Cancel { .. } | Command::CancelAll { .. } | Command::StartOpening => true,
             _ => false,
         }
     }
