@@ -1,0 +1,31 @@
+-- The active orders of a side in order of priority.
+use Rattle.std.specs.Prelude.{ℕ, Bool, not, List, filter, find, Option, Some, None, option_map}
+use Rattle.std.specs.List.{list_any}
+use Rattle.xm_rules.specs.Active.{Placed, active}
+use Rattle.xm_rules.specs.Orders.{is_named}
+use Rattle.xm_rules.specs.Priority.{is_ahead}
+use Rattle.xm_rules.specs.declared.orders.Order.{Order}
+use Rattle.xm_rules.specs.declared.orders.Side.{Side}
+use Rattle.xm_rules.specs.declared.phases.Phase.{Phase}
+
+-- the order of a queue that has none ahead of it
+abbrev pub first : Side → List Placed → Option Placed
+first side queue = find (λ (j : Placed). not (list_any (λ (i : Placed). is_ahead side i j) queue)) queue
+
+-- the first of those that an order is ahead of
+abbrev pub first_behind : Side → List Placed → Option Placed → Option Placed
+first_behind side queue None = None
+first_behind side queue (Some i) = first side (filter (λ (j : Placed). is_ahead side i j) queue)
+
+abbrev pub order_at : Option Placed → Option Order
+order_at i = option_map (λ (i : Placed). i.order) i
+
+-- the best active order of a side
+abbrev pub best_order : Phase → Side → List Order → Option Order
+best_order phase side orders = order_at (first side (active phase side orders))
+
+-- the active order of a side that is next in priority after the one of this name
+abbrev pub next_order : Phase → Side → ℕ → ℕ → List Order → Option Order
+next_order phase side member reference orders =
+    let queue = active phase side orders in
+    order_at (first_behind side queue (find (λ (i : Placed). is_named member reference i.order) queue))

@@ -1,0 +1,47 @@
+-- What a caller sees of a book.
+use Rattle.std.specs.Prelude.{◌≡◌, ◌≤◌, ℕ, ◌+◌, Bool, true, false, ◌&&◌, ◌==◌, not, IsTrue, List, [], ◌∷◌, length, filter, map}
+use Rattle.std.specs.List.{list_any, list_all}
+use Rattle.xm_book.specs.Places.{SamePlaces, same_place}
+use Rattle.xm_book.specs.declared.places.Place.{Place}
+use Rattle.xm_rules.specs.Commands.{is_in_range}
+use Rattle.xm_rules.specs.Orders.{is_named}
+use Rattle.xm_rules.specs.declared.orders.Order.{Order}
+
+pub record TimeList : Type 0 where
+  -- the live orders in time order
+  pub orders : List Order
+  -- the places that are reserved, in no order
+  pub reserved : List Place
+  -- how many orders were added so far
+  pub adds : ℕ
+
+-- no two orders have one name
+abbrev pub have_own_names : List Order → Bool
+have_own_names [] = true
+have_own_names (o ∷ os) = not (list_any (is_named o.member o.reference) os) && have_own_names os
+
+-- what every book keeps: each order has a name of its own and a rest in range, and there are no more than 2,000,000 orders
+-- and reserved places together
+pub record IsBook (l : TimeList) : Type 0 where
+  pub names : IsTrue (have_own_names l.orders)
+  pub rests : IsTrue (list_all (λ (o : Order). is_in_range o.rest) l.orders)
+  pub within : length l.orders + length l.reserved ≤ 2000000
+
+abbrev pub is_reserved : Place → TimeList → Bool
+is_reserved place l = list_any (same_place place) l.reserved
+
+-- the second book is the first with one more reserved place
+pub record Reserves (place : Place) (old new : TimeList) : Type 0 where
+  pub rest : new ≡ record old { reserved = new.reserved }
+  pub places : SamePlaces new.reserved (place ∷ old.reserved)
+
+abbrev pub is_known : ℕ → ℕ → TimeList → Bool
+is_known member reference l = list_any (is_named member reference) l.orders
+
+-- the list without the order of this name
+abbrev pub removed : ℕ → ℕ → List Order → List Order
+removed member reference orders = filter (λ (o : Order). not (is_named member reference o)) orders
+
+-- the references of a member's orders, in time order
+abbrev pub references_of : ℕ → List Order → List ℕ
+references_of member orders = map (λ (o : Order). o.reference) (filter (λ (o : Order). o.member == member) orders)
