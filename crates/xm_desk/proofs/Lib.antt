@@ -1,0 +1,6 @@
+pub mod Cancelled
+pub mod Changed
+pub mod Lengths
+pub mod Named
+pub mod Passes
+pub mod Steps

@@ -10,6 +10,7 @@ use crate::market::Market;
 use crate::opening::{OpenFault, open_fault};
 use std::alloc::Allocator;
 use std::marker::Model;
+use xm_book::Book;
 use xm_rules::{Command, DeskSettings, Order, OutOfMemory, Phase, Refusal, Reply};
 use xm_ticks::Price;
 
@@ -23,6 +24,7 @@ pub struct Desk<A: Allocator> {
 
 impl<A: Allocator> Model for Desk<A> {
     ghost use Rattle.std.specs.Prelude.{◌≡◌, true};
+    ghost use Rattle.xm_rules.specs.Served.{IsUntraded};
     ghost use Rattle.xm_rules.specs.Step.{Journal, is_lawful, replay};
 
     ghost Value = { Journal };
@@ -32,6 +34,7 @@ impl<A: Allocator> Model for Desk<A> {
     ghost invariant = { λ d. record {
       replayed : d.market ≡ replay (record { settings = d.market.settings; commands = d.journal.items });
       lawful : is_lawful (record { settings = d.market.settings; commands = d.journal.items }) ≡ true;
+      untraded : IsUntraded d.market;
     } };
 }
 
@@ -54,18 +57,42 @@ impl<A: Allocator + Copy> Desk<A> {
                 settings,
                 accepted: 0,
                 phase: Phase::PreTrading,
-                orders: Vec::new(alloc),
+                book: Book::new(alloc),
             },
             journal: Vec::new(alloc),
         })
+    }
+
+    /// Takes a command into the journal and answers its reply. A refused one changes nothing.
+    pub fn apply(&mut self, command: Command) -> Result<Reply, Refusal>
+        requires { IsTrue (is_served (replay self.old).phase command) }
+        ensures accepted { OnOk result (refusal_of (replay self.old) command ≡ None) }
+        ensures journal { OnOk result (self.new ≡ record self.old { commands = self.old.commands ++ command ∷ [] }) }
+        ensures reply { IfOk result (λ answer. answer ≡ reply (replay self.old) (replay self.new)) }
+        ensures refused { IfErr result (λ refusal. refusal ≢ Refusal.OutOfMemory → refusal_of (replay self.old) command ≡ Some refusal) }
+        ensures memory { result ≡ Err Refusal.OutOfMemory → refusal_of (replay self.old) command ≡ None }
+        ensures kept { OnErr result (self.new ≡ self.old) }
+    {
+        if let Some(refusal) = self.market.refusal_of(&command) {
+            return Err(refusal);
+        }
+        if self.journal.reserve(1).is_err() {
+            return Err(Refusal::OutOfMemory);
+        }
+        match self.market.take(&command) {
+            Ok(reply) => {
+                self.journal.push_reserved(command);
+                Ok(reply)
+            }
+            Err(_) => Err(Refusal::OutOfMemory),
+        }
     }
 
     /// The live orders in time order.
     pub fn orders(&self) -> Result<Vec<Order, A>, OutOfMemory>
         ensures { IfOk result (λ orders. orders.items ≡ (replay self.now).orders) }
     {
-        let alloc = *self.journal.allocator();
-        Vec::from_slice(alloc, self.market.orders.as_slice()).map_err(|_| OutOfMemory)
+        self.market.book.orders()
     }
 }
 
@@ -112,30 +139,5 @@ impl<A: Allocator> Desk<A> {
         ensures { result ≡ refusal_of (replay self.now) command.now }
     {
         self.market.refusal_of(command)
-    }
-
-    /// Takes a command into the journal and answers its reply. A refused one changes nothing.
-    pub fn apply(&mut self, command: Command) -> Result<Reply, Refusal>
-        requires { IsTrue (is_served (replay self.old).phase command) }
-        ensures accepted { OnOk result (refusal_of (replay self.old) command ≡ None) }
-        ensures journal { OnOk result (self.new ≡ record self.old { commands = self.old.commands ++ command ∷ [] }) }
-        ensures reply { IfOk result (λ answer. answer ≡ reply (replay self.old) (replay self.new)) }
-        ensures refused { IfErr result (λ refusal. refusal ≢ Refusal.OutOfMemory → refusal_of (replay self.old) command ≡ Some refusal) }
-        ensures memory { result ≡ Err Refusal.OutOfMemory → refusal_of (replay self.old) command ≡ None }
-        ensures kept { OnErr result (self.new ≡ self.old) }
-    {
-        if let Some(refusal) = self.market.refusal_of(&command) {
-            return Err(refusal);
-        }
-        if self.journal.reserve(1).is_err() {
-            return Err(Refusal::OutOfMemory);
-        }
-        match self.market.take(&command) {
-            Ok(reply) => {
-                self.journal.push_reserved(command);
-                Ok(reply)
-            }
-            Err(_) => Err(Refusal::OutOfMemory),
-        }
     }
 }

@@ -1,6 +1,8 @@
 //! One security: its state is the replay of the commands that it accepted.
 #![tactic(auto)]
 
+mod changes;
+mod checks;
 mod desk;
 mod market;
 pub mod opening;

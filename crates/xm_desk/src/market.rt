@@ -1,18 +1,27 @@
-//! What the commands change, as a plain list of orders.
-ghost use Rattle.std.specs.Prelude.{◌≡◌, ◌++◌, ◌<◌, ◌≤◌, [], ◌^◌, IsTrue, None, OnErr, OnOk, filter, not};
-ghost use Rattle.std.specs.List.{list_any};
-ghost use Rattle.xm_rules.specs.Commands.{is_in_range};
+//! The state of a security, and how commands change it.
+ghost use Rattle.std.specs.Prelude.{◌≡◌, ◌+◌, ◌++◌, ◌∷◌, ◌<◌, [], IsTrue, None, Some, IfOk, OnErr, OnOk, false, find};
+ghost use Rattle.xm_desk.specs.Changes.{change_refusal, changed_orders, without_member};
+ghost use Rattle.xm_book.specs.TimeList.{removed};
+ghost use Rattle.xm_rules.specs.Commands.{has_prices_in_range, is_in_range, order_kind};
 ghost use Rattle.xm_rules.specs.Orders.{is_named};
-ghost use Rattle.xm_rules.specs.Refusals.{has_order, is_allowed, is_ended, is_full, is_unknown_member, refusal_of};
-ghost use Rattle.xm_rules.specs.Served.{is_served};
+ghost use Rattle.xm_rules.specs.Refusals.{first_failing, has_order, is_full, is_unknown_member, own_checks, refusal_of};
+ghost use Rattle.xm_rules.specs.Served.{IsUntraded, is_served};
 ghost use Rattle.xm_rules.specs.State.{ref1, ref2};
-ghost use Rattle.xm_rules.specs.Step.{step};
+ghost use Rattle.xm_rules.specs.Step.{reply, step};
+ghost use Rattle.xm_rules.specs.declared.phases.Auction.TheVariants.{Opening};
+ghost use Rattle.xm_rules.specs.declared.phases.CallStage.TheVariants.{Ordinary};
+ghost use Rattle.xm_rules.specs.declared.phases.Phase.TheVariants.{Call};
 
-use std::alloc::{AllocError, Allocator};
+use crate::changes::{cancel_all, change, join, refusal_of_change};
+use crate::checks::{
+    has_prices_in_range, is_bad_combination, is_given_in_range, is_immediate, is_in_range, is_over,
+};
+use std::alloc::Allocator;
 use std::marker::Model;
+use xm_book::Book;
 use xm_rules::{
-    Auction, CallStage, Command, Condition, DeskSettings, Kind, Order, OrderKind, Phase, Refusal,
-    Reply, Restriction, Validity,
+    Auction, CallStage, Command, DeskSettings, Kind, Order, OrderKind, OutOfMemory, Phase, Refusal,
+    Reply,
 };
 use xm_ticks::Price;
 
@@ -22,34 +31,35 @@ pub struct Market<A: Allocator> {
     pub settings: DeskSettings,
     pub accepted: u64,
     pub phase: Phase,
-    pub orders: Vec<Order, A>,
+    pub book: Book<A>,
 }
 
 impl<A: Allocator> Model for Market<A> {
-    ghost use Rattle.std.specs.Prelude.{[]};
+    ghost use Rattle.std.specs.Prelude.{◌≡◌, ◌≤◌, [], length};
     ghost use Rattle.xm_rules.specs.State.{State};
 
     ghost Value = { State };
 
-    ghost view = { λ c. record {
-      settings = c.settings;
-      accepted = c.accepted;
-      phase = c.phase;
-      orders = c.orders.items;
+    ghost view = { λ m. record {
+      settings = m.settings;
+      accepted = m.accepted;
+      phase = m.phase;
+      orders = m.book.orders;
       stops = [];
       trades = [];
       sweeps = 0;
     } };
 
-    ghost invariant = { λ c. Unit {0} };
+    ghost invariant = { λ m. record {
+      unreserved : m.book.reserved ≡ [];
+      adds : m.book.adds ≤ m.accepted;
+      few : length m.book.orders ≤ m.accepted;
+    } };
 }
 
 impl<A: Allocator> Market<A> {
-    ghost use Rattle.std.specs.Prelude.{IfOk};
-    ghost use Rattle.xm_rules.specs.Refusals.{first_failing, own_checks};
-    ghost use Rattle.xm_rules.specs.Step.{reply};
-
     /// Why a command is refused, memory aside.
+    #[tactic(auto, unfolding(xm_rules::specs::Refusals::refusal_of))]
     pub fn refusal_of(&self, command: &Command) -> Option<Refusal>
         requires { IsTrue (is_served self.now.phase command.now) }
         ensures { result ≡ refusal_of self.now command.now }
@@ -80,22 +90,34 @@ impl<A: Allocator> Market<A> {
                 member,
                 reference,
                 side: _,
-                kind: Kind::Limit(limit),
+                kind,
                 quantity,
-                validity: Validity::Day,
-                restriction: Restriction::Free,
-                condition: Condition::Plain,
+                validity,
+                restriction,
+                condition,
             } => {
                 if !is_in_range(*quantity) {
                     Some(Refusal::BadQuantity)
-                } else if !is_in_range(*limit) {
+                } else if !has_prices_in_range(*kind) {
                     Some(Refusal::BadPrice)
+                } else if is_over(self.settings.today, *validity) {
+                    Some(Refusal::BadValidity)
+                } else if is_bad_combination(*condition, *kind, *restriction) {
+                    Some(Refusal::BadCombination)
+                } else if is_immediate(*condition) && self.phase != Phase::Continuous {
+                    Some(Refusal::WrongPhase)
                 } else if self.has_order(*member, *reference) {
                     Some(Refusal::DuplicateReference)
                 } else {
                     None
                 }
             }
+            Command::Change {
+                member,
+                reference,
+                quantity,
+                limit,
+            } => refusal_of_change(self.book.find(*member, *reference), *quantity, *limit),
             Command::Cancel { member, reference } => {
                 if self.has_order(*member, *reference) {
                     None
@@ -103,6 +125,7 @@ impl<A: Allocator> Market<A> {
                     Some(Refusal::UnknownOrder)
                 }
             }
+            Command::CancelAll { member: _ } => None,
             Command::StartOpening => {
                 if self.phase == Phase::PreTrading {
                     None
@@ -114,6 +137,12 @@ impl<A: Allocator> Market<A> {
         }
     }
 
+    fn has_order(&self, member: u32, reference: u32) -> bool
+        ensures { result ≡ has_order self.now member reference }
+    {
+        self.book.find(member, reference).is_some()
+    }
+
     fn is_unknown_member(&self, member: Option<u32>) -> bool
         ensures { result ≡ is_unknown_member self.now member }
     {
@@ -121,12 +150,6 @@ impl<A: Allocator> Market<A> {
             Some(member) => self.settings.members <= member,
             None => false,
         }
-    }
-
-    fn has_order(&self, member: u32, reference: u32) -> bool
-        ensures { result ≡ has_order self.now member reference }
-    {
-        has_named(self.orders.as_slice(), member, reference)
     }
 
     fn is_full(&self, member: Option<u32>) -> bool
@@ -152,48 +175,21 @@ impl<A: Allocator> Market<A> {
     {
         self.settings.reference
     }
+}
 
+impl<A: Allocator + Copy> Market<A> {
     /// The step by a command that isn't refused, with its reply. Where a growth is refused,
     /// nothing changes.
-    pub fn take(&mut self, command: &Command) -> Result<Reply, AllocError>
+    #[tactic(auto, unfolding(xm_rules::specs::Step::reply))]
+    pub fn take(&mut self, command: &Command) -> Result<Reply, OutOfMemory>
+        requires untraded { IsUntraded self.old }
         requires served { IsTrue (is_served self.old.phase command.now) }
         requires lawful { refusal_of self.old command.now ≡ None }
         ensures ok { OnOk result (self.new ≡ step self.old command.now) }
         ensures reply { IfOk result (λ answer. answer ≡ reply self.old (step self.old command.now)) }
         ensures err { OnErr result (self.new ≡ self.old) }
-        ensures settings { self.new.settings ≡ self.old.settings }
     {
-        match command {
-            Command::Enter {
-                member,
-                reference,
-                side,
-                kind: Kind::Limit(limit),
-                quantity,
-                validity: Validity::Day,
-                restriction: Restriction::Free,
-                condition: Condition::Plain,
-            } => {
-                self.orders.reserve(1)?;
-                self.orders.push_reserved(Order {
-                    member: *member,
-                    reference: *reference,
-                    side: *side,
-                    kind: OrderKind::Limit(Price::new(*limit).unwrap()),
-                    rest: *quantity,
-                    validity: Validity::Day,
-                    restriction: Restriction::Free,
-                });
-            }
-            Command::Cancel { member, reference } => {
-                remove_named(&mut self.orders, *member, *reference);
-            }
-            Command::StartOpening => {
-                self.phase = Phase::Call(Auction::Opening, CallStage::Ordinary);
-            }
-            _ => unreachable!(),
-        }
-        self.accepted += 1;
+        self.act(command)?;
         Ok(Reply {
             version: self.accepted,
             first_trade: 0,
@@ -203,22 +199,120 @@ impl<A: Allocator> Market<A> {
             phase: self.phase,
         })
     }
+
+    fn act(&mut self, command: &Command) -> Result<(), OutOfMemory>
+        requires untraded { IsUntraded self.old }
+        requires served { IsTrue (is_served self.old.phase command.now) }
+        requires lawful { refusal_of self.old command.now ≡ None }
+        ensures ok { OnOk result (self.new ≡ step self.old command.now) }
+        ensures err { OnErr result (self.new ≡ self.old) }
+    {
+        match command {
+            Command::Enter {
+                member,
+                reference,
+                side,
+                kind,
+                quantity,
+                validity,
+                restriction,
+                condition: _,
+            } => self.enter(Order {
+                member: *member,
+                reference: *reference,
+                side: *side,
+                kind: order_kind(*kind),
+                rest: *quantity,
+                validity: *validity,
+                restriction: *restriction,
+            }),
+            Command::Change {
+                member,
+                reference,
+                quantity,
+                limit,
+            } => self.change(*member, *reference, *quantity, *limit),
+            Command::Cancel { member, reference } => {
+                self.cancel(*member, *reference);
+                Ok(())
+            }
+            Command::CancelAll { member } => self.cancel_all(*member),
+            Command::StartOpening => {
+                self.start_opening();
+                Ok(())
+            }
+            _ => unreachable!(),
+        }
+    }
+
+    fn enter(&mut self, order: Order) -> Result<(), OutOfMemory>
+        requires name { has_order self.old order.member order.reference ≡ false }
+        requires rest { IsTrue (is_in_range order.rest) }
+        requires room { self.old.accepted < self.old.settings.limit + 64 }
+        ensures ok { OnOk result (self.new ≡ record self.old { accepted = self.old.accepted + 1; orders = self.old.orders ++ order ∷ [] }) }
+        ensures err { OnErr result (self.new ≡ self.old) }
+    {
+        join(&mut self.book, order)?;
+        self.accepted += 1;
+        Ok(())
+    }
+
+    fn change(
+        &mut self,
+        member: u32,
+        reference: u32,
+        quantity: u32,
+        limit: Option<u32>,
+    ) -> Result<(), OutOfMemory>
+        requires passes { change_refusal quantity limit (find (is_named member reference) self.old.orders) ≡ None }
+        requires room { self.old.accepted < self.old.settings.limit + 64 }
+        ensures ok { OnOk result (self.new ≡ record self.old {
+          accepted = self.old.accepted + 1;
+          orders = changed_orders quantity limit (find (is_named member reference) self.old.orders) self.old.orders;
+        }) }
+        ensures err { OnErr result (self.new ≡ self.old) }
+    {
+        change(&mut self.book, member, reference, quantity, limit)?;
+        self.accepted += 1;
+        Ok(())
+    }
+
+    fn cancel(&mut self, member: u32, reference: u32)
+        requires room { self.old.accepted < self.old.settings.limit + 64 }
+        ensures { self.new ≡ record self.old { accepted = self.old.accepted + 1; orders = removed member reference self.old.orders } }
+    {
+        self.book.remove(member, reference);
+        self.accepted += 1;
+    }
+
+    fn cancel_all(&mut self, member: u32) -> Result<(), OutOfMemory>
+        requires room { self.old.accepted < self.old.settings.limit + 64 }
+        ensures ok { OnOk result (self.new ≡ record self.old { accepted = self.old.accepted + 1; orders = without_member member self.old.orders }) }
+        ensures err { OnErr result (self.new ≡ self.old) }
+    {
+        cancel_all(&mut self.book, member)?;
+        self.accepted += 1;
+        Ok(())
+    }
+
+    fn start_opening(&mut self)
+        requires room { self.old.accepted < self.old.settings.limit + 64 }
+        ensures { self.new ≡ record self.old { accepted = self.old.accepted + 1; phase = Call Opening Ordinary } }
+    {
+        self.phase = Phase::Call(Auction::Opening, CallStage::Ordinary);
+        self.accepted += 1;
+    }
 }
 
-fn is_in_range(number: u32) -> bool
-    ensures { result ≡ is_in_range number }
+/// The kind of the order that is entered, or that a stop becomes.
+fn order_kind(kind: Kind) -> OrderKind
+    requires { IsTrue (has_prices_in_range kind) }
+    ensures { result ≡ order_kind kind }
 {
-    1 <= number && number <= 1_000_000
-}
-
-fn has_named(orders: &[Order], member: u32, reference: u32) -> bool
-    ensures { result ≡ list_any (is_named member reference) orders.now }
-{
-    orders.iter().any(|order| order.member == member && order.reference == reference)
-}
-
-fn remove_named<A: Allocator>(orders: &mut Vec<Order, A>, member: u32, reference: u32)
-    ensures { orders.new.items ≡ filter (λ o. not (is_named member reference o)) orders.old.items }
-{
-    orders.retain(|order| !(order.member == member && order.reference == reference));
+    match kind {
+        Kind::Market | Kind::StopMarket(_) => OrderKind::Market,
+        Kind::Limit(limit) | Kind::StopLimit { trigger: _, limit } => {
+            OrderKind::Limit(Price::new(limit).unwrap())
+        }
+    }
 }

@@ -1,11 +1,12 @@
 use Rattle.std.proofs.Common.{◌≡◌, false, [], ◌∷◌, Some, rules, sym}
 use Rattle.xm_rules.proofs.Journals.{first_failing-append}
 use Rattle.xm_rules.specs.Commands.{member_of}
-use Rattle.xm_rules.specs.Refusals.{first_failing, own_checks, is_ended, is_full, is_unknown_member}
+use Rattle.xm_rules.specs.Refusals.{first_failing, own_checks, is_ended, is_full, is_unknown_member, refusal_of}
 use Rattle.xm_rules.specs.declared.replies.Refusal.TheVariants.{JournalFull}
 use Rattle.xm_desk.proofs.market.Market.refusal_of.Goals as goal
 
 pub returns-in-Some : goal.returns-in-Some
+unfolding refusal_of
 returns-in-Some g c =
     let s = c.args.self.now in
     let command = c.args.command.now in

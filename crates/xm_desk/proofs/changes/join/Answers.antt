@@ -1,0 +1,11 @@
+use Rattle.std.proofs.Common.{◌≡◌, rules, ap, sym, subst, List, length, [], ◌∷◌}
+use Rattle.xm_book.proofs.Reserving.{reserved-there, used-last}
+use Rattle.xm_book.specs.Places.{SamePlaces, place_of}
+use Rattle.xm_book.specs.TimeList.{Reserves}
+use Rattle.xm_book.specs.declared.places.Place.{Place}
+use Rattle.xm_desk.proofs.changes.join.Goals as goal
+
+pub add-requires-clause-reserved : goal.add-requires-clause-reserved
+add-requires-clause-reserved g c =
+    let reserves : Reserves (place_of c.args.order) c.args.book.now c.reserve_for.new.self = search rules in
+    search (rules, reserved-there _ _ _ reserves.places)

@@ -1,0 +1,93 @@
+use Rattle.std.proofs.Common.{◌≡◌, ◌∙◌, ◌+◌, ◌<◌, ◌&&◌, not, true, None, find, ap, sym, subst, refl, rules}
+use Rattle.std.proofs.lemmas.Bool.{and_parts}
+use Rattle.xm_desk.proofs.Passes.{change-passes, entry-passes, no_trigger}
+use Rattle.xm_desk.proofs.Steps.{step-cancelled, step-cancelled_all, step-changed, step-entered, step-opening}
+use Rattle.xm_rules.proofs.Journals.{accepted-below}
+use Rattle.xm_rules.proofs.Untraded.{entry-plain}
+use Rattle.xm_rules.specs.Commands.{is_stop, trigger_of}
+use Rattle.xm_rules.specs.Refusals.{refusal_of}
+use Rattle.xm_rules.specs.Served.{is_served}
+use Rattle.xm_rules.specs.Settling.{is_continuous}
+use Rattle.xm_rules.specs.State.{State}
+use Rattle.xm_rules.specs.Step.{step}
+use Rattle.xm_rules.specs.declared.commands.Command.{Command}
+use Rattle.xm_rules.specs.declared.commands.Command.TheVariants.{Enter, Change, Cancel, CancelAll, StartOpening}
+use Rattle.xm_rules.specs.declared.commands.Condition.{Condition}
+use Rattle.xm_desk.proofs.market.Market.act.Goals as goal
+
+pub order_kind-requires : goal.order_kind-requires
+order_kind-requires g c =
+    let e = c.in-Enter in
+    let passed = subst (λ (command : Command). refusal_of c.args.self.now command ≡ None) e.is c.requires.lawful in
+    let passes = entry-passes c.args.self.now e.member e.reference e.side e.kind e.quantity e.validity e.restriction e.condition passed in
+    search (rules, passes.prices)
+
+pub enter-requires-clause-name : goal.enter-requires-clause-name
+enter-requires-clause-name g c =
+    let e = c.in-Enter in
+    let passed = subst (λ (command : Command). refusal_of c.args.self.now command ≡ None) e.is c.requires.lawful in
+    (entry-passes c.args.self.now e.member e.reference e.side e.kind e.quantity e.validity e.restriction e.condition passed).fresh
+
+pub enter-requires-clause-rest : goal.enter-requires-clause-rest
+enter-requires-clause-rest g c =
+    let e = c.in-Enter in
+    let passed = subst (λ (command : Command). refusal_of c.args.self.now command ≡ None) e.is c.requires.lawful in
+    let passes = entry-passes c.args.self.now e.member e.reference e.side e.kind e.quantity e.validity e.restriction e.condition passed in
+    search (rules, passes.quantity)
+
+pub enter-requires-clause-room : goal.enter-requires-clause-room
+enter-requires-clause-room g c = accepted-below c.args.self.now c.args.command.now c.requires.lawful
+
+pub change-requires-clause-passes : goal.change-requires-clause-passes
+change-requires-clause-passes g c =
+    let e = c.in-Change in
+    let passed = subst (λ (command : Command). refusal_of c.args.self.now command ≡ None) e.is c.requires.lawful in
+    change-passes c.args.self.now e.member e.reference e.quantity e.limit c.requires.untraded.stops passed
+
+pub change-requires-clause-room : goal.change-requires-clause-room
+change-requires-clause-room g c = accepted-below c.args.self.now c.args.command.now c.requires.lawful
+
+pub cancel-requires : goal.cancel-requires
+cancel-requires g c = record { room = accepted-below c.args.self.now c.args.command.now c.requires.lawful }
+
+pub cancel_all-requires : goal.cancel_all-requires
+cancel_all-requires g c = record { room = accepted-below c.args.self.now c.args.command.now c.requires.lawful }
+
+pub start_opening-requires : goal.start_opening-requires
+start_opening-requires g c = record { room = accepted-below c.args.self.now c.args.command.now c.requires.lawful }
+
+pub returns-in-Enter-clause-ok : goal.returns-in-Enter-clause-ok
+returns-in-Enter-clause-ok g c =
+    let s = c.args.self.now in
+    let e = c.in-Enter in
+    let passed = subst (λ (command : Command). refusal_of s command ≡ None) e.is c.requires.lawful in
+    let plain = entry-plain s e.member e.reference e.side e.kind e.quantity e.validity e.restriction e.condition passed c.requires.untraded.before in
+    let served : (not (is_continuous s.phase) && not (is_stop (trigger_of e.kind))) ≡ true = search rules in
+    let no_stop = no_trigger (trigger_of e.kind) (and_parts (not (is_continuous s.phase)) (not (is_stop (trigger_of e.kind))) served).1 in
+    let stepped = ap (step s) e.is
+    ∙ ap (λ (condition : Condition). step s (Enter e.member e.reference e.side e.kind e.quantity e.validity e.restriction condition)) plain
+    ∙ step-entered s e.member e.reference e.side e.kind e.quantity e.validity e.restriction no_stop c.requires.untraded in
+    search (rules, stepped)
+
+pub returns-in-Change-clause-ok : goal.returns-in-Change-clause-ok
+returns-in-Change-clause-ok g c =
+    let s = c.args.self.now in
+    let e = c.in-Change in
+    let stepped = ap (step s) e.is ∙ step-changed s e.member e.reference e.quantity e.limit c.requires.untraded in
+    search (rules, stepped)
+
+pub returns-in-Cancel-clause-ok : goal.returns-in-Cancel-clause-ok
+returns-in-Cancel-clause-ok g c =
+    let s = c.args.self.now in
+    c.cancel.ensures ∙ sym (ap (step s) c.in-Cancel.is ∙ step-cancelled s c.in-Cancel.member c.in-Cancel.reference c.requires.untraded)
+
+pub returns-in-CancelAll-clause-ok : goal.returns-in-CancelAll-clause-ok
+returns-in-CancelAll-clause-ok g c =
+    let s = c.args.self.now in
+    let stepped = ap (step s) c.in-CancelAll.is ∙ step-cancelled_all s c.in-CancelAll.member c.requires.untraded in
+    search (rules, stepped)
+
+pub returns-in-StartOpening-clause-ok : goal.returns-in-StartOpening-clause-ok
+returns-in-StartOpening-clause-ok g c =
+    let s = c.args.self.now in
+    c.start_opening.ensures ∙ sym (ap (step s) c.in-StartOpening.is ∙ step-opening s c.requires.untraded)

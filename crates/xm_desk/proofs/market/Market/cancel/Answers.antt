@@ -1,0 +1,17 @@
+use Rattle.std.proofs.Common.{◌∙◌, ap, length, not, arith}
+use Rattle.xm_desk.proofs.Lengths.{filter-shorter}
+use Rattle.xm_book.specs.TimeList.{TimeList}
+use Rattle.xm_rules.specs.Orders.{is_named}
+use Rattle.xm_rules.specs.declared.orders.Order.{Order}
+use Rattle.xm_desk.proofs.market.Market.cancel.Goals as goal
+
+pub invariant_of-self : goal.invariant_of-self
+invariant_of-self g c =
+    let orders = c.self.inside.book.orders in
+    let left = ap (λ (l : TimeList). length l.orders) c.remove.ensures.left in
+    let fewer = filter-shorter (λ (o : Order). not (is_named c.args.member c.args.reference o)) orders in
+    record {
+      unreserved = ap (λ (l : TimeList). l.reserved) c.remove.ensures.left ∙ c.self.invariant.unreserved;
+      adds = omega (arith, ap (λ (l : TimeList). l.adds) c.remove.ensures.left, c.self.invariant.adds);
+      few = omega (arith, left, fewer, c.self.invariant.few);
+    }
