@@ -1,12 +1,12 @@
 -- The day of desks that take rows.
-use Rattle.std.proofs.Common.{◌≡◌, ℕ, ◌+◌, ◌<◌, ◌≤◌, true, List, [], ◌∷◌, ◌++◌, length, map, slice_get, set, get_or, take, drop, suc, All, arith, Some, None, option_map, refl, ap, sym, ◌∙◌}
+use Rattle.std.proofs.Common.{◌≡◌, ℕ, ◌+◌, ◌<◌, ◌≤◌, true, List, [], ◌∷◌, ◌++◌, length, map, slice_get, set, get_or, take, drop, suc, All, arith, Some, None, option_map, refl, ap, sym, subst, ◌∙◌}
 use Rattle.std.proofs.Math.Seq.{drop-cons, take-length}
 use Rattle.std.proofs.Math.ListN.{drop_of_length-le}
 use Rattle.std.proofs.lemmas.List.{append-nil, map-set}
 use Rattle.std.proofs.lemmas.List.Elements.{All-cons, All-nil}
 use Rattle.std.proofs.lemmas.Option.{slice_get-map, slice_get_past}
 use Rattle.xm_rules.proofs.Untraded.{opening-untraded}
-use Rattle.xm_rules.proofs.Journals.{replay_from-push}
+use Rattle.xm_rules.proofs.Journals.{replay-opening, replay-push}
 use Rattle.xm_rules.specs.Refusals.{refusal_of}
 use Rattle.xm_rules.specs.Served.{is_served, IsUntraded}
 use Rattle.xm_rules.specs.State.{State, opening}
@@ -44,9 +44,6 @@ first_path-served s _ h u = cc
 abbrev pub with_command : Journal → Command → Journal
 with_command j c = record j { commands = j.commands ++ c ∷ [] }
 
-pub replay-push : (j : Journal) (c : Command) → replay (with_command j c) ≡ step (replay j) c
-replay-push j c = replay_from-push (opening j.settings) j.commands c
-
 pub on_unknown : (js : List Journal) (row : Row) (a r : ℕ) → length js ≤ row.security → after_row (day_of js a r) row ≡ day_of js a (r + 1)
 on_unknown js row a r past =
     let none : slice_get (map replay js) row.security ≡ None = slice_get-map replay js row.security ∙ ap (option_map replay) (slice_get_past js row.security past) in
@@ -78,13 +75,17 @@ rows-step desks new rows i d a r a' r' whole within step goes_on =
 -- the desks of a segment begin its day
 pub opened-day : (config : SegmentConfig) (securities : List SecurityConfig) → map replay (map (journal_of config) securities) ≡ map (λ (security : SecurityConfig). opening (settings_of config security)) securities
 opened-day config [] = refl
-opened-day config (security ∷ more) = ap (λ (ss : List State). opening (settings_of config security) ∷ ss) (opened-day config more)
+opened-day config (security ∷ more) =
+    ap (λ (s : State). s ∷ map replay (map (journal_of config) more)) (replay-opening (settings_of config security))
+    ∙ ap (λ (ss : List State). opening (settings_of config security) ∷ ss) (opened-day config more)
 
 -- before any row the desks have traded nothing
 pub opened-untraded : (config : SegmentConfig) (securities : List SecurityConfig) → All (λ (j : Journal). IsUntraded (replay j)) (map (journal_of config) securities)
 opened-untraded config [] = All-nil (λ (j : Journal). IsUntraded (replay j))
 opened-untraded config (security ∷ more) =
-    All-cons (λ (j : Journal). IsUntraded (replay j)) (journal_of config security) (map (journal_of config) more) (opening-untraded (settings_of config security)) (opened-untraded config more)
+    let Untraded : State → Type 0 = λ s. IsUntraded s in
+    let first = subst Untraded (sym (replay-opening (settings_of config security))) (opening-untraded (settings_of config security)) in
+    All-cons (λ (j : Journal). IsUntraded (replay j)) (journal_of config security) (map (journal_of config) more) first (opened-untraded config more)
 
 -- a slice that was lent whole comes back whole
 pub lent_back : {X : Type 0} (new old : List X) (n : ℕ) → length new ≡ length old → n ≡ length old → take n (new ++ drop (length new) old) ≡ new

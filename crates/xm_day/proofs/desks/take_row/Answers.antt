@@ -1,15 +1,24 @@
-use Rattle.std.proofs.Common.{◌≡◌, ◌<◌, ◌+◌, ◌∙◌, List, Some, None, All, length, set, refl, ap, sym, subst, arith, rules}
+use Rattle.std.proofs.Common.{◌≡◌, ◌<◌, ◌+◌, ◌∙◌, List, Some, None, All, length, set, get_or, refl, ap, sym, subst, arith, rules}
 use Rattle.std.proofs.lemmas.List.{set-get_or}
 use Rattle.std.proofs.lemmas.List.Elements.{All-set}
 use Rattle.std.proofs.lemmas.Option.{slice_get_read}
+use Rattle.xm_rules.proofs.Journals.{replay-push}
 use Rattle.xm_rules.proofs.Untraded.{step-untraded}
 use Rattle.xm_rules.specs.Refusals.{refusal_of}
 use Rattle.xm_rules.specs.Served.{IsUntraded}
 use Rattle.xm_rules.specs.State.{State}
 use Rattle.xm_rules.specs.Step.{Journal, replay, step}
-use Rattle.xm_day.proofs.Days.{first_path-served, on_accepted, on_refused, on_unknown, replay-push, with_command}
+use Rattle.xm_day.proofs.Days.{first_path-served, on_accepted, on_refused, on_unknown, with_command}
 use Rattle.xm_day.specs.Day.{day_of}
 use Rattle.xm_day.proofs.desks.take_row.Goals as goal
+
+pub apply-requires : goal.apply-requires
+apply-requires g c =
+    let desks = c.args.desks.now in
+    let row = c.args.row.now in
+    let within : row.security < length desks = omega arith in
+    let served = first_path-served (replay (get_or desks row.security c.index-desks-index.result)) row.command c.requires.served (c.requires.untraded row.security c.index-desks-index.result within) in
+    search (rules, served)
 
 pub returns-then-index-desks-clause-taken : goal.returns-then-index-desks-clause-taken
 returns-then-index-desks-clause-taken g c = on_unknown c.args.desks.now c.args.row.now c.args.report.accepted c.args.report.refused c.if-index-desks.true
@@ -37,7 +46,8 @@ returns-in-Ok-clause-untraded g c =
     let Untraded : Journal → Type 0 = λ j. IsUntraded (replay j) in
     let before : IsUntraded (replay desk) = subst Untraded (sym c.index-desks-index.is) (c.requires.untraded row.security desk within) in
     let served = first_path-served (replay desk) row.command c.requires.served before in
-    let after : IsUntraded (step (replay desk) row.command) = step-untraded (replay desk) row.command served before in
+    let passes : refusal_of (replay desk) row.command ≡ None = search rules in
+    let after : IsUntraded (step (replay desk) row.command) = step-untraded (replay desk) row.command served passes before in
     let IsBefore : State → Type 0 = λ s. IsUntraded s in
     All-set Untraded desks row.security c.apply.new.self (subst Untraded (sym journal) (subst IsBefore (sym (replay-push desk row.command)) after)) c.requires.untraded
 
