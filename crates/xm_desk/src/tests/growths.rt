@@ -28,8 +28,6 @@ fn each_growth_refused_in_turn(rt: HostRuntime) -> Result<(), Fail> {
         cancel(0, 1),
         buy(0, 2, 990, 7),
         change(1, 1, 6, None),
-        buy(0, 3, 980, 1),
-        change(0, 2, 7, Some(985)),
         Command::CancelAll { member: 0 },
         buy(0, 2, 990, 7),
     ];
