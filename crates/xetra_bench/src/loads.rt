@@ -1,0 +1,111 @@
+//! The load of a desk: orders that are entered on both sides, and then cancelled in another order.
+ghost use Rattle.std.specs.Prelude.{◌<◌, ◌≤◌};
+
+use std::alloc::Global;
+use xm_desk::Desk;
+use xm_rules::{Command, Condition, DeskSettings, Kind, Restriction, Side, Validity, Widths};
+use xm_ticks::{JournalLimit, Price, TickSize};
+
+/// The load did not run as it should, or could not be told.
+#[derive(Clone, Copy, Debug)]
+pub struct LoadFault;
+
+/// A part of a load.
+#[derive(Clone, Copy, Debug)]
+pub enum Part {
+    Enter,
+    Cancel,
+}
+
+impl Part {
+    pub fn name(self) -> &'static str {
+        match self {
+            Part::Enter => "enter",
+            Part::Cancel => "cancel",
+        }
+    }
+
+    /// The command of a part at this place in it.
+    fn command(self, place: u32, orders: u32) -> Command
+        requires some { 0 < orders }
+        requires few { orders ≤ 1000000 }
+    {
+        match self {
+            Part::Enter => entry(place),
+            Part::Cancel => Command::Cancel {
+                member: 0,
+                reference: mixed(place, orders),
+            },
+        }
+    }
+}
+
+/// A desk without orders, of one member.
+pub fn open(alloc: Global) -> Result<Desk<Global>, LoadFault> {
+    let settings = match (
+        TickSize::new(100),
+        Price::new(1000),
+        JournalLimit::new(1_000_000),
+    ) {
+        (Some(tick), Some(reference), Some(limit)) => DeskSettings {
+            today: 20260105,
+            members: 1,
+            tick,
+            reference,
+            widths: Widths {
+                dynamic: 20,
+                statics: 50,
+                wide: 40,
+            },
+            limit,
+        },
+        _ => return Err(LoadFault),
+    };
+    Desk::open(alloc, settings).map_err(|_| LoadFault)
+}
+
+/// Gives the desk each command of a part, and answers how many it accepted.
+pub fn give(desk: &mut Desk<Global>, part: Part, orders: u32) -> Result<u32, LoadFault> {
+    if orders == 0 || orders > 1_000_000 {
+        return Err(LoadFault);
+    }
+    let mut accepted = 0;
+    for place in 0..orders {
+        let command = part.command(place, orders);
+        if !command.is_served(desk.phase()) {
+            return Err(LoadFault);
+        }
+        if desk.apply(command).is_ok() {
+            accepted += 1;
+        }
+    }
+    Ok(accepted)
+}
+
+/// An entry: the orders lie on both sides, at 100 limits of each.
+fn entry(place: u32) -> Command {
+    let step = place % 100;
+    let (side, limit) = if place % 2 == 0 {
+        (Side::Buy, 999 - step)
+    } else {
+        (Side::Sell, 1001 + step)
+    };
+    Command::Enter {
+        member: 0,
+        reference: place,
+        side,
+        kind: Kind::Limit(limit),
+        quantity: 10,
+        validity: Validity::Day,
+        restriction: Restriction::Free,
+        condition: Condition::Plain,
+    }
+}
+
+/// A place in another order: each one of `orders`, if that has no factor in common with the step.
+fn mixed(place: u32, orders: u32) -> u32
+    requires some { 0 < orders }
+    requires few { orders ≤ 1000000 }
+{
+    (u64::from(place) * 7919 % u64::from(orders)) as u32
+}

@@ -1,0 +1,79 @@
+//! `xetra_bench`: loads of commands on one desk. Alone it runs small ones and prints what they did;
+//! with the word `measure` it runs large ones and prints the nanoseconds that a command took.
+#![tactic(auto)]
+
+mod loads;
+
+use crate::loads::{LoadFault, Part, give, open};
+use std::env;
+use std::process::ExitCode;
+use std::rt::{Clock, Env};
+use std::time::Instant;
+
+/// How many orders a load enters and cancels: where the commands are counted, and where they are
+/// measured.
+const COUNTED: u32 = 200;
+
+const MEASURED: u32 = 100_000;
+
+fn main(rt: HostRuntime) -> ExitCode {
+    match run(&rt) {
+        Ok(()) => ExitCode::SUCCESS,
+        Err(LoadFault) => ExitCode::FAILURE,
+    }
+}
+
+fn run<R: Env + AllocGlobal + Print + Clock>(rt: &R) -> Result<(), LoadFault> {
+    if is_measured(rt)? {
+        measure(rt, MEASURED)
+    } else {
+        count(rt, COUNTED)
+    }
+}
+
+/// Whether one of the words of the command line is `measure`.
+fn is_measured<R: Env + AllocGlobal>(rt: &R) -> Result<bool, LoadFault> {
+    let words: Result<Vec<String>, _> = match env::args(rt) {
+        Ok(words) => words.collect(rt.alloc()),
+        Err(_) => return Err(LoadFault),
+    };
+    match words {
+        Ok(words) => Ok(words.iter().any(|word| word.as_str() == "measure")),
+        Err(_) => Err(LoadFault),
+    }
+}
+
+/// Prints how many commands of each part of a load were accepted, and how many orders it left.
+fn count<R: AllocGlobal + Print>(rt: &R, orders: u32) -> Result<(), LoadFault> {
+    let mut desk = open(rt.alloc())?;
+    for part in [Part::Enter, Part::Cancel] {
+        let accepted = give(&mut desk, part, orders)?;
+        let left = desk.orders().map_err(|_| LoadFault)?.len();
+        println!(rt;
+            "{} {orders} orders: {accepted} accepted, {left} left",
+            part.name()
+        )
+        .map_err(|_| LoadFault)?;
+    }
+    Ok(())
+}
+
+/// Prints the nanoseconds that a command of each part of a load took.
+fn measure<R: AllocGlobal + Print + Clock>(rt: &R, orders: u32) -> Result<(), LoadFault> {
+    let mut desk = open(rt.alloc())?;
+    for part in [Part::Enter, Part::Cancel] {
+        let start = Instant::now(rt).map_err(|_| LoadFault)?;
+        give(&mut desk, part, orders)?;
+        let taken = start.elapsed(rt).map_err(|_| LoadFault)?;
+        let nanoseconds = taken
+            .as_nanos()
+            .checked_div(u128::from(orders))
+            .ok_or(LoadFault)?;
+        println!(rt;
+            "{} {orders} orders: {nanoseconds} ns a command",
+            part.name()
+        )
+        .map_err(|_| LoadFault)?;
+    }
+    Ok(())
+}
