@@ -1,5 +1,5 @@
 //! The load of a desk: orders that are entered on both sides, and then cancelled in another order.
-ghost use Rattle.std.specs.Prelude.{◌<◌, ◌≤◌};
+ghost use Rattle.std.specs.Prelude.{◌<◌, ◌≤◌, IfOk};
 
 use std::alloc::Global;
 use xm_desk::Desk;
@@ -65,8 +65,10 @@ pub fn open(alloc: Global) -> Result<Desk<Global>, LoadFault> {
 }
 
 /// Gives the desk each command of a part, and answers how many it accepted.
-pub fn give(desk: &mut Desk<Global>, part: Part, orders: u32) -> Result<u32, LoadFault> {
-    if orders == 0 || orders > 1_000_000 {
+pub fn give(desk: &mut Desk<Global>, part: Part, orders: u32) -> Result<u32, LoadFault>
+    ensures { IfOk result (λ accepted. accepted ≤ orders) }
+{
+    if orders > 1_000_000 {
         return Err(LoadFault);
     }
     let mut accepted = 0;
