@@ -92,23 +92,28 @@ lie-push entries new xs x all none u =
     (All-weaker (Lies entries) (Lies new) (λ y l. u.others y.key (λ e. some_none (get entries y.key) (entry_of y) l (ap (get entries) e ∙ none)) ∙ l) xs all)
     u.changed
 
--- ---- an order leaves
-abbrev pub others : ℕ → ℕ → Listed → Bool
-others member reference z = not (has_name member reference z)
+-- ---- orders leave
+-- those stay whose orders pass a test
+abbrev pub keeps : (Order → Bool) → Listed → Bool
+keeps test z = test z.order
 
-pub removed-map : (member reference : ℕ) (xs : List Listed) → map order_of (filter (others member reference) xs) ≡ removed member reference (map order_of xs)
-removed-map member reference [] = refl
-removed-map member reference (x ∷ xs) = kept_if (others member reference x) (removed-map member reference xs)
+abbrev pub others : ℕ → ℕ → Listed → Bool
+others member reference = keeps (λ (o : Order). not (is_named member reference o))
+
+abbrev pub of_others : ℕ → Listed → Bool
+of_others member = keeps (λ (o : Order). not (o.member == member))
+
+pub map-filter : {X Y : Type 0} (f : X → Y) (p : X → Bool) (q : Y → Bool) (xs : List X) → All (λ x. p x ≡ q (f x)) xs → map f (filter p xs) ≡ filter q (map f xs)
+map-filter f p q [] h = refl
+map-filter {X} f p q (x ∷ xs) h =
+    kept_if (p x) (map-filter f p q xs (All-tail (λ x. p x ≡ q (f x)) x xs h)) ∙ ap (λ b. if b then f x ∷ filter q (map f xs) else filter q (map f xs)) (All-head (λ x. p x ≡ q (f x)) x xs h)
   where
-    kept_if : (b : Bool) → map order_of (filter (others member reference) xs) ≡ removed member reference (map order_of xs)
-        → map order_of (if b then x ∷ filter (others member reference) xs else filter (others member reference) xs) ≡ (if b then x.order ∷ removed member reference (map order_of xs) else removed member reference (map order_of xs))
-    kept_if true rest = ap (λ os. x.order ∷ os) rest
+    kept_if : (b : Bool) → map f (filter p xs) ≡ filter q (map f xs) → map f (if b then x ∷ filter p xs else filter p xs) ≡ (if b then f x ∷ filter q (map f xs) else filter q (map f xs))
+    kept_if true rest = ap (λ ys. f x ∷ ys) rest
     kept_if false rest = rest
 
-filter-same : {X : Type 0} (p q : X → Bool) (xs : List X) → All (λ x. p x ≡ q x) xs → filter p xs ≡ filter q xs
-filter-same p q [] h = refl
-filter-same p q (x ∷ xs) h =
-    (λ i. if All-head (λ x. p x ≡ q x) x xs h i then x ∷ filter-same p q xs (All-tail (λ x. p x ≡ q x) x xs h) i else filter-same p q xs (All-tail (λ x. p x ≡ q x) x xs h) i)
+pub orders-kept : (test : Order → Bool) (xs : List Listed) → map order_of (filter (keeps test) xs) ≡ filter test (map order_of xs)
+orders-kept test xs = map-filter order_of (keeps test) test xs (λ k d lt. refl)
 
 same_tests : (s t : Bool) → (s ≡ true → t ≡ true) → (t ≡ true → s ≡ true) → s ≡ t
 same_tests true t h k = sym (h refl)
@@ -117,11 +122,11 @@ same_tests false false h k = refl
 
 -- it is the one of its time
 pub others-timed : (member reference : ℕ) (entries : Slab Entry) (xs : List Listed) (x : Listed) → StandsAlone member reference entries xs x
-    → filter (others member reference) xs ≡ filter (λ (z : Listed). not (z.time == x.time)) xs
+    → All (λ (z : Listed). others member reference z ≡ not (z.time == x.time)) xs
 others-timed member reference entries xs x s =
-    filter-same (others member reference) (λ (z : Listed). not (z.time == x.time)) xs (λ k d lt. ap not (same_tests (has_name member reference (get_or xs k d)) ((get_or xs k d).time == x.time)
+    λ k d lt. ap not (same_tests (has_name member reference (get_or xs k d)) ((get_or xs k d).time == x.time)
     (λ t. eq-eqb (get_or xs k d).time x.time (ap (λ (z : Listed). z.time) (s.named k d lt t)))
-    (λ t. ap (has_name member reference) (s.timed k d lt (eqb-true (get_or xs k d).time x.time t)) ∙ s.is)))
+    (λ t. ap (has_name member reference) (s.timed k d lt (eqb-true (get_or xs k d).time x.time t)) ∙ s.is))
 
 pub rises-kept : (p : Listed → Bool) (l : ℕ) (xs : List Listed) (high : ℕ) → rises l xs high ≡ true → rises l (filter p xs) high ≡ true
 rises-kept p l [] high h = h
@@ -162,49 +167,53 @@ rests-kept q p (o ∷ os) h = kept_if (p o) (left-true (q o) (list_all q os) h) 
 pub length-kept : {X : Type 0} (p : X → Bool) (xs : List X) → length (filter p xs) ≤ length xs
 length-kept p xs = omega (arith, length-filter p xs, count_by-le-length p xs)
 
+pub find-filter : {X : Type 0} (p q : X → Bool) (b : Bool) → ((x : X) → q x ≡ true → p x ≡ b) → (xs : List X) → find q (filter p xs) ≡ (if b then find q xs else None)
+find-filter p q true h [] = refl
+find-filter p q false h [] = refl
+find-filter {X} p q b h (x ∷ xs) = found_if b (q x) (p x) refl refl (h x) (find-filter p q b h xs)
+  where
+    found_if : (b c d : Bool) → q x ≡ c → p x ≡ d → (q x ≡ true → p x ≡ b) → find q (filter p xs) ≡ (if b then find q xs else None) → find q (filter p (x ∷ xs)) ≡ (if b then find q (x ∷ xs) else None)
+    found_if true true true ec ed h rest = rw (ed, ec) refl
+    found_if false true false ec ed h rest = rw ed rest
+    found_if true true false ec ed h rest = absurd (false≢true (sym ed ∙ h ec))
+    found_if false true true ec ed h rest = absurd (false≢true (sym (h ec) ∙ ed))
+    found_if b false true ec ed h rest = rw (ed, ec) rest
+    found_if b false false ec ed h rest = rw (ed, ec) rest
+
 abbrev pub key_in : Option Listed → Option ℕ
 key_in o = option_map (λ (x : Listed). x.key) o
 
+-- the key of a name, where all orders of that name stay or all leave
+pub key_of-kept : (p : Listed → Bool) (b : Bool) (member reference : ℕ) → ((x : Listed) → has_name member reference x ≡ true → p x ≡ b) → (xs : List Listed)
+    → key_of member reference (filter p xs) ≡ (if b then key_of member reference xs else None)
+key_of-kept p b member reference h xs = ap key_in (find-filter p (has_name member reference) b h xs) ∙ key_if b
+  where
+    key_if : (b : Bool) → key_in (if b then find (has_name member reference) xs else None) ≡ (if b then key_of member reference xs else None)
+    key_if true = refl
+    key_if false = refl
+
 pub key_of-others : (m r member reference : ℕ) (xs : List Listed) → key_of member reference (filter (others m r) xs) ≡ (if pair_eq (m, r) (member, reference) then None else key_of member reference xs)
-key_of-others m r member reference [] = no_key_if (pair_eq (m, r) (member, reference))
+key_of-others m r member reference xs =
+    key_of-kept (others m r) (not (pair_eq (m, r) (member, reference))) member reference
+    (λ x e. (let is = has_name-is member reference x e in (λ i. not ((is.0 i == m) && (is.1 i == r))) ∙ (λ i. not (same_test member m i && same_test reference r i)))) xs
+    ∙ turned (pair_eq (m, r) (member, reference))
   where
-    no_key_if : (b : Bool) → ◌≡◌ {A = Option ℕ} None (if b then None else None)
-    no_key_if true = refl
-    no_key_if false = refl
-key_of-others m r member reference (y ∷ xs) =
-    key_if (has_name m r y) refl (key_of-others m r member reference xs)
+    turned : (b : Bool) → (if not b then key_of member reference xs else None) ≡ (if b then None else key_of member reference xs)
+    turned true = refl
+    turned false = refl
+
+pub lie-kept : (p : Listed → Bool) (entries new : Slab Entry) (xs : List Listed) → All (Lies entries) xs → All (λ (z : Listed). p z ≡ true → Lies entries z → Lies new z) xs → All (Lies new) (filter p xs)
+lie-kept p entries new xs all stay =
+    both (filter p xs) (filter_passes p xs) (All-filter p (λ (z : Listed). p z ≡ true → Lies new z) xs (λ k d lt t. stay k d lt t (all k d lt)))
   where
-    gone_if : (b : Bool) → pair_eq (m, r) (member, reference) ≡ b → has_name m r y ≡ true → key_of member reference (filter (others m r) xs) ≡ (if b then None else key_of member reference xs)
-        → key_of member reference (filter (others m r) xs) ≡ (if b then None else key_in (if has_name member reference y then Some y else find (has_name member reference) xs))
-    gone_if true e t rest = rest
-    gone_if false e t rest =
-        let is = has_name-is m r y t in
-        let other : has_name member reference y ≡ false = (λ i. (is.0 i == member) && (is.1 i == reference)) ∙ e in
-        rest ∙ sym (ap (λ b. key_in (if b then Some y else find (has_name member reference) xs)) other)
-
-    there_if : (b : Bool) → has_name member reference y ≡ b → has_name m r y ≡ false → key_of member reference (filter (others m r) xs) ≡ (if pair_eq (m, r) (member, reference) then None else key_of member reference xs)
-        → key_in (if b then Some y else find (has_name member reference) (filter (others m r) xs)) ≡ (if pair_eq (m, r) (member, reference) then None else key_in (if b then Some y else find (has_name member reference) xs))
-    there_if true e t rest =
-        let is = has_name-is member reference y e in
-        let other : pair_eq (m, r) (member, reference) ≡ false = (λ i. same_test m member i && same_test r reference i) ∙ (λ i. (sym is.0 i == m) && (sym is.1 i == r)) ∙ t in
-        sym (ap (λ b. if b then None else Some y.key) other)
-    there_if false e t rest = rest
-
-    key_if : (b : Bool) → has_name m r y ≡ b → key_of member reference (filter (others m r) xs) ≡ (if pair_eq (m, r) (member, reference) then None else key_of member reference xs)
-        → key_in (find (has_name member reference) (if not b then y ∷ filter (others m r) xs else filter (others m r) xs))
-        ≡ (if pair_eq (m, r) (member, reference) then None else key_in (if has_name member reference y then Some y else find (has_name member reference) xs))
-    key_if true e rest = gone_if (pair_eq (m, r) (member, reference)) refl e rest
-    key_if false e rest = there_if (has_name member reference y) refl e rest
+    both : (zs : List Listed) → All (λ z. p z ≡ true) zs → All (λ z. p z ≡ true → Lies new z) zs → All (Lies new) zs
+    both zs t h k d lt = h k d lt (t k d lt)
 
 pub lie-others : (member reference : ℕ) (entries new : Slab Entry) (xs : List Listed) (x : Listed) → StandsAlone member reference entries xs x → All (Lies entries) xs → Updates entries new x.key None
     → All (Lies new) (filter (others member reference) xs)
 lie-others member reference entries new xs x s all u =
-    let stay : All (λ (z : Listed). others member reference z ≡ true → Lies new z) xs =
-    λ k d lt t. u.others (get_or xs k d).key (λ e. false≢true (sym (not-true (has_name member reference (get_or xs k d)) t) ∙ ap (has_name member reference) (s.keyed k d lt e) ∙ s.is)) ∙ all k d lt in
-    both (filter (others member reference) xs) (filter_passes (others member reference) xs) (All-filter (others member reference) (λ (z : Listed). others member reference z ≡ true → Lies new z) xs stay)
-  where
-    both : (zs : List Listed) → All (λ z. others member reference z ≡ true) zs → All (λ z. others member reference z ≡ true → Lies new z) zs → All (Lies new) zs
-    both zs p h k d lt = h k d lt (p k d lt)
+    lie-kept (others member reference) entries new xs all
+    (λ k d lt t l. u.others (get_or xs k d).key (λ e. false≢true (sym (not-true (has_name member reference (get_or xs k d)) t) ∙ ap (has_name member reference) (s.keyed k d lt e) ∙ s.is)) ∙ l)
 
 pub keep-all : {X : Type 0} (p : X → Bool) (xs : List X) → All (λ x. p x ≡ false) xs → filter (λ x. not (p x)) xs ≡ xs
 keep-all p [] h = refl

@@ -1,19 +1,21 @@
 -- The parts of a book still hold its orders and places, as these change.
-use Rattle.std.proofs.Common.{◌≡◌, ◌≢◌, ℕ, ◌+◌, ◌-◌, ◌<◌, ◌≤◌, Bool, true, false, not, ◌||◌, ◌==◌, if◌then◌else◌, List, [], ◌∷◌, ◌++◌, length, get_or, map, filter, find, set, Contains, count_by, is_some, Vec, vec_len, Option, Some, None, option_map, inl, inr, refl, sym, ap, ◌∙◌, subst, arith}
+use Rattle.std.proofs.Common.{◌≡◌, ℕ, ◌+◌, ◌-◌, ◌<◌, ◌≤◌, Bool, true, false, not, ◌||◌, ◌==◌, if◌then◌else◌, List, [], ◌∷◌, ◌++◌, length, get_or, map, filter, find, set, Contains, count_by, is_some, Vec, vec_len, Option, Some, None, option_map, inl, inr, refl, sym, ap, ◌∙◌, subst, arith}
 use Rattle.std.specs.List.{All, list_all, list_any, remove}
 use Rattle.std.specs.List.Sorted.{IsPartitionPoint, IsPartitionedBy}
 use Rattle.std.specs.Prelude.{nat_le}
+use Rattle.std.specs.Option.{option_map_or}
 use Rattle.std.specs.Vec.{vec_capacity}
 use Rattle.std.specs.Map.{lookup}
 use Rattle.std.proofs.lemmas.Bool.{cases_lt, eqb-true, false≢true, leb-true}
 use Rattle.std.proofs.lemmas.Bool.Decides.{nat_tests}
 use Rattle.std.proofs.lemmas.List.{get_or-set_other, get_or-set_same, get_or_past, length-append, length-map, map-append}
 use Rattle.std.proofs.lemmas.List.Elements.{All-cons, All-contains, All-head, All-nil, All-tail, All-weaker}
+use Rattle.std.proofs.lemmas.Map.Entries.{lookup-filter-keys}
 use Rattle.std.proofs.lemmas.List.Sums.{count_by-le-length, sum_by-set}
 use Rattle.slab.specs.Slab.{Slab, get, slab_len, HasRoomFor, Updates, with_value}
 use Rattle.indexmap.specs.IndexMap as index
 use Rattle.xm_book.specs.Counted.{Gains}
-use Rattle.xm_book.specs.Layout.{IsLaidOut, Lies, entry_of, has_name, is_before, is_of, listing, pair_eq, queue_for, queue_of, stamp_of, with_queue}
+use Rattle.xm_book.specs.Layout.{IsLaidOut, Lies, entry_of, has_name, is_before, is_of, is_of_another, key_of, listing, pair_eq, queue_for, queue_of, stamp_of, unless_of, with_queue}
 use Rattle.xm_book.specs.Places.{place_of, same_place}
 use Rattle.xm_book.specs.Ranks.{Listed, QueueView, has_time, insert_rank, order_of, precedes, rank_of, ranked}
 use Rattle.xm_book.specs.TimeList.{have_own_names}
@@ -22,11 +24,12 @@ use Rattle.xm_book.specs.declared.book.Stamp.{Stamp}
 use Rattle.xm_book.specs.declared.places.Place.{Place}
 use Rattle.xm_book.specs.declared.queue.Rank.{Rank}
 use Rattle.xm_book.specs.declared.queues.Queues.{Queues}
-use Rattle.xm_book.proofs.Changes.{index-is, keep-all, key_of-others, key_of-push, length-kept, lie-others, lie-push, lie-reduced, others, others-timed, own_names-kept, own_names-push, own_names-reduced, parted, reduced, reduced-key, reduced-map, reduced-rank, reduced-rises, reduced-stamps, removed-map, rests-kept, rests-push, rests-reduced, rises-kept, rises-push, some_none, stamps-others}
+use Rattle.xm_book.proofs.Changes.{index-is, keep-all, keeps, key_of-kept, key_of-others, key_of-push, length-kept, lie-kept, lie-others, lie-push, lie-reduced, map-filter, of_others, orders-kept, others, others-timed, own_names-kept, own_names-push, own_names-reduced, parted, reduced, reduced-key, reduced-map, reduced-rank, reduced-rises, reduced-stamps, rests-kept, rests-push, rests-reduced, rises-kept, rises-push, some_none, stamps-others}
 use Rattle.xm_book.proofs.Counted.{Gains-length, count-all, count_one, weight}
-use Rattle.xm_book.proofs.Listings.{StandsAlone, all-each, any-map, find-map, found, keyed-at, listing-is, no_key, none-found, some-found, some-is, stands_alone}
-use Rattle.xm_book.proofs.Ranks.{ranked-contains, ranked-length, ranked-map, ranked-push, ranked-without}
-use Rattle.xm_book.proofs.Sameness.{right-true, same_place-is}
+use Rattle.xm_book.proofs.Listings.{StandsAlone, all-each, any-map, find-map, found, has_name-is, keyed-at, listing-is, no_key, none-found, some-found, some-is, stands_alone}
+use Rattle.xm_book.proofs.Ranks.{ranked-contains, ranked-length, ranked-map, ranked-push, ranked-filter}
+use Rattle.xm_book.proofs.Retained.{count-unless, get-unless}
+use Rattle.xm_book.proofs.Sameness.{left-true, right-true, same_place-is}
 use Rattle.xm_rules.specs.Commands.{is_in_range}
 use Rattle.xm_rules.specs.Orders.{is_named}
 use Rattle.xm_rules.specs.Sides.{same_side}
@@ -354,7 +357,79 @@ in_range rest low high = grind (arith, nat_tests)
 range-high : (rest : ℕ) → is_in_range rest ≡ true → rest ≤ 1000000
 range-high rest h = leb-true rest 1000000 (right-true (nat_le 1 rest) (nat_le rest 1000000) h)
 
--- ---- an order leaves
+-- ---- orders leave
+-- the parts hold what passes a test
+kept : {A S : Type 0} (xs : List Listed) (ps : List Place) (entries : Slab Entry) (stamps : Vec Stamp A) (queues : Queues A) (names : index.IndexMap (ℕ × ℕ) ℕ S) (adds : ℕ) → IsLaidOut xs ps entries stamps queues names adds
+    → (test : Order → Bool) → (new : Slab Entry) → All (Lies new) (filter (keeps test) xs) → slab_len new ≤ slab_len entries → new.capacity ≡ entries.capacity
+    → (fewer : Vec Stamp A) → fewer.items ≡ map stamp_of (filter (keeps test) xs) → vec_len fewer ≤ vec_len stamps → vec_capacity fewer ≡ vec_capacity stamps
+    → (queues' : Queues A) → ((s : Side) → queue_of s queues' ≡ queue_for s (filter (keeps test) xs) ps)
+    → (index' : index.IndexMap (ℕ × ℕ) ℕ S) → ((member reference : ℕ) → index.get pair_eq index' (member, reference) ≡ key_of member reference (filter (keeps test) xs)) → index.spare names ≤ index.spare index'
+    → IsLaidOut (filter (keeps test) xs) ps new fewer queues' index' adds
+kept xs ps entries stamps queues names adds h test new lie len cap fewer items count wide queues' queued index' named room =
+    let view = orders-kept test xs in
+    record {
+      stamped = items;
+      lie = lie;
+      rise = rises-kept (keeps test) 0 xs adds h.rise;
+      queued = queued;
+      named = named;
+      entries_room = omega (arith, h.entries_room);
+      stamps_room = omega (arith, h.stamps_room);
+      names_room = omega (arith, h.names_room);
+      sound = record {
+        names = ap have_own_names view ∙ own_names-kept test (map order_of xs) h.sound.names;
+        rests = ap (list_all (λ (o : Order). is_in_range o.rest)) view ∙ rests-kept (λ (o : Order). is_in_range o.rest) test (map order_of xs) h.sound.rests;
+        within = omega (arith, h.sound.within, length-map xs order_of, length-map (filter (keeps test) xs) order_of, length-kept (keeps test) xs);
+      };
+    }
+
+-- the ranks of the orders of other members
+abbrev pub retained : ℕ → Slab Entry → QueueView → QueueView
+retained member entries q = record { side = q.side; ranks = filter (λ (r : Rank). is_of_another member entries r.key) q.ranks; reserved = q.reserved }
+
+module _ {A S : Type 0} (xs : List Listed) (ps : List Place) (entries : Slab Entry) (stamps : Vec Stamp A) (queues : Queues A) (names : index.IndexMap (ℕ × ℕ) ℕ S) (adds : ℕ)
+    (h : IsLaidOut xs ps entries stamps queues names adds) (member : ℕ) where
+  -- an order's member is told by its key
+  known : All (λ (x : Listed). of_others member x ≡ is_of_another member entries x.key) xs
+  known = All-weaker (Lies entries) (λ (x : Listed). of_others member x ≡ is_of_another member entries x.key) (λ x l. sym (ap (λ (o : Option Entry). option_map_or (λ (e : Entry). not (e.order.member == member)) o false) l)) xs h.lie
+
+  queued-retained : (new : Queues A) → new.buys ≡ retained member entries queues.buys → new.sells ≡ retained member entries queues.sells → (s : Side) → queue_of s new ≡ queue_for s (filter (of_others member) xs) ps
+  queued-retained new buys sells s =
+      each s ∙ ap (retained member entries) (h.queued s)
+      ∙ (λ i. record { side = s; ranks = sym (ranked-filter s (of_others member) (λ (r : Rank). is_of_another member entries r.key) xs adds h.rise known) i; reserved = count_by (is_of s) ps })
+    where
+      each : (s : Side) → queue_of s new ≡ retained member entries (queue_of s queues)
+      each Buy = buys
+      each Sell = sells
+
+  named-retained : (index' : index.IndexMap (ℕ × ℕ) ℕ S) → index'.entries ≡ filter (λ (e : (ℕ × ℕ) × ℕ). not (e.0.0 == member)) names.entries
+      → (m r : ℕ) → index.get pair_eq index' (m, r) ≡ key_of m r (filter (of_others member) xs)
+  named-retained index' same m r =
+      ap (lookup (pair_eq (m, r))) same
+      ∙ lookup-filter-keys (pair_eq (m, r)) (λ (k : ℕ × ℕ). not (k.0 == member)) (not (m == member)) (λ k e. ap (λ (n : ℕ). not (n == member)) (sym (eqb-true m k.0 (left-true (m == k.0) (r == k.1) e)))) names.entries
+      ∙ ap (λ (o : Option ℕ). if not (m == member) then o else None) (h.named m r)
+      ∙ sym (key_of-kept (of_others member) (not (m == member)) m r (λ x e. ap (λ (n : ℕ). not (n == member)) (has_name-is m r x e).0) xs)
+
+  lie-retained : (new : Slab Entry) → new.slots ≡ map (unless_of member) entries.slots → All (Lies new) (filter (of_others member) xs)
+  lie-retained new slots =
+      lie-kept (of_others member) entries new xs h.lie
+      (λ k d lt t l. (let z = get_or xs k d in
+      ap (λ os. get_or os z.key None) slots ∙ get-unless member entries.slots z.key ∙ ap (unless_of member) l ∙ ap (λ (b : Bool). if b then Some (entry_of z) else None) t))
+
+  -- all orders of a member leave
+  pub all_taken_out : (new : Slab Entry) → new.slots ≡ map (unless_of member) entries.slots → new.capacity ≡ entries.capacity
+      → (fewer : Vec Stamp A) → fewer.items ≡ filter (λ (s : Stamp). is_of_another member entries s.key) stamps.items → vec_len fewer ≤ vec_len stamps → vec_capacity fewer ≡ vec_capacity stamps
+      → (queues' : Queues A) → queues'.buys ≡ retained member entries queues.buys → queues'.sells ≡ retained member entries queues.sells
+      → (index' : index.IndexMap (ℕ × ℕ) ℕ S) → index'.entries ≡ filter (λ (e : (ℕ × ℕ) × ℕ). not (e.0.0 == member)) names.entries → index.spare names ≤ index.spare index'
+      → IsLaidOut (filter (of_others member) xs) ps new fewer queues' index' adds
+  all_taken_out new slots cap fewer items count wide queues' buys sells index' pairs room =
+      let test = λ (s : Stamp). is_of_another member entries s.key in
+      kept xs ps entries stamps queues names adds h (λ (o : Order). not (o.member == member)) new (lie-retained new slots)
+      (omega (arith, ap (count_by is_some) slots, count-unless member entries.slots)) cap
+      fewer (items ∙ ap (filter test) h.stamped ∙ sym (map-filter stamp_of (of_others member) test xs known)) count wide
+      queues' (queued-retained queues' buys sells) index' (named-retained index' pairs) room
+
+-- ---- the order of a name leaves
 module _ {A S : Type 0} (xs : List Listed) (ps : List Place) (entries : Slab Entry) (stamps : Vec Stamp A) (queues : Queues A) (names : index.IndexMap (ℕ × ℕ) ℕ S) (adds : ℕ)
     (h : IsLaidOut xs ps entries stamps queues names adds) (member reference key : ℕ) (n : NamedAt member reference key xs entries) where
   -- its entry is that of its stamp and of its rank
@@ -396,7 +471,7 @@ module _ {A S : Type 0} (xs : List Listed) (ps : List Place) (entries : Slab Ent
       let side = n.listed.order.side in
       let q = queue_of side queues in
       let own = h.queued side in
-      let gone = λ (s : Side). sym (ranked-without s xs adds n.listed.time h.rise) ∙ ap (ranked s) (sym (others-timed member reference entries xs n.listed n.alone)) in
+      let gone = λ (s : Side). sym (ranked-filter s (others member reference) (λ (r : Rank). not (has_time n.listed.time r)) xs adds h.rise (others-timed member reference entries xs n.listed n.alone)) in
       let r : QueueView = record { side = q.side; ranks = filter (λ (r : Rank). not (has_time n.listed.time r)) q.ranks; reserved = q.reserved } in
       queued-with (filter (others member reference) xs) ps queues r side
       (λ i. record { side = (own i).side; ranks = ((λ j. filter (λ (r : Rank). not (has_time n.listed.time r)) (own j).ranks) ∙ gone side) i; reserved = (own i).reserved })
@@ -409,23 +484,11 @@ module _ {A S : Type 0} (xs : List Listed) (ps : List Place) (entries : Slab Ent
       → (index' : index.IndexMap (ℕ × ℕ) ℕ S) → ((k : ℕ × ℕ) → index.get pair_eq index' k ≡ (if pair_eq (member, reference) k then None else index.get pair_eq names k)) → index.spare names ≤ index.spare index'
       → IsLaidOut (filter (others member reference) xs) ps new fewer (with_queue n.listed.order.side queues q) index' adds
   taken_out new update len cap i point fewer items count wide q same index' pairs room =
-      let view = removed-map member reference xs in
-      let test = λ (o : Order). not (is_named member reference o) in
-      record {
-        stamped = items ∙ (λ j. remove (h.stamped j) (stamp-index i point j)) ∙ stamps-others member reference entries xs adds n.listed h.rise n.alone;
-        lie = lie-others member reference entries new xs n.listed n.alone h.lie (subst (λ k. Updates entries new k None) (sym n.key_is) update);
-        rise = rises-kept (others member reference) 0 xs adds h.rise;
-        queued = λ s. ap (λ (r : QueueView). queue_of s (with_queue n.listed.order.side queues r)) same ∙ queued-removed s;
-        named = λ m r. pairs (m, r) ∙ ap (λ (o : Option ℕ). if pair_eq (member, reference) (m, r) then None else o) (h.named m r) ∙ sym (key_of-others member reference m r xs);
-        entries_room = omega (arith, h.entries_room);
-        stamps_room = omega (arith, h.stamps_room);
-        names_room = omega (arith, h.names_room);
-        sound = record {
-          names = ap have_own_names view ∙ own_names-kept test (map order_of xs) h.sound.names;
-          rests = ap (list_all (λ (o : Order). is_in_range o.rest)) view ∙ rests-kept (λ (o : Order). is_in_range o.rest) test (map order_of xs) h.sound.rests;
-          within = omega (arith, h.sound.within, length-map xs order_of, length-map (filter (others member reference) xs) order_of, length-kept (others member reference) xs);
-        };
-      }
+      kept xs ps entries stamps queues names adds h (λ (o : Order). not (is_named member reference o)) new
+      (lie-others member reference entries new xs n.listed n.alone h.lie (subst (λ k. Updates entries new k None) (sym n.key_is) update)) (omega arith) cap
+      fewer (items ∙ (λ j. remove (h.stamped j) (stamp-index i point j)) ∙ stamps-others member reference entries xs adds n.listed h.rise n.alone) (omega arith) wide
+      (with_queue n.listed.order.side queues q) (λ s. ap (λ (r : QueueView). queue_of s (with_queue n.listed.order.side queues r)) same ∙ queued-removed s)
+      index' (λ m r. pairs (m, r) ∙ ap (λ (o : Option ℕ). if pair_eq (member, reference) (m, r) then None else o) (h.named m r) ∙ sym (key_of-others member reference m r xs)) room
 
   -- ---- an order is reduced
   entry-within : key < length entries.slots

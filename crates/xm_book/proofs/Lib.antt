@@ -16,5 +16,6 @@ pub mod Priorities
 pub mod Ranks
 pub mod Reserving
 pub mod Restrictions
+pub mod Retained
 pub mod Sameness
 pub mod Sorted

@@ -1,8 +1,9 @@
 -- The queue of a side, as the time list changes.
-use Rattle.std.proofs.Common.{◌≡◌, ℕ, suc, ◌+◌, ◌<◌, ◌≤◌, Bool, true, false, not, if◌then◌else◌, ◌==◌, List, [], ◌∷◌, ◌++◌, length, map, filter, Contains, refl, sym, ap, subst, ◌∙◌, ◌⊎◌, inl, inr, arith}
-use Rattle.std.specs.List.{list_any}
+use Rattle.std.proofs.Common.{◌≡◌, ℕ, suc, ◌+◌, ◌<◌, ◌≤◌, Bool, true, false, if◌then◌else◌, List, [], ◌∷◌, ◌++◌, length, map, filter, Contains, refl, sym, ap, subst, ◌∙◌, ◌⊎◌, inl, inr, arith}
+use Rattle.std.specs.List.{All, list_any}
 use Rattle.std.specs.Prelude.{nat_le}
 use Rattle.std.proofs.lemmas.Bool.{and_parts, ne_eqb, leb-true}
+use Rattle.std.proofs.lemmas.List.Elements.{All-head, All-tail}
 use Rattle.xm_book.specs.Ranks.{Listed, rises, rank_of, insert_rank, ranked, has_time}
 use Rattle.xm_book.specs.declared.queue.Rank.{Rank}
 use Rattle.xm_rules.specs.Sides.{same_side}
@@ -135,28 +136,28 @@ ranked_sorted side low (x ∷ xs) high h =
     sorted_side side x (ranked side xs) (same_side side x.order.side) (no_time side (x.time + 1) xs high x.time parts.1 (λ b. let w = b.no_lower in omega arith))
     (ranked_sorted side (x.time + 1) xs high parts.1)
 
-without_if : (side : Side) (time : ℕ) (x : Listed) (ranks : List Rank) (others : List Listed) (s k : Bool) → same_side side x.order.side ≡ s → not (x.time == time) ≡ k
-    → is_sorted side ranks ≡ true → ranked side others ≡ filter (λ (r : Rank). not (has_time time r)) ranks
-    → ranked side (if k then x ∷ others else others) ≡ filter (λ (r : Rank). not (has_time time r)) (if s then insert_rank side (rank_of x) ranks else ranks)
-without_if side time x ranks others true true es ek sorted e =
-    rw es (ap (insert_rank side (rank_of x)) e ∙ sym (inserted_kept side (λ (r : Rank). not (has_time time r)) (rank_of x) ranks ek sorted))
-without_if side time x ranks others true false es ek sorted e =
-    e ∙ sym (inserted_dropped side (λ (r : Rank). not (has_time time r)) (rank_of x) ranks ek)
-without_if side time x ranks others false true es ek sorted e = rw es e
-without_if side time x ranks others false false es ek sorted e = e
+kept_if : (side : Side) (test : Rank → Bool) (x : Listed) (ranks : List Rank) (kept : List Listed) (s k : Bool) → same_side side x.order.side ≡ s → test (rank_of x) ≡ k
+    → is_sorted side ranks ≡ true → ranked side kept ≡ filter test ranks
+    → ranked side (if k then x ∷ kept else kept) ≡ filter test (if s then insert_rank side (rank_of x) ranks else ranks)
+kept_if side test x ranks kept true true es ek sorted e = rw es (ap (insert_rank side (rank_of x)) e ∙ sym (inserted_kept side test (rank_of x) ranks ek sorted))
+kept_if side test x ranks kept true false es ek sorted e = e ∙ sym (inserted_dropped side test (rank_of x) ranks ek)
+kept_if side test x ranks kept false true es ek sorted e = rw es e
+kept_if side test x ranks kept false false es ek sorted e = e
 
-without : (side : Side) (low : ℕ) (xs : List Listed) (high time : ℕ) → rises low xs high ≡ true
-    → ranked side (filter (λ (x : Listed). not (x.time == time)) xs) ≡ filter (λ (r : Rank). not (has_time time r)) (ranked side xs)
-without side low [] high time h = refl
-without side low (x ∷ xs) high time h =
+kept_from : (side : Side) (keeps : Listed → Bool) (test : Rank → Bool) (low : ℕ) (xs : List Listed) (high : ℕ) → rises low xs high ≡ true → All (λ (x : Listed). keeps x ≡ test (rank_of x)) xs
+    → ranked side (filter keeps xs) ≡ filter test (ranked side xs)
+kept_from side keeps test low [] high h same = refl
+kept_from side keeps test low (x ∷ xs) high h same =
+    let P : Listed → Type 0 = λ (x : Listed). keeps x ≡ test (rank_of x) in
     let parts = and_parts (nat_le low x.time) (rises (x.time + 1) xs high) h in
-    without_if side time x (ranked side xs) (filter (λ (y : Listed). not (y.time == time)) xs) (same_side side x.order.side) (not (x.time == time)) refl refl
-    (ranked_sorted side (x.time + 1) xs high parts.1) (without side (x.time + 1) xs high time parts.1)
+    ap (λ (b : Bool). ranked side (if b then x ∷ filter keeps xs else filter keeps xs)) (All-head P x xs same)
+    ∙ kept_if side test x (ranked side xs) (filter keeps xs) (same_side side x.order.side) (test (rank_of x)) refl refl
+    (ranked_sorted side (x.time + 1) xs high parts.1) (kept_from side keeps test (x.time + 1) xs high parts.1 (All-tail P x xs same))
 
--- one that leaves the list leaves the queue
-pub ranked-without : (side : Side) (xs : List Listed) (high time : ℕ) → rises 0 xs high ≡ true
-    → ranked side (filter (λ (x : Listed). not (x.time == time)) xs) ≡ filter (λ (r : Rank). not (has_time time r)) (ranked side xs)
-ranked-without side xs high time h = without side 0 xs high time h
+-- those that leave the list leave the queue
+pub ranked-filter : (side : Side) (keeps : Listed → Bool) (test : Rank → Bool) (xs : List Listed) (high : ℕ) → rises 0 xs high ≡ true → All (λ (x : Listed). keeps x ≡ test (rank_of x)) xs
+    → ranked side (filter keeps xs) ≡ filter test (ranked side xs)
+ranked-filter side keeps test xs high h same = kept_from side keeps test 0 xs high h same
 
 length_side : (side : Side) (r : Rank) (ranks : List Rank) (n : ℕ) (b : Bool) → length ranks ≤ n → length (if b then insert_rank side r ranks else ranks) ≤ suc n
 length_side side r ranks n true h = omega (arith, length_inserted side r ranks)

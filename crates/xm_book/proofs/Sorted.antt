@@ -1,6 +1,6 @@
 -- A sorted queue: where a search by halves ends in it, and what an insert and a removal leave of it.
-use Rattle.std.proofs.Common.{◌≡◌, ℕ, ◌<◌, ◌≤◌, zero, suc, Bool, true, false, ◌&&◌, not, if◌then◌else◌, List, [], ◌∷◌, length, get_or, insert, remove, filter, Contains, refl, sym, ap, ◌∙◌, ◌⊎◌, inl, inr, arith}
-use Rattle.std.specs.List.{list_any, list_all}
+use Rattle.std.proofs.Common.{◌≡◌, ℕ, ◌<◌, ◌≤◌, zero, suc, Bool, true, false, ◌&&◌, not, if◌then◌else◌, List, [], ◌∷◌, length, get_or, insert, remove, map, filter, Contains, refl, sym, ap, ◌∙◌, ◌⊎◌, inl, inr, arith}
+use Rattle.std.specs.List.{items_where_true, list_any, list_all}
 use Rattle.std.specs.List.Sorted.{IsPartitionedBy}
 use Rattle.std.proofs.lemmas.List.Folds.{list_any_at}
 use Rattle.std.proofs.lemmas.Bool.{and_parts, and_from, or_parts, or_from, eq-eqb, ne_eqb, cases_order}
@@ -193,43 +193,53 @@ remove-is side rank rs i h times c cut =
     let at = stands_at side rank rs i c.0 h c.1 c.2 cut (cases_order c.0 i) in
     removed_at rank rs i times at.within at.here
 
-all_kept_if : (test : Rank → Bool) (r : Rank) (rs : List Rank) (b : Bool) → test r ≡ true → list_all test rs ≡ true → list_all test (if b then r ∷ rs else rs) ≡ true
-all_kept_if test r rs true h i = and_from (test r) (list_all test rs) h i
-all_kept_if test r rs false h i = i
-
-all-filter : (test keeps : Rank → Bool) (rs : List Rank) → list_all test rs ≡ true → list_all test (filter keeps rs) ≡ true
-all-filter test keeps [] h = refl
-all-filter test keeps (r ∷ rs) h =
+-- ---- some ranks are chosen, and the others taken out
+all-chosen : (test : Rank → Bool) (chosen : List Bool) (rs : List Rank) → list_all test rs ≡ true → list_all test (items_where_true chosen rs) ≡ true
+all-chosen test [] rs h = refl
+all-chosen test (b ∷ bs) [] h = refl
+all-chosen test (true ∷ bs) (r ∷ rs) h =
     let parts = and_parts (test r) (list_all test rs) h in
-    all_kept_if test r (filter keeps rs) (keeps r) parts.0 (all-filter test keeps rs parts.1)
+    and_from (test r) (list_all test (items_where_true bs rs)) parts.0 (all-chosen test bs rs parts.1)
+all-chosen test (false ∷ bs) (r ∷ rs) h = all-chosen test bs rs ((and_parts (test r) (list_all test rs) h).1)
 
-sorted_kept_if : (side : Side) (r : Rank) (rs : List Rank) (b : Bool) → list_all (precedes side r) rs ≡ true → is_sorted side rs ≡ true
-    → is_sorted side (if b then r ∷ rs else rs) ≡ true
-sorted_kept_if side r rs true h i = and_from (list_all (precedes side r) rs) (is_sorted side rs) h i
-sorted_kept_if side r rs false h i = i
+none-chosen : (test : Rank → Bool) (chosen : List Bool) (rs : List Rank) → list_any test rs ≡ false → list_any test (items_where_true chosen rs) ≡ false
+none-chosen test [] rs h = refl
+none-chosen test (b ∷ bs) [] h = refl
+none-chosen test (true ∷ bs) (r ∷ rs) h =
+    let parts = or_parts (test r) (list_any test rs) h in
+    or_from (test r) (list_any test (items_where_true bs rs)) parts.0 (none-chosen test bs rs parts.1)
+none-chosen test (false ∷ bs) (r ∷ rs) h = none-chosen test bs rs ((or_parts (test r) (list_any test rs) h).1)
+
+-- those that are chosen stay sorted
+pub sorted-chosen : (side : Side) (chosen : List Bool) (rs : List Rank) → is_sorted side rs ≡ true → is_sorted side (items_where_true chosen rs) ≡ true
+sorted-chosen side [] rs h = refl
+sorted-chosen side (b ∷ bs) [] h = refl
+sorted-chosen side (true ∷ bs) (r ∷ rs) h =
+    let parts = and_parts (list_all (precedes side r) rs) (is_sorted side rs) h in
+    and_from (list_all (precedes side r) (items_where_true bs rs)) (is_sorted side (items_where_true bs rs))
+    (all-chosen (precedes side r) bs rs parts.0) (sorted-chosen side bs rs parts.1)
+sorted-chosen side (false ∷ bs) (r ∷ rs) h = sorted-chosen side bs rs ((and_parts (list_all (precedes side r) rs) (is_sorted side rs) h).1)
+
+-- and their times stay apart
+pub own_times-chosen : (chosen : List Bool) (rs : List Rank) → have_own_times rs ≡ true → have_own_times (items_where_true chosen rs) ≡ true
+own_times-chosen [] rs h = refl
+own_times-chosen (b ∷ bs) [] h = refl
+own_times-chosen (true ∷ bs) (r ∷ rs) h =
+    let parts = not_parts (list_any (has_time r.time) rs) (have_own_times rs) h in
+    own_from r (items_where_true bs rs) (none-chosen (has_time r.time) bs rs parts.0) (own_times-chosen bs rs parts.1)
+own_times-chosen (false ∷ bs) (r ∷ rs) h = own_times-chosen bs rs ((not_parts (list_any (has_time r.time) rs) (have_own_times rs) h).1)
+
+-- a filter chooses by its test
+filter-chosen : (keeps : Rank → Bool) (rs : List Rank) → filter keeps rs ≡ items_where_true (map keeps rs) rs
+filter-chosen keeps [] = refl
+filter-chosen keeps (r ∷ rs) = chosen_if (keeps r) (filter-chosen keeps rs)
+  where
+    chosen_if : (b : Bool) → filter keeps rs ≡ items_where_true (map keeps rs) rs → (if b then r ∷ filter keeps rs else filter keeps rs) ≡ items_where_true (b ∷ map keeps rs) (r ∷ rs)
+    chosen_if true rest = ap (λ (l : List Rank). r ∷ l) rest
+    chosen_if false rest = rest
 
 pub sorted-filter : (side : Side) (keeps : Rank → Bool) (rs : List Rank) → is_sorted side rs ≡ true → is_sorted side (filter keeps rs) ≡ true
-sorted-filter side keeps [] h = refl
-sorted-filter side keeps (r ∷ rs) h =
-    let parts = and_parts (list_all (precedes side r) rs) (is_sorted side rs) h in
-    sorted_kept_if side r (filter keeps rs) (keeps r) (all-filter (precedes side r) keeps rs parts.0) (sorted-filter side keeps rs parts.1)
-
-none_kept_if : (test : Rank → Bool) (r : Rank) (rs : List Rank) (b : Bool) → test r ≡ false → list_any test rs ≡ false → list_any test (if b then r ∷ rs else rs) ≡ false
-none_kept_if test r rs true h i = or_from (test r) (list_any test rs) h i
-none_kept_if test r rs false h i = i
-
-none-filter : (test keeps : Rank → Bool) (rs : List Rank) → list_any test rs ≡ false → list_any test (filter keeps rs) ≡ false
-none-filter test keeps [] h = refl
-none-filter test keeps (r ∷ rs) h =
-    let parts = or_parts (test r) (list_any test rs) h in
-    none_kept_if test r (filter keeps rs) (keeps r) parts.0 (none-filter test keeps rs parts.1)
-
-own_kept_if : (r : Rank) (rs : List Rank) (b : Bool) → list_any (has_time r.time) rs ≡ false → have_own_times rs ≡ true → have_own_times (if b then r ∷ rs else rs) ≡ true
-own_kept_if r rs true h i = own_from r rs h i
-own_kept_if r rs false h i = i
+sorted-filter side keeps rs h = ap (is_sorted side) (filter-chosen keeps rs) ∙ sorted-chosen side (map keeps rs) rs h
 
 pub own_times-filter : (keeps : Rank → Bool) (rs : List Rank) → have_own_times rs ≡ true → have_own_times (filter keeps rs) ≡ true
-own_times-filter keeps [] h = refl
-own_times-filter keeps (r ∷ rs) h =
-    let parts = not_parts (list_any (has_time r.time) rs) (have_own_times rs) h in
-    own_kept_if r (filter keeps rs) (keeps r) (none-filter (has_time r.time) keeps rs parts.0) (own_times-filter keeps rs parts.1)
+own_times-filter keeps rs h = ap have_own_times (filter-chosen keeps rs) ∙ own_times-chosen (map keeps rs) rs h

@@ -1,6 +1,7 @@
 -- How a book lays out its orders.
-use Rattle.std.specs.Prelude.{◌≡◌, ◌≤◌, ℕ, ◌+◌, Bool, true, ◌&&◌, ◌==◌, nat_lt, List, length, map, find, filter_map, count_by, Vec, vec_len, Option, Some, option_map}
+use Rattle.std.specs.Prelude.{◌≡◌, ◌≤◌, ℕ, ◌+◌, Bool, true, false, ◌&&◌, ◌==◌, not, if◌then◌else◌, nat_lt, List, length, map, find, filter_map, count_by, Vec, vec_len, Option, Some, None, option_map}
 use Rattle.std.specs.List.{All}
+use Rattle.std.specs.Option.{option_map_or}
 use Rattle.std.specs.Vec.{vec_capacity}
 use Rattle.slab.specs.Slab.{Slab, get, slab_len}
 use Rattle.indexmap.specs.IndexMap as index
@@ -34,6 +35,15 @@ is_before time s = nat_lt s.time time
 -- the order lies under its key
 abbrev pub Lies : Slab Entry → Listed → Type 0
 Lies entries x = get entries x.key ≡ Some (entry_of x)
+
+-- the order of another member lies under the key
+abbrev pub is_of_another : ℕ → Slab Entry → ℕ → Bool
+is_of_another member entries key = option_map_or (λ (e : Entry). not (e.order.member == member)) (get entries key) false
+
+-- an entry, unless its order is of the member
+abbrev pub unless_of : ℕ → Option Entry → Option Entry
+unless_of member None = None
+unless_of member (Some e) = if not (e.order.member == member) then Some e else None
 
 abbrev pub has_name : ℕ → ℕ → Listed → Bool
 has_name member reference x = is_named member reference x.order

@@ -1,5 +1,5 @@
 -- What a caller sees of a book.
-use Rattle.std.specs.Prelude.{◌≡◌, ◌≤◌, ℕ, ◌+◌, Bool, true, false, ◌&&◌, ◌==◌, not, IsTrue, List, [], ◌∷◌, length, filter, map}
+use Rattle.std.specs.Prelude.{◌≡◌, ◌≤◌, ℕ, ◌+◌, Bool, true, ◌&&◌, ◌==◌, not, IsTrue, List, [], ◌∷◌, length, filter, map}
 use Rattle.std.specs.List.{list_any, list_all}
 use Rattle.xm_book.specs.Places.{SamePlaces, same_place}
 use Rattle.xm_book.specs.declared.places.Place.{Place}
@@ -41,6 +41,10 @@ is_known member reference l = list_any (is_named member reference) l.orders
 -- the list without the order of this name
 abbrev pub removed : ℕ → ℕ → List Order → List Order
 removed member reference orders = filter (λ (o : Order). not (is_named member reference o)) orders
+
+-- no order of the member is left
+abbrev pub without_member : ℕ → List Order → List Order
+without_member member orders = filter (λ (o : Order). not (o.member == member)) orders
 
 -- the references of a member's orders, in time order
 abbrev pub references_of : ℕ → List Order → List ℕ

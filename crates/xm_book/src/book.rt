@@ -1,13 +1,15 @@
 //! The book of one security.
-ghost use Rattle.std.specs.Prelude.{◌≡◌, ◌+◌, ◌++◌, ◌∷◌, ◌<◌, ◌≤◌, ◌^◌, [], IsTrue, length, find, false, true, option_copied, IfOk, IfSome, OnErr, OnOk};
+ghost use Rattle.std.specs.Prelude.{◌≡◌, ◌==◌, ◌+◌, ◌++◌, ◌∷◌, ◌<◌, ◌≤◌, ◌^◌, [], IsTrue, length, map, filter, find, not, false, true, option_copied, vec_len, IfOk, IfSome, OnErr, OnOk};
 ghost use Rattle.std.specs.List.Sorted.{IsPartitionPoint, IsPartitionedBy};
 ghost use Rattle.std.specs.Option.{option_map};
+ghost use Rattle.std.specs.Vec.{vec_capacity};
+ghost use Rattle.indexmap.specs.IndexMap.{spare};
 ghost use Rattle.slab.specs.Slab.{get};
-ghost use Rattle.xm_book.specs.Layout.{is_before};
+ghost use Rattle.xm_book.specs.Layout.{is_before, is_of_another, unless_of};
 ghost use Rattle.xm_book.specs.Places.{SamePlaces, place_of};
 ghost use Rattle.xm_book.specs.Queues.{best_order, next_order};
 ghost use Rattle.xm_book.specs.Ranks.{rank_of};
-ghost use Rattle.xm_book.specs.TimeList.{IsBook, Reserves, is_known, is_reserved, references_of, removed};
+ghost use Rattle.xm_book.specs.TimeList.{IsBook, Reserves, is_known, is_reserved, references_of, removed, without_member};
 ghost use Rattle.xm_rules.specs.Active.{active, limits};
 ghost use Rattle.xm_rules.specs.Commands.{is_in_range};
 ghost use Rattle.xm_rules.specs.Orders.{is_named, limit_of, with_rest};
@@ -15,7 +17,7 @@ ghost use Rattle.xm_rules.specs.Sides.{best};
 
 use crate::activity::is_active;
 use crate::places::{Place, Places};
-use crate::queue::Rank;
+use crate::queue::{Queue, Rank};
 use crate::queues::Queues;
 use indexmap::IndexMap;
 use slab::Slab;
@@ -39,6 +41,9 @@ struct Stamp {
     key: usize,
 }
 
+/// The key of each member and reference.
+type Names<A> = IndexMap<(u32, u32), usize, BuildHasherDefault<FoldHasher>, A>;
+
 /// The live orders of one security. A clause sees them in time order, with the places that are
 /// reserved and the number of adds so far.
 #[derive(Drop)]
@@ -47,8 +52,7 @@ pub struct Book<A: Allocator> {
     // One for each order, in time order.
     stamps: Vec<Stamp, A>,
     queues: Queues<A>,
-    // The key of each member and reference.
-    names: IndexMap<(u32, u32), usize, BuildHasherDefault<FoldHasher>, A>,
+    names: Names<A>,
     // For each there is room for one more order in the other parts.
     places: Places<A>,
     // The number of the next add.
@@ -97,6 +101,48 @@ fn first_from(stamps: &[Stamp], time: u64) -> usize
     ensures first { IsPartitionPoint (λ s. is_before time s ≡ true) (λ s. is_before time s ≡ false) stamps.now result }
 {
     stamps.partition_point(|stamp| stamp.time < time)
+}
+
+// Whether the order of another member lies under a key.
+fn is_of_another<A: Allocator>(entries: &Slab<Entry, A>, key: usize, member: u32) -> bool
+    ensures { result ≡ is_of_another member entries.now key }
+{
+    match entries.get(key) {
+        Some(entry) => entry.order.member != member,
+        None => false,
+    }
+}
+
+// Keeps the stamps of the orders of other members.
+fn retain_stamps<A: Allocator>(stamps: &mut Vec<Stamp, A>, entries: &Slab<Entry, A>, member: u32)
+    ensures items { stamps.new.items ≡ filter (λ s. is_of_another member entries.now s.key) stamps.old.items }
+    ensures len { vec_len stamps.new ≤ vec_len stamps.old }
+    ensures capacity { vec_capacity stamps.new ≡ vec_capacity stamps.old }
+{
+    stamps.retain(|stamp| is_of_another(entries, stamp.key, member));
+}
+
+// Keeps the ranks of the orders of other members.
+fn retain_ranks<A: Allocator>(queue: &mut Queue<A>, entries: &Slab<Entry, A>, member: u32)
+    ensures { queue.new ≡ record queue.old { ranks = filter (λ r. is_of_another member entries.now r.key) queue.old.ranks } }
+{
+    queue.retain(|rank| is_of_another(entries, rank.key, member));
+}
+
+// Keeps the names of the orders of other members.
+fn retain_names<A: Allocator>(names: &mut Names<A>, member: u32)
+    ensures entries { names.new.entries ≡ filter (λ e. not (e.0.0 == member)) names.old.entries }
+    ensures room { spare names.old ≤ spare names.new }
+{
+    names.retain(|name, _key| name.0 != member);
+}
+
+// Keeps the entries of the orders of other members.
+fn retain_entries<A: Allocator>(entries: &mut Slab<Entry, A>, member: u32)
+    ensures slots { entries.new.slots ≡ map (unless_of member) entries.old.slots }
+    ensures capacity { entries.new.capacity ≡ entries.old.capacity }
+{
+    entries.retain(|_key, entry| entry.order.member != member);
 }
 
 // The limit of an order, where it has one.
@@ -240,6 +286,18 @@ impl<A: Allocator> Book<A> {
                 Some(entry.order)
             }
         }
+    }
+
+    /// Takes all orders of a member out of the book, in one pass over it.
+    pub fn remove_all(&mut self, member: u32)
+        ensures { self.new ≡ record self.old { orders = without_member member self.old.orders } }
+    {
+        retain_stamps(&mut self.stamps, &self.entries, member);
+        retain_ranks(self.queues.of_mut(Side::Buy), &self.entries, member);
+        retain_ranks(self.queues.of_mut(Side::Sell), &self.entries, member);
+        retain_names(&mut self.names, member);
+        // Last, as the other parts look up an order's member here.
+        retain_entries(&mut self.entries, member);
     }
 
     /// Gives the order of this name a rest that is no higher. It keeps its place in time. Where no order has the name,

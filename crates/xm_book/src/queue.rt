@@ -1,6 +1,8 @@
 //! The queue of a side: where its orders stand, in a flat vector sorted by restriction, priority and time.
 ghost use Rattle.std.specs.Prelude.{◌≡◌, ◌+◌, ◌-◌, ◌<◌, ◌≤◌, [], Contains, false, filter, length, not, OnErr, OnOk};
+ghost use Rattle.std.specs.Fn.{CalledAt};
 ghost use Rattle.std.specs.List.{list_any};
+ghost use Rattle.std.specs.List.Retain.{IsFiltered};
 ghost use Rattle.xm_book.specs.Ranks.{active_ranks, first_active, first_limit, first_rank, has_time, insert_rank, is_rank_ahead, next_active, precedes, restriction_number};
 ghost use Rattle.xm_book.specs.Sorted.{CutsAt, IsFirstOf, ahead_of_two, is_before, is_behind, stands_in};
 ghost use Rattle.xm_rules.specs.Priority.{is_better};
@@ -187,6 +189,15 @@ impl<A: Allocator> Queue<A> {
     {
         let place = self.place(rank);
         self.ranks.remove(place);
+    }
+
+    /// Keeps the ranks at which a test answers `true`.
+    pub fn retain<F: FnMut(&Rank) -> bool>(&mut self, test: F)
+        requires { F.IsAlwaysCallable test }
+        ensures kept { IsFiltered (CalledAt F.FnMut) test self.old.ranks self.new.ranks }
+        ensures rest { self.new ≡ record self.old { ranks = self.new.ranks } }
+    {
+        self.ranks.retain(test);
     }
 
     /// The first active one in priority.

@@ -5,8 +5,10 @@ use Rattle.xm_book.specs.Ranks.{QueueView, has_time, order_of}
 use Rattle.xm_book.specs.TimeList.{TimeList}
 use Rattle.xm_book.specs.declared.book.Entry.{Entry}
 use Rattle.xm_book.specs.declared.queue.Rank.{Rank}
-use Rattle.xm_book.proofs.Changes.{nothing-removed, others, removed-map}
+use Rattle.xm_book.proofs.Changes.{nothing-removed, orders-kept, others}
 use Rattle.xm_book.proofs.Layouts.{entry-is, laid_out, listing-of, named_at, none_known, not_named, rank-contained, stamp-within, stamps-parted, taken_out}
+use Rattle.xm_rules.specs.Orders.{is_named}
+use Rattle.xm_rules.specs.declared.orders.Order.{Order}
 use Rattle.xm_book.proofs.book.Book.remove.Goals as goal
 
 pub remove-entry-requires : goal.remove-entry-requires
@@ -104,4 +106,4 @@ returns-in-Some-clause-left g c =
     c.remove-in-Some.new.self q c.swap_remove.new.self c.swap_remove.ensures.updates.0 c.swap_remove.ensures.room.0 in
     let ys = filter (others c.args.member c.args.reference) xs in
     let same = listing-of ys b.places c.remove-entry.new.self c.remove.new.self (with_queue n.listed.order.side b.queues c.remove-in-Some.new.self) c.swap_remove.new.self b.adds h in
-    rw (← c.self.view_is) (ap (λ os. let t : TimeList = record { orders = os; reserved = b.places; adds = b.adds } in t) (ap (map order_of) same ∙ removed-map c.args.member c.args.reference xs))
+    rw (← c.self.view_is) (ap (λ os. let t : TimeList = record { orders = os; reserved = b.places; adds = b.adds } in t) (ap (map order_of) same ∙ orders-kept (λ (o : Order). not (is_named c.args.member c.args.reference o)) xs))
