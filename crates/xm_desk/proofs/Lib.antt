@@ -1,4 +1,3 @@
-pub mod Cancelled
 pub mod Changed
 pub mod Lengths
 pub mod Named

@@ -1,8 +1,8 @@
 -- The steps by the served commands, where nothing was traded.
 use Rattle.std.proofs.Common.{◌≡◌, ◌∙◌, ℕ, ◌+◌, ◌<◌, Bool, true, false, ◌&&◌, not, if◌then◌else◌, List, [], ◌∷◌, ◌++◌, find, Option, Some, None, refl, ap, sym}
 use Rattle.std.specs.Prelude.{nat_le}
-use Rattle.xm_desk.specs.Changes.{changed_orders, without_member}
-use Rattle.xm_book.specs.TimeList.{removed}
+use Rattle.xm_desk.specs.Changes.{changed_orders}
+use Rattle.xm_book.specs.TimeList.{removed, without_member}
 use Rattle.xm_rules.specs.Commands.{order_kind, trigger_of}
 use Rattle.xm_rules.specs.Orders.{is_named}
 use Rattle.xm_rules.specs.Served.{IsUntraded}

@@ -1,5 +1,5 @@
 -- How accepted commands change the orders, outside continuous trading.
-use Rattle.std.specs.Prelude.{ℕ, ◌==◌, ◌&&◌, not, if◌then◌else◌, nat_le, List, [], ◌∷◌, ◌++◌, filter, Option, Some, None}
+use Rattle.std.specs.Prelude.{ℕ, ◌&&◌, not, if◌then◌else◌, nat_le, List, [], ◌∷◌, ◌++◌, Option, Some, None}
 use Rattle.xm_book.specs.TimeList.{removed}
 use Rattle.xm_rules.specs.Commands.{is_in_range}
 use Rattle.xm_rules.specs.Orders.{with_rest}
@@ -16,10 +16,6 @@ changed_orders quantity limit (Some o) orders =
     if same_limit limit o.kind && nat_le quantity o.rest
     then with_rest o.member o.reference quantity orders
     else removed o.member o.reference orders ++ record o { kind = changed_kind limit o.kind; rest = quantity } ∷ []
-
--- no order of the member is left
-abbrev pub without_member : ℕ → List Order → List Order
-without_member member orders = filter (λ (o : Order). not (o.member == member)) orders
 
 -- why a change of this order is refused: the order is looked up before the numbers are checked
 abbrev pub change_refusal : ℕ → Option ℕ → Option Order → Option Refusal

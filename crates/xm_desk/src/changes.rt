@@ -1,7 +1,7 @@
 //! How accepted commands change the book outside continuous trading. Where a growth is refused,
 //! nothing changes.
 ghost use Rattle.std.specs.Prelude.{◌≡◌, ◌+◌, ◌&&◌, ◌++◌, ◌∷◌, ◌<◌, ◌≤◌, ◌^◌, [], IsTrue, None, OnErr, OnOk, false, find, length, nat_le, option_copied};
-ghost use Rattle.xm_desk.specs.Changes.{change_refusal, changed_orders, without_member};
+ghost use Rattle.xm_desk.specs.Changes.{change_refusal, changed_orders};
 ghost use Rattle.xm_book.specs.TimeList.{is_known};
 ghost use Rattle.xm_rules.specs.Commands.{is_in_range};
 ghost use Rattle.xm_rules.specs.Orders.{is_named};
@@ -114,16 +114,4 @@ fn changed_kind(limit: Option<u32>, kind: OrderKind) -> OrderKind
         None => kind,
         Some(price) => OrderKind::Limit(Price::new(price).unwrap()),
     }
-}
-
-/// All orders of a member leave.
-pub fn cancel_all<A: Allocator + Copy>(book: &mut Book<A>, member: u32) -> Result<(), OutOfMemory>
-    ensures ok { OnOk result (book.new ≡ record book.old { orders = without_member member book.old.orders }) }
-    ensures err { OnErr result (book.new ≡ book.old) }
-{
-    let references = book.of_member(member)?;
-    for reference in references.as_slice() {
-        book.remove(member, *reference);
-    }
-    Ok(())
 }

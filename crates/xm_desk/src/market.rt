@@ -1,7 +1,7 @@
 //! The state of a security, and how commands change it.
 ghost use Rattle.std.specs.Prelude.{◌≡◌, ◌+◌, ◌++◌, ◌∷◌, ◌<◌, [], IsTrue, None, Some, IfOk, OnErr, OnOk, false, find};
-ghost use Rattle.xm_desk.specs.Changes.{change_refusal, changed_orders, without_member};
-ghost use Rattle.xm_book.specs.TimeList.{removed};
+ghost use Rattle.xm_desk.specs.Changes.{change_refusal, changed_orders};
+ghost use Rattle.xm_book.specs.TimeList.{removed, without_member};
 ghost use Rattle.xm_rules.specs.Commands.{has_prices_in_range, is_in_range, order_kind};
 ghost use Rattle.xm_rules.specs.Orders.{is_named};
 ghost use Rattle.xm_rules.specs.Refusals.{first_failing, has_order, is_full, is_unknown_member, own_checks, refusal_of};
@@ -12,7 +12,7 @@ ghost use Rattle.xm_rules.specs.declared.phases.Auction.TheVariants.{Opening};
 ghost use Rattle.xm_rules.specs.declared.phases.CallStage.TheVariants.{Ordinary};
 ghost use Rattle.xm_rules.specs.declared.phases.Phase.TheVariants.{Call};
 
-use crate::changes::{cancel_all, change, join, refusal_of_change};
+use crate::changes::{change, join, refusal_of_change};
 use crate::checks::{
     has_prices_in_range, is_bad_combination, is_given_in_range, is_immediate, is_in_range, is_over,
 };
@@ -236,7 +236,10 @@ impl<A: Allocator + Copy> Market<A> {
                 self.cancel(*member, *reference);
                 Ok(())
             }
-            Command::CancelAll { member } => self.cancel_all(*member),
+            Command::CancelAll { member } => {
+                self.cancel_all(*member);
+                Ok(())
+            }
             Command::StartOpening => {
                 self.start_opening();
                 Ok(())
@@ -285,14 +288,12 @@ impl<A: Allocator + Copy> Market<A> {
         self.accepted += 1;
     }
 
-    fn cancel_all(&mut self, member: u32) -> Result<(), OutOfMemory>
+    fn cancel_all(&mut self, member: u32)
         requires room { self.old.accepted < self.old.settings.limit + 64 }
-        ensures ok { OnOk result (self.new ≡ record self.old { accepted = self.old.accepted + 1; orders = without_member member self.old.orders }) }
-        ensures err { OnErr result (self.new ≡ self.old) }
+        ensures { self.new ≡ record self.old { accepted = self.old.accepted + 1; orders = without_member member self.old.orders } }
     {
-        cancel_all(&mut self.book, member)?;
+        self.book.remove_all(member);
         self.accepted += 1;
-        Ok(())
     }
 
     fn start_opening(&mut self)

@@ -84,8 +84,7 @@ returns-in-Cancel-clause-ok g c =
 pub returns-in-CancelAll-clause-ok : goal.returns-in-CancelAll-clause-ok
 returns-in-CancelAll-clause-ok g c =
     let s = c.args.self.now in
-    let stepped = ap (step s) c.in-CancelAll.is ∙ step-cancelled_all s c.in-CancelAll.member c.requires.untraded in
-    search (rules, stepped)
+    c.cancel_all.ensures ∙ sym (ap (step s) c.in-CancelAll.is ∙ step-cancelled_all s c.in-CancelAll.member c.requires.untraded)
 
 pub returns-in-StartOpening-clause-ok : goal.returns-in-StartOpening-clause-ok
 returns-in-StartOpening-clause-ok g c =
