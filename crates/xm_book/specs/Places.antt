@@ -1,5 +1,5 @@
 -- Places that are reserved in a book, and lists of them in which the order doesn't count.
-use Rattle.std.specs.Prelude.{◌≡◌, ℕ, Bool, true, false, ◌&&◌, ◌==◌, List, ◌∷◌, length, count_by}
+use Rattle.std.specs.Prelude.{◌≡◌, Bool, true, false, ◌&&◌, ◌==◌, List, length, count_by}
 use Rattle.xm_book.specs.declared.places.Place.{Place}
 use Rattle.xm_rules.specs.Sides.{same_side}
 use Rattle.xm_rules.specs.declared.orders.Order.{Order}

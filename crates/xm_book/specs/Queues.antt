@@ -1,5 +1,5 @@
 -- The active orders of a side in order of priority.
-use Rattle.std.specs.Prelude.{ℕ, Bool, not, List, filter, find, Option, Some, None, option_map}
+use Rattle.std.specs.Prelude.{ℕ, not, List, filter, find, Option, Some, None, option_map}
 use Rattle.std.specs.List.{list_any}
 use Rattle.xm_rules.specs.Active.{Placed, active}
 use Rattle.xm_rules.specs.Orders.{is_named}

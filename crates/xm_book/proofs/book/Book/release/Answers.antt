@@ -1,4 +1,4 @@
-use Rattle.std.proofs.Common.{◌-◌, refl, ap, ◌∙◌}
+use Rattle.std.proofs.Common.{refl, ap, ◌∙◌}
 use Rattle.xm_book.specs.Layout.{listing}
 use Rattle.xm_book.specs.TimeList.{is_reserved}
 use Rattle.xm_book.proofs.Counted.{Gains-same}
