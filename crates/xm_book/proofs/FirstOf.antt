@@ -4,7 +4,7 @@ use Rattle.std.specs.List.{list_any}
 use Rattle.std.proofs.lemmas.Bool.{or_left, or_right, or_cases, or_from, cases_eq}
 use Rattle.std.proofs.lemmas.List.Elements.{All-contains_itself, All-contains, All-filter, filter_passes}
 use Rattle.std.proofs.lemmas.List.Folds.{list_any_at, list_any_none}
-use Rattle.xm_book.proofs.Contained.{contains-filter, filter_none, find_only}
+use Rattle.xm_book.proofs.Members.{Contains-filter, filter_none, find-only}
 use Rattle.xm_book.proofs.Precedence.{ahead_once, ahead_one, ahead_off}
 use Rattle.xm_book.proofs.Sorted.{only_of_time}
 use Rattle.xm_book.specs.Ranks.{is_rank_ahead, first_rank}
@@ -95,7 +95,7 @@ same_if : (side : Side) (test : Rank → Bool) (rs : List Rank) (a x : Rank) →
 same_if side test rs a x first c t h same (inl e) = same e
 same_if side test rs a x first c t h same (inr apart) =
     let other : is_rank_ahead side a x ≡ true = other_of_two (is_rank_ahead side x a) (is_rank_ahead side a x) (first.ahead x c t) (ahead_one side x a apart) in
-    let kept = contains-filter test rs a first.contained first.passing in
+    let kept = Contains-filter test rs a first.passing first.contained in
     let one : list_any (λ (i : Rank). is_rank_ahead side i x) (filter test rs) ≡ true =
     list_any_at (λ (i : Rank). is_rank_ahead side i x) (filter test rs) kept.0 a kept.1 (rw kept.2 other)
     in
@@ -111,7 +111,7 @@ first_rank-is side test rs (Some a) own first =
     let none : list_any (λ (i : Rank). is_rank_ahead side i a) (filter test rs) ≡ false =
     list_any_none (λ (i : Rank). is_rank_ahead side i a) (filter test rs) (λ k d l. first.ahead (get_or (filter test rs) k d) (kept k d l) (passing k d l))
     in
-    find_only (none_ahead side (filter test rs)) (filter test rs) a (contains-filter test rs a first.contained first.passing) (ap not none)
+    find-only (none_ahead side (filter test rs)) (filter test rs) a (record { contains = Contains-filter test rs a first.passing first.contained; passes = ap not none })
     (λ x c h.
     let inside = All-contains (λ (x : Rank). Contains rs x) (filter test rs) x kept c in
     same_if side test rs a x first inside (All-contains (λ (x : Rank). test x ≡ true) (filter test rs) x passing c) h

@@ -1,20 +1,22 @@
 -- A rank that is inserted into a queue.
-use Rattle.std.proofs.Common.{◌≡◌, suc, Bool, true, false, ◌&&◌, ◌||◌, ◌==◌, if◌then◌else◌, List, [], ◌∷◌, length, filter, Contains, refl, sym, ap, subst, ◌⊎◌, inl, inr}
-use Rattle.std.specs.List.{list_any, list_all}
-use Rattle.std.proofs.lemmas.Bool.{and_parts, and_from, or_parts, eqb-false}
-use Rattle.xm_book.specs.Ranks.{precedes, insert_rank, has_time}
+use Rattle.std.proofs.Common.{◌≡◌, suc, Bool, true, false, if◌then◌else◌, List, [], ◌∷◌, length, filter, Contains, refl, sym, ap, subst, ◌⊎◌, inl, inr}
+use Rattle.std.specs.List.{list_all}
+use Rattle.std.proofs.lemmas.Bool.{and_parts}
+use Rattle.xm_book.specs.Ranks.{precedes, insert_rank}
 use Rattle.xm_book.specs.declared.queue.Rank.{Rank}
 use Rattle.xm_rules.specs.declared.orders.Side.{Side}
 use Rattle.xm_book.proofs.Members.{Contains-here, Contains-there, Contains-cases, Contains-none}
-use Rattle.xm_book.proofs.Precedes.{precedes_once, precedes_one, precedes_on}
+use Rattle.xm_book.proofs.Precedence.{precedes_once, precedes_one, precedes_on}
+use Rattle.xm_book.proofs.Sorted.{all_precede, all-filter}
+use Rattle.xm_book.specs.Sorted.{is_sorted}
 
 -- two ranks of different times can be inserted in either order
 commute_at : (side : Side) (r s x : Rank) (xs : List Rank) (a b c d : Bool) → precedes side r s ≡ a → precedes side s r ≡ b → precedes side r x ≡ c → precedes side s x ≡ d
-    → (a && b) ≡ false → (a || b) ≡ true → (a ≡ true → d ≡ true → c ≡ true) → (b ≡ true → c ≡ true → d ≡ true)
+    → (a ≡ true → b ≡ false) → (a ≡ false → b ≡ true) → (a ≡ true → d ≡ true → c ≡ true) → (b ≡ true → c ≡ true → d ≡ true)
     → insert_rank side r (insert_rank side s xs) ≡ insert_rank side s (insert_rank side r xs)
     → insert_rank side r (insert_rank side s (x ∷ xs)) ≡ insert_rank side s (insert_rank side r (x ∷ xs))
-commute_at side r s x xs true true c d ea eb ec ed once one on back rest = absurd (cc)
-commute_at side r s x xs false false c d ea eb ec ed once one on back rest = absurd (cc)
+commute_at side r s x xs true true c d ea eb ec ed once one on back rest = absurd (let e : true ≡ false = once refl in cc)
+commute_at side r s x xs false false c d ea eb ec ed once one on back rest = absurd (let e : false ≡ true = one refl in cc)
 commute_at side r s x xs a b false false ea eb ec ed once one on back rest = rw (ed, ec, ed) (ap (λ (l : List Rank). x ∷ l) rest)
 commute_at side r s x xs true false true true ea eb ec ed once one on back rest = simp (ea, eb, ec, ed)
 commute_at side r s x xs false true true true ea eb ec ed once one on back rest = simp (ea, eb, ec, ed)
@@ -23,12 +25,12 @@ commute_at side r s x xs false true true false ea eb ec ed once one on back rest
 commute_at side r s x xs true false false true ea eb ec ed once one on back rest = absurd (let e : false ≡ true = on refl refl in cc)
 commute_at side r s x xs false true false true ea eb ec ed once one on back rest = simp (ea, ec, ed)
 
-commute_none : (side : Side) (r s : Rank) (a b : Bool) → precedes side r s ≡ a → precedes side s r ≡ b → (a && b) ≡ false → (a || b) ≡ true
+commute_none : (side : Side) (r s : Rank) (a b : Bool) → precedes side r s ≡ a → precedes side s r ≡ b → (a ≡ true → b ≡ false) → (a ≡ false → b ≡ true)
     → insert_rank side r (insert_rank side s []) ≡ insert_rank side s (insert_rank side r [])
-commute_none side r s true true ea eb once one = absurd (cc)
+commute_none side r s true true ea eb once one = absurd (let e : true ≡ false = once refl in cc)
 commute_none side r s true false ea eb once one = rw (ea, eb) refl
 commute_none side r s false true ea eb once one = rw (ea, eb) refl
-commute_none side r s false false ea eb once one = absurd (cc)
+commute_none side r s false false ea eb once one = absurd (let e : false ≡ true = one refl in cc)
 
 pub inserts_commute : (side : Side) (r s : Rank) → (r.time ≡ s.time → ⊥) → (xs : List Rank) → insert_rank side r (insert_rank side s xs) ≡ insert_rank side s (insert_rank side r xs)
 inserts_commute side r s d [] = commute_none side r s (precedes side r s) (precedes side s r) refl refl (precedes_once side r s) (precedes_one side r s d)
@@ -72,72 +74,17 @@ pub inserted_from : (side : Side) (r : Rank) (xs : List Rank) (y : Rank) → Con
 inserted_from side r [] y at = Contains-cases r [] y at
 inserted_from side r (x ∷ xs) y at = from_if r x xs (insert_rank side r xs) y (precedes side r x) (inserted_from side r xs y) at
 
--- each precedes all that follow
-abbrev pub is_sorted : Side → List Rank → Bool
-is_sorted side [] = true
-is_sorted side (r ∷ rs) = list_all (precedes side r) rs && is_sorted side rs
-
-all_if : (f : Rank → Bool) (r x : Rank) (xs rest : List Rank) (b : Bool) → f r ≡ true → f x ≡ true → list_all f xs ≡ true → list_all f rest ≡ true
-    → list_all f (if b then r ∷ x ∷ xs else x ∷ rest) ≡ true
-all_if f r x xs rest true hr hx hs h = and_from (f r) (f x && list_all f xs) hr (and_from (f x) (list_all f xs) hx hs)
-all_if f r x xs rest false hr hx hs h = and_from (f x) (list_all f rest) hx h
-
-all_inserted : (side : Side) (f : Rank → Bool) (r : Rank) (xs : List Rank) → f r ≡ true → list_all f xs ≡ true → list_all f (insert_rank side r xs) ≡ true
-all_inserted side f r [] h hs = and_from (f r) true h refl
-all_inserted side f r (x ∷ xs) h hs =
-    let parts = and_parts (f x) (list_all f xs) hs in
-    all_if f r x xs (insert_rank side r xs) (precedes side r x) h parts.0 parts.1 (all_inserted side f r xs h parts.1)
-
--- what precedes one that precedes each of a list precedes each of it
-all_on : (side : Side) (r x : Rank) (xs : List Rank) → precedes side r x ≡ true → list_all (precedes side x) xs ≡ true → list_all (precedes side r) xs ≡ true
-all_on side r x [] h hs = refl
-all_on side r x (y ∷ ys) h hs =
-    let parts = and_parts (precedes side x y) (list_all (precedes side x) ys) hs in
-    and_from (precedes side r y) (list_all (precedes side r) ys) (precedes_on side r x y h parts.0) (all_on side r x ys h parts.1)
-
-other_way : (a b : Bool) → (a || b) ≡ true → a ≡ false → b ≡ true
-other_way true b h e = absurd (cc)
-other_way false b h e = h
-
-sorted_if : (side : Side) (r x : Rank) (xs : List Rank) (b : Bool) → precedes side r x ≡ b → (x.time ≡ r.time → ⊥)
-    → list_all (precedes side x) xs ≡ true → is_sorted side xs ≡ true → is_sorted side (insert_rank side r xs) ≡ true
-    → is_sorted side (if b then r ∷ x ∷ xs else x ∷ insert_rank side r xs) ≡ true
-sorted_if side r x xs true e d all sorted rest =
-    and_from (list_all (precedes side r) (x ∷ xs)) (is_sorted side (x ∷ xs)) (and_from (precedes side r x) (list_all (precedes side r) xs) e (all_on side r x xs e all))
-    (and_from (list_all (precedes side x) xs) (is_sorted side xs) all sorted)
-sorted_if side r x xs false e d all sorted rest =
-    let before = other_way (precedes side r x) (precedes side x r) (precedes_one side r x (λ f. d (sym f))) e in
-    and_from (list_all (precedes side x) (insert_rank side r xs)) (is_sorted side (insert_rank side r xs)) (all_inserted side (precedes side x) r xs before all) rest
-
-pub inserted_sorted : (side : Side) (r : Rank) (xs : List Rank) → list_any (has_time r.time) xs ≡ false → is_sorted side xs ≡ true → is_sorted side (insert_rank side r xs) ≡ true
-inserted_sorted side r [] h s = refl
-inserted_sorted side r (x ∷ xs) h s =
-    let times = or_parts (x.time == r.time) (list_any (has_time r.time) xs) h in
-    let parts = and_parts (list_all (precedes side x) xs) (is_sorted side xs) s in
-    sorted_if side r x xs (precedes side r x) refl (eqb-false x.time r.time times.0) parts.0 parts.1 (inserted_sorted side r xs times.1 parts.1)
-
 -- what precedes all is inserted first
 inserted_first : (side : Side) (r : Rank) (xs : List Rank) → list_all (precedes side r) xs ≡ true → insert_rank side r xs ≡ r ∷ xs
 inserted_first side r [] h = refl
 inserted_first side r (x ∷ xs) h = let parts = and_parts (precedes side r x) (list_all (precedes side r) xs) h in rw parts.0 refl
-
-all_kept_if : (f keep : Rank → Bool) (x : Rank) (xs : List Rank) (b : Bool) → f x ≡ true → list_all f (filter keep xs) ≡ true
-    → list_all f (if b then x ∷ filter keep xs else filter keep xs) ≡ true
-all_kept_if f keep x xs true h hs = and_from (f x) (list_all f (filter keep xs)) h hs
-all_kept_if f keep x xs false h hs = hs
-
-all_kept : (f keep : Rank → Bool) (xs : List Rank) → list_all f xs ≡ true → list_all f (filter keep xs) ≡ true
-all_kept f keep [] h = refl
-all_kept f keep (x ∷ xs) h =
-    let parts = and_parts (f x) (list_all f xs) h in
-    all_kept_if f keep x xs (keep x) parts.0 (all_kept f keep xs parts.1)
 
 filtered_at : (side : Side) (keep : Rank → Bool) (r x : Rank) (xs : List Rank) (b c : Bool) → precedes side r x ≡ b → keep x ≡ c → keep r ≡ true
     → list_all (precedes side x) xs ≡ true → filter keep (insert_rank side r xs) ≡ insert_rank side r (filter keep xs)
     → filter keep (insert_rank side r (x ∷ xs)) ≡ insert_rank side r (filter keep (x ∷ xs))
 filtered_at side keep r x xs true true eb ec h all rest = rw (eb, h, ec, eb) refl
 filtered_at side keep r x xs true false eb ec h all rest =
-    rw (eb, h, ec) (sym (inserted_first side r (filter keep xs) (all_kept (precedes side r) keep xs (all_on side r x xs eb all))))
+    rw (eb, h, ec) (sym (inserted_first side r (filter keep xs) (all-filter (precedes side r) keep xs (all_precede side r x xs eb all))))
 filtered_at side keep r x xs false true eb ec h all rest = rw (eb, ec, eb) (ap (λ (l : List Rank). x ∷ l) rest)
 filtered_at side keep r x xs false false eb ec h all rest = rw (eb, ec) rest
 

@@ -1,6 +1,5 @@
 pub mod Agreeing
 pub mod Changes
-pub mod Contained
 pub mod Counted
 pub mod FirstOf
 pub mod Firsts
@@ -11,7 +10,6 @@ pub mod Listings
 pub mod Members
 pub mod Paired
 pub mod Precedence
-pub mod Precedes
 pub mod Priorities
 pub mod Ranks
 pub mod Reserving

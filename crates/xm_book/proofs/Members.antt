@@ -1,6 +1,6 @@
 -- What a list holds: one with a first element, the part that passes a test, what a function makes of it, and the first that
 -- passes a test.
-use Rattle.std.proofs.Common.{◌≡◌, ℕ, zero, suc, ◌<◌, Bool, true, false, cond, List, [], ◌∷◌, length, map, filter, find, get_or, Contains, Option, Some, None, refl, ap, subst, ◌∙◌, ◌⊎◌, inl, inr, arith}
+use Rattle.std.proofs.Common.{◌≡◌, ℕ, zero, suc, ◌<◌, Bool, true, false, ◌&&◌, cond, List, [], ◌∷◌, length, map, filter, find, get_or, Contains, Option, Some, None, refl, ap, subst, ◌∙◌, ◌⊎◌, inl, inr, arith}
 use Rattle.std.specs.List.{list_any, filter_map, cons_option}
 use Rattle.std.proofs.lemmas.Bool.{or_parts, or_from}
 
@@ -103,6 +103,26 @@ module _ {X : Type 0} where
   -- the only one that passes
   pub find-only : (p : X → Bool) (xs : List X) (y : X) → Passes p xs y → ((z : X) → Contains xs z → p z ≡ true → z ≡ y) → find p xs ≡ Some y
   find-only p xs y h one = only p xs y (find p xs) refl h one
+
+  -- nothing is kept where nothing passes
+  pub filter_none : (p : X → Bool) (xs : List X) → ((y : X) → Contains xs y → p y ≡ false) → filter p xs ≡ []
+  filter_none p [] none = refl
+  filter_none p (x ∷ xs) none = rw (none x (Contains-here x xs)) (filter_none p xs (λ y at. none y (Contains-there x xs y at)))
+
+  both_if : (p q : X → Bool) (x : X) (xs : List X) (b : Bool) → p x ≡ b → filter q (filter p xs) ≡ filter (λ y. p y && q y) xs
+      → filter q (filter p (x ∷ xs)) ≡ filter (λ y. p y && q y) (x ∷ xs)
+  both_if p q x xs true e rest = rw (e, rest) refl
+  both_if p q x xs false e rest = rw (e, rest) refl
+
+  -- two filters are one
+  pub filter-filter : (p q : X → Bool) (xs : List X) → filter q (filter p xs) ≡ filter (λ y. p y && q y) xs
+  filter-filter p q [] = refl
+  filter-filter p q (x ∷ xs) = both_if p q x xs (p x) refl (filter-filter p q xs)
+
+  -- what passes all leaves all
+  pub filter_all : (xs : List X) → filter (λ y. true) xs ≡ xs
+  filter_all [] = refl
+  filter_all (x ∷ xs) = ap (λ (l : List X). x ∷ l) (filter_all xs)
 
 module _ {X Y : Type 0} where
   mapped_by : (f : X → Y) (y : X) (xs : List X) (x : X) → (Contains xs x → Contains (map f xs) (f x)) → (y ≡ x) ⊎ Contains xs x → Contains (map f (y ∷ xs)) (f x)

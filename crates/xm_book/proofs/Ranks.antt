@@ -8,8 +8,10 @@ use Rattle.xm_book.specs.Ranks.{Listed, rises, rank_of, insert_rank, ranked, has
 use Rattle.xm_book.specs.declared.queue.Rank.{Rank}
 use Rattle.xm_rules.specs.Sides.{same_side}
 use Rattle.xm_rules.specs.declared.orders.Side.{Side}
-use Rattle.xm_book.proofs.Inserts.{inserts_commute, inserted_here, inserted_there, inserted_from, is_sorted, inserted_sorted, inserted_kept, inserted_dropped, length_inserted}
+use Rattle.xm_book.proofs.Inserts.{inserts_commute, inserted_here, inserted_there, inserted_from, inserted_kept, inserted_dropped, length_inserted}
 use Rattle.xm_book.proofs.Members.{Contains-here, Contains-there, Contains-cases, Contains-none, list_any-none}
+use Rattle.xm_book.proofs.Sorted.{sorted-insert}
+use Rattle.xm_book.specs.Sorted.{is_sorted}
 
 -- what rises from one number rises above it
 rises-le : (low : ℕ) (xs : List Listed) (high : ℕ) → rises low xs high ≡ true → low ≤ high
@@ -126,7 +128,7 @@ ranked-later side xs time h = no_time side 0 xs time time h (λ b. let w = b.low
 -- the queue is sorted
 sorted_side : (side : Side) (x : Listed) (ranks : List Rank) (b : Bool) → list_any (has_time x.time) ranks ≡ false → is_sorted side ranks ≡ true
     → is_sorted side (if b then insert_rank side (rank_of x) ranks else ranks) ≡ true
-sorted_side side x ranks true h s = inserted_sorted side (rank_of x) ranks h s
+sorted_side side x ranks true h s = sorted-insert side (rank_of x) ranks h s
 sorted_side side x ranks false h s = s
 
 ranked_sorted : (side : Side) (low : ℕ) (xs : List Listed) (high : ℕ) → rises low xs high ≡ true → is_sorted side (ranked side xs) ≡ true

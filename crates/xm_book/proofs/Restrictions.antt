@@ -5,7 +5,7 @@ use Rattle.std.specs.List.Sorted.{IsPartitionedBy}
 use Rattle.std.proofs.lemmas.Bool.{and_from, cases_order, eq-eqb, false_from_ne_true}
 use Rattle.std.proofs.lemmas.List.{get_or_default}
 use Rattle.std.proofs.lemmas.Bool.Decides.{nat_tests}
-use Rattle.xm_book.proofs.Contained.{filter-filter}
+use Rattle.xm_book.proofs.Members.{filter-filter}
 use Rattle.xm_book.proofs.FirstOf.{not_ahead_of_itself, first_agrees, first_of_two, first_rank-is, not_behind}
 use Rattle.xm_book.proofs.Precedence.{ahead_on, by_number, by_number_on}
 use Rattle.xm_book.proofs.Sorted.{sorted_pairs, partitioned}

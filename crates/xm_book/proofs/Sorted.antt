@@ -4,7 +4,7 @@ use Rattle.std.specs.List.{items_where_true, list_any, list_all}
 use Rattle.std.specs.List.Sorted.{IsPartitionedBy}
 use Rattle.std.proofs.lemmas.List.Folds.{list_any_at}
 use Rattle.std.proofs.lemmas.Bool.{and_parts, and_from, or_parts, or_from, eq-eqb, ne_eqb, cases_order}
-use Rattle.xm_book.proofs.Contained.{contains_cases, contains_none}
+use Rattle.xm_book.proofs.Members.{Contains-cases, Contains-none}
 use Rattle.xm_book.proofs.Precedence.{precedes_once, precedes_one, precedes_on}
 use Rattle.xm_book.specs.Ranks.{precedes, insert_rank, has_time}
 use Rattle.xm_book.specs.Sorted.{is_sorted, have_own_times, CutsAt}
@@ -63,10 +63,10 @@ same_unless_later r a b rs h rest e (inr c) (inr d) = rest c d
 
 -- of one time a queue has one rank
 pub only_of_time : (rs : List Rank) (a b : Rank) → have_own_times rs ≡ true → Contains rs a → Contains rs b → a.time ≡ b.time → a ≡ b
-only_of_time [] a b h c d e = absurd (contains_none a c)
+only_of_time [] a b h c d e = absurd (Contains-none a c)
 only_of_time (r ∷ rs) a b h c d e =
     same_unless_later r a b rs h (λ i j. only_of_time rs a b ((not_parts (list_any (has_time r.time) rs) (have_own_times rs) h).1) i j e) e
-    (contains_cases r rs a c) (contains_cases r rs b d)
+    (Contains-cases r rs a c) (Contains-cases r rs b d)
 
 -- an insert where those that precede the rank end
 pub insert_rank-is : (side : Side) (rank : Rank) (rs : List Rank) (i : ℕ) → i ≤ length rs → list_any (has_time rank.time) rs ≡ false
@@ -84,7 +84,8 @@ insert_rank-is side rank (r ∷ rs) (suc i) l apart cut =
     in
     rw e (ap (λ (l : List Rank). r ∷ l) rest)
 
-all_precede : (side : Side) (a b : Rank) (rs : List Rank) → precedes side a b ≡ true → list_all (precedes side b) rs ≡ true → list_all (precedes side a) rs ≡ true
+-- what precedes one that precedes each of a list precedes each of it
+pub all_precede : (side : Side) (a b : Rank) (rs : List Rank) → precedes side a b ≡ true → list_all (precedes side b) rs ≡ true → list_all (precedes side a) rs ≡ true
 all_precede side a b [] e h = refl
 all_precede side a b (r ∷ rs) e h =
     let parts = and_parts (precedes side b r) (list_all (precedes side b) rs) h in
@@ -210,6 +211,18 @@ none-chosen test (true ∷ bs) (r ∷ rs) h =
     or_from (test r) (list_any test (items_where_true bs rs)) parts.0 (none-chosen test bs rs parts.1)
 none-chosen test (false ∷ bs) (r ∷ rs) h = none-chosen test bs rs ((or_parts (test r) (list_any test rs) h).1)
 
+-- a filter chooses by its test
+filter-chosen : (keeps : Rank → Bool) (rs : List Rank) → filter keeps rs ≡ items_where_true (map keeps rs) rs
+filter-chosen keeps [] = refl
+filter-chosen keeps (r ∷ rs) = chosen_if (keeps r) (filter-chosen keeps rs)
+  where
+    chosen_if : (b : Bool) → filter keeps rs ≡ items_where_true (map keeps rs) rs → (if b then r ∷ filter keeps rs else filter keeps rs) ≡ items_where_true (b ∷ map keeps rs) (r ∷ rs)
+    chosen_if true rest = ap (λ (l : List Rank). r ∷ l) rest
+    chosen_if false rest = rest
+
+pub all-filter : (test keeps : Rank → Bool) (rs : List Rank) → list_all test rs ≡ true → list_all test (filter keeps rs) ≡ true
+all-filter test keeps rs h = ap (list_all test) (filter-chosen keeps rs) ∙ all-chosen test (map keeps rs) rs h
+
 -- those that are chosen stay sorted
 pub sorted-chosen : (side : Side) (chosen : List Bool) (rs : List Rank) → is_sorted side rs ≡ true → is_sorted side (items_where_true chosen rs) ≡ true
 sorted-chosen side [] rs h = refl
@@ -228,15 +241,6 @@ own_times-chosen (true ∷ bs) (r ∷ rs) h =
     let parts = not_parts (list_any (has_time r.time) rs) (have_own_times rs) h in
     own_from r (items_where_true bs rs) (none-chosen (has_time r.time) bs rs parts.0) (own_times-chosen bs rs parts.1)
 own_times-chosen (false ∷ bs) (r ∷ rs) h = own_times-chosen bs rs ((not_parts (list_any (has_time r.time) rs) (have_own_times rs) h).1)
-
--- a filter chooses by its test
-filter-chosen : (keeps : Rank → Bool) (rs : List Rank) → filter keeps rs ≡ items_where_true (map keeps rs) rs
-filter-chosen keeps [] = refl
-filter-chosen keeps (r ∷ rs) = chosen_if (keeps r) (filter-chosen keeps rs)
-  where
-    chosen_if : (b : Bool) → filter keeps rs ≡ items_where_true (map keeps rs) rs → (if b then r ∷ filter keeps rs else filter keeps rs) ≡ items_where_true (b ∷ map keeps rs) (r ∷ rs)
-    chosen_if true rest = ap (λ (l : List Rank). r ∷ l) rest
-    chosen_if false rest = rest
 
 pub sorted-filter : (side : Side) (keeps : Rank → Bool) (rs : List Rank) → is_sorted side rs ≡ true → is_sorted side (filter keeps rs) ≡ true
 sorted-filter side keeps rs h = ap (is_sorted side) (filter-chosen keeps rs) ∙ sorted-chosen side (map keeps rs) rs h

@@ -1,5 +1,5 @@
 use Rattle.std.proofs.Common.{ap, ◌∙◌}
-use Rattle.xm_book.proofs.Contained.{filter_all}
+use Rattle.xm_book.proofs.Members.{filter_all}
 use Rattle.xm_book.specs.Ranks.{active_ranks, first_rank}
 use Rattle.xm_book.proofs.queue.Queue.first.Goals as goal
 
