@@ -1,5 +1,5 @@
 -- The steps by the served commands, where nothing was traded.
-use Rattle.std.proofs.Common.{◌≡◌, ◌∙◌, ℕ, ◌+◌, ◌<◌, Bool, true, false, ◌&&◌, not, if◌then◌else◌, List, [], ◌∷◌, ◌++◌, find, Option, Some, None, refl, ap, sym}
+use Rattle.std.proofs.Common.{◌≡◌, ◌∙◌, ℕ, ◌+◌, Bool, true, false, ◌&&◌, if◌then◌else◌, List, [], ◌∷◌, ◌++◌, find, Option, Some, None, refl, ap}
 use Rattle.std.specs.Prelude.{nat_le}
 use Rattle.xm_desk.specs.Changes.{changed_orders}
 use Rattle.xm_book.specs.TimeList.{removed, without_member}
@@ -8,7 +8,7 @@ use Rattle.xm_rules.specs.Orders.{is_named}
 use Rattle.xm_rules.specs.Served.{IsUntraded}
 use Rattle.xm_rules.specs.Settling.{settle}
 use Rattle.xm_rules.specs.State.{State}
-use Rattle.xm_rules.specs.Step.{step, act, changed, changed_kind, same_limit}
+use Rattle.xm_rules.specs.Step.{step, act, changed, same_limit}
 use Rattle.xm_rules.specs.declared.commands.Command.{Command}
 use Rattle.xm_rules.specs.declared.commands.Command.TheVariants.{Enter, Change, Cancel, CancelAll, StartOpening}
 use Rattle.xm_rules.specs.declared.commands.Condition.TheVariants.{Plain}

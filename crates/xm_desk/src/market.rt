@@ -175,9 +175,7 @@ impl<A: Allocator> Market<A> {
     {
         self.settings.reference
     }
-}
 
-impl<A: Allocator + Copy> Market<A> {
     /// The step by a command that isn't refused, with its reply. Where a growth is refused,
     /// nothing changes.
     #[tactic(auto, unfolding(xm_rules::specs::Step::reply))]
