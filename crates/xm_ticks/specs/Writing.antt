@@ -1,5 +1,5 @@
 -- The texts of prices and money: euros with four decimals.
-use Rattle.std.specs.Prelude.{ℕ, ℤ, pos, negsuc, suc, ◌+◌, ◌*◌, ◌/◌, ◌%◌, ◌≤◌, List, [], ◌∷◌, ◌++◌, length, take, Option}
+use Rattle.std.specs.Prelude.{ℕ, ℤ, pos, negsuc, suc, ◌+◌, ◌*◌, ◌/◌, ◌%◌, ◌<◌, List, [], ◌∷◌, ◌++◌, length, take, Option}
 use Rattle.std.specs.Fmt.{decimal}
 use Rattle.std.specs.Io.KnownBytes.{Appends}
 
@@ -20,6 +20,6 @@ abbrev pub money_text : ℤ → List ℕ
 money_text (pos amount) = amount_text amount
 money_text (negsuc below) = 45 ∷ amount_text (suc below)
 
--- known bytes grow by a front of the text
+-- known bytes grow by a front of the text that is not all of it
 abbrev pub AppendsFront : Option (List ℕ) → Option (List ℕ) → List ℕ → Type 0
-AppendsFront old new text = (n : ℕ) × (n ≤ length text) × Appends old new (take n text)
+AppendsFront old new text = (n : ℕ) × (n < length text) × Appends old new (take n text)
