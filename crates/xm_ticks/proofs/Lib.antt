@@ -1,2 +1,2 @@
 pub mod Powers
-pub mod Fronts
+pub mod Prefixes

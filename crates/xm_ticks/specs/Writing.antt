@@ -20,6 +20,6 @@ abbrev pub money_text : ℤ → List ℕ
 money_text (pos amount) = amount_text amount
 money_text (negsuc below) = 45 ∷ amount_text (suc below)
 
--- known bytes grow by a front of the text that is not all of it
-abbrev pub AppendsFront : Option (List ℕ) → Option (List ℕ) → List ℕ → Type 0
-AppendsFront old new text = (n : ℕ) × (n < length text) × Appends old new (take n text)
+-- known bytes grow by a proper prefix of the text
+abbrev pub AppendsPrefix : Option (List ℕ) → Option (List ℕ) → List ℕ → Type 0
+AppendsPrefix old new text = (n : ℕ) × (n < length text) × Appends old new (take n text)

@@ -132,7 +132,7 @@ fn written_money(rt: HostRuntime) -> Result<(), Fail> {
 }
 
 #[test]
-fn a_failed_write_leaves_a_front(rt: HostRuntime) -> Result<(), Fail> {
+fn a_failed_write_leaves_a_prefix(rt: HostRuntime) -> Result<(), Fail> {
     let text = b"-123.4500";
     for room in 0..text.len() + 1 {
         for at_once in 1..text.len() + 1 {

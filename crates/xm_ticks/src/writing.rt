@@ -1,7 +1,7 @@
 //! The texts of prices and money, and the loop that writes a text.
 ghost use Rattle.std.specs.Prelude.{◌≡◌, ◌+◌, ◌<◌, ◌≤◌, ◌++◌, length, OnOk, OnErr};
 ghost use Rattle.std.specs.Io.KnownBytes.{Appends};
-ghost use Rattle.xm_ticks.specs.Writing.{AppendsFront, amount_text, price_text, money_text};
+ghost use Rattle.xm_ticks.specs.Writing.{AppendsPrefix, amount_text, price_text, money_text};
 
 use crate::numbers::{Price, TickSize};
 use arrayvec::ArrayVec;
@@ -10,10 +10,10 @@ use std::io;
 
 /// Writes a price in euros with four decimals.
 ///
-/// The error is the writer's; what went out before it is a front of the text.
+/// The error is the writer's; what went out before it is a proper prefix of the text.
 pub fn write_price<W: io::Write>(out: &mut W, price: Price, tick: TickSize) -> io::Result<()>
     ensures ok { OnOk result (Appends (W.contents out.old) (W.contents out.new) (price_text price tick)) }
-    ensures err { OnErr result (AppendsFront (W.contents out.old) (W.contents out.new) (price_text price tick)) }
+    ensures err { OnErr result (AppendsPrefix (W.contents out.old) (W.contents out.new) (price_text price tick)) }
 {
     let amount = u128::from(price.get()) * u128::from(tick.get());
     write_whole(out, amount_text(b"", amount).as_slice())
@@ -22,10 +22,10 @@ pub fn write_price<W: io::Write>(out: &mut W, price: Price, tick: TickSize) -> i
 /// Writes ten-thousandths of a euro in euros with four decimals, and a minus sign before a
 /// negative amount.
 ///
-/// The error is the writer's; what went out before it is a front of the text.
+/// The error is the writer's; what went out before it is a proper prefix of the text.
 pub fn write_money<W: io::Write>(out: &mut W, money: i128) -> io::Result<()>
     ensures ok { OnOk result (Appends (W.contents out.old) (W.contents out.new) (money_text money)) }
-    ensures err { OnErr result (AppendsFront (W.contents out.old) (W.contents out.new) (money_text money)) }
+    ensures err { OnErr result (AppendsPrefix (W.contents out.old) (W.contents out.new) (money_text money)) }
 {
     let sign: &[u8] = if money < 0 { b"-" } else { b"" };
     write_whole(out, amount_text(sign, money.unsigned_abs()).as_slice())
@@ -34,10 +34,10 @@ pub fn write_money<W: io::Write>(out: &mut W, money: i128) -> io::Result<()>
 /// Writes a text, in as many calls as the writer asks for.
 ///
 /// The error is the writer's, or `WriteZero` where it takes no byte; what went out before it is a
-/// front of the text.
+/// proper prefix of the text.
 pub fn write_whole<W: io::Write>(out: &mut W, text: &[u8]) -> io::Result<()>
     ensures ok { OnOk result (Appends (W.contents out.old) (W.contents out.new) text.now) }
-    ensures err { OnErr result (AppendsFront (W.contents out.old) (W.contents out.new) text.now) }
+    ensures err { OnErr result (AppendsPrefix (W.contents out.old) (W.contents out.new) text.now) }
 {
     let mut done = 0;
     while done < text.len() {

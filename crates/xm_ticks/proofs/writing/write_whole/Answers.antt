@@ -1,7 +1,7 @@
 use Rattle.std.proofs.Common.{◌≤◌, arith, drop, length, length-drop}
 use Rattle.std.proofs.Math.Seq.{take-add}
 use Rattle.std.proofs.lemmas.List.{take_rest}
-use Rattle.xm_ticks.proofs.Fronts.{Appends-more}
+use Rattle.xm_ticks.proofs.Prefixes.{Appends-more}
 use Rattle.xm_ticks.proofs.writing.write_whole.Goals as goal
 
 pub loop-done-preserved : goal.loop-done-preserved
