@@ -9,3 +9,4 @@ pub mod Progress
 pub mod FirstPath
 pub mod Lines
 pub mod Days
+pub mod Endings

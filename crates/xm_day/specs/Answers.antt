@@ -1,41 +1,66 @@
--- What a run of a day answers and writes.
-use Rattle.std.specs.Prelude.{◌≡◌, ℕ, List, Option, Ok, IfSome}
+-- How the run of a day ends: what it answers, and what the output holds before and after. The bytes of a file may be unknown.
+use Rattle.std.specs.Prelude.{◌≡◌, ℕ, List, Option, None, Some, Result, Ok, Err, IfSome}
+use Rattle.std.specs.Bool.{OnFalse, OnTrue}
 use Rattle.std.specs.Io.KnownBytes.{Appends}
-use Rattle.xm_day.specs.Day.{Day, day}
+use Rattle.xm_day.specs.Day.{Day, day, segment_fault}
+use Rattle.xm_day.specs.Faults.{is_from_outside}
 use Rattle.xm_day.specs.Names.{NameLists}
 use Rattle.xm_day.specs.Orders.{orders_of}
 use Rattle.xm_day.specs.Segment.{segment_of}
 use Rattle.xm_day.specs.Statement.{statement}
 use Rattle.xm_day.specs.declared.config.SegmentConfig.{SegmentConfig}
 use Rattle.xm_day.specs.declared.day.DayReport.{DayReport}
+use Rattle.xm_day.specs.declared.faults.DayFault.{DayFault}
+use Rattle.xm_day.specs.declared.faults.DayFault.TheVariants.{Segment, Orders, Open, OutOfMemory, WriteFailed}
+use Rattle.xm_day.specs.declared.faults.FileFault.{FileFault}
 use Rattle.xm_day.specs.declared.rows.Row.{Row}
-use Rattle.xm_ticks.specs.Writing.{AppendsFront}
+use Rattle.xm_desk.specs.declared.opening.OpenFault.{OpenFault}
+use Rattle.xm_desk.specs.declared.opening.OpenFault.TheVariants as opening
+use Rattle.xm_ticks.specs.Writing.{AppendsPrefix}
+
+-- the settings and the names are those of the segment file
+abbrev pub IsSegmentOf : Option (List ℕ) → SegmentConfig → NameLists → Type 0
+IsSegmentOf file config names = IfSome file (λ bytes. segment_of bytes ≡ Ok (config, names))
+
+-- the rows are those of the order file
+abbrev pub AreRowsOf : Option (List ℕ) → SegmentConfig → NameLists → List Row → Type 0
+AreRowsOf file config names rows = IfSome file (λ bytes. orders_of names config bytes ≡ Ok rows)
+
+-- the fault is the one that the bytes have, or the reader or the memory failed, which has no line
+pub record IsFileFault {A : Type 0} (reads : List ℕ → Result A FileFault) (file : Option (List ℕ)) (fault : FileFault) : Type 0 where
+  pub of_bytes : OnFalse (is_from_outside fault.cause) (IfSome file (λ bytes. reads bytes ≡ Err fault))
+  pub from_outside : OnTrue (is_from_outside fault.cause) (fault.line ≡ 0)
+
+-- the first limit that the segment does not keep, or memory is wanting where it keeps them all
+abbrev pub IsOpenFault : SegmentConfig → OpenFault → Type 0
+IsOpenFault config opening.OutOfMemory = segment_fault config ≡ None
+IsOpenFault config fault = segment_fault config ≡ Some fault
 
 abbrev pub statement_of : NameLists → Day → List ℕ
 statement_of names d = statement names d.states d.accepted d.refused
 
--- the rows are those of the order file, whose bytes may be unknown
-abbrev pub AreRowsOf : Option (List ℕ) → SegmentConfig → NameLists → List Row → Type 0
-AreRowsOf file config names rows = IfSome file (λ bytes. orders_of names config bytes ≡ Ok rows)
-
--- the rows are those of the order file, and the report has the counts of their day
-pub record IsDayOf (config : SegmentConfig) (names : NameLists) (orders : Option (List ℕ)) (rows : List Row) (report : DayReport) : Type 0 where
-  pub read : AreRowsOf orders config names rows
+-- what was written is the statement of the day of these rows, and nothing else; the report has the day's counts
+pub record WritesDay (config : SegmentConfig) (names : NameLists) (rows : List Row) (report : DayReport) (old new : Option (List ℕ)) : Type 0 where
+  pub written : Appends old new (statement_of names (day config rows))
   pub accepted : report.accepted ≡ (day config rows).accepted
   pub refused : report.refused ≡ (day config rows).refused
 
--- what was written is the statement of the day of the order file, and nothing else
-pub record WritesDay (config : SegmentConfig) (names : NameLists) (orders : Option (List ℕ)) (report : DayReport) (old new : Option (List ℕ)) : Type 0 where
-  pub rows : List Row
-  pub is_day : IsDayOf config names orders rows report
-  pub written : Appends old new (statement_of names (day config rows))
+-- how the rows of an order file are run that has no fault
+abbrev pub RowsEnd : SegmentConfig → NameLists → List Row → Option (List ℕ) → Option (List ℕ) → Result DayReport DayFault → Type 0
+RowsEnd config names rows old new (Ok report) = (segment_fault config ≡ None) × WritesDay config names rows report old new
+RowsEnd config names rows old new (Err (Open fault)) = IsOpenFault config fault
+RowsEnd config names rows old new (Err OutOfMemory) = segment_fault config ≡ None
+RowsEnd config names rows old new (Err WriteFailed) = (segment_fault config ≡ None) × AppendsPrefix old new (statement_of names (day config rows))
+RowsEnd config names rows old new (Err (Segment fault)) = ⊥
+RowsEnd config names rows old new (Err (Orders fault)) = ⊥
 
--- what was written is a front of that statement
-pub record WritesFront (config : SegmentConfig) (names : NameLists) (orders old new : Option (List ℕ)) : Type 0 where
-  pub rows : List Row
-  pub read : AreRowsOf orders config names rows
-  pub written : AppendsFront old new (statement_of names (day config rows))
+-- how the day ends of a segment file that has no fault
+abbrev pub OrdersEnd : SegmentConfig → NameLists → Option (List ℕ) → Option (List ℕ) → Option (List ℕ) → Result DayReport DayFault → Type 0
+OrdersEnd config names orders old new (Err (Orders fault)) = IsFileFault (orders_of names config) orders fault
+OrdersEnd config names orders old new result = (rows : List Row) × AreRowsOf orders config names rows × RowsEnd config names rows old new result
 
--- the settings and the names are those of the segment file, whose bytes may be unknown
-abbrev pub IsSegmentOf : Option (List ℕ) → SegmentConfig → NameLists → Type 0
-IsSegmentOf file config names = IfSome file (λ bytes. segment_of bytes ≡ Ok (config, names))
+-- how the day of two files ends
+abbrev pub DayEnds : Option (List ℕ) → Option (List ℕ) → Option (List ℕ) → Option (List ℕ) → Result DayReport DayFault → Type 0
+DayEnds segment orders old new (Err (Segment fault)) = IsFileFault segment_of segment fault
+DayEnds segment orders old new result =
+    (config : SegmentConfig) × (names : NameLists) × IsSegmentOf segment config names × OrdersEnd config names orders old new result

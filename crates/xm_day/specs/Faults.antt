@@ -1,5 +1,5 @@
 -- The faults of files.
-use Rattle.std.specs.Prelude.{ℕ, Bool, true, false, Option, Some, None, Result, Ok, Err}
+use Rattle.std.specs.Prelude.{ℕ, Bool, true, false, Result, Ok, Err}
 use Rattle.xm_day.specs.declared.faults.FileCause.{FileCause}
 use Rattle.xm_day.specs.declared.faults.FileCause.TheVariants.{ReadFailed, TooLong, OutOfMemory}
 use Rattle.xm_day.specs.declared.faults.FileFault.{FileFault}
@@ -27,12 +27,6 @@ fault_at line cause = record { line = line; cause = cause }
 abbrev pub result_then : {A B : Type 0} → Result A FileFault → (A → Result B FileFault) → Result B FileFault
 result_then (Err fault) next = Err fault
 result_then (Ok x) next = next x
-
--- the fault of a file, where that is why a day has no statement
-abbrev pub file_fault : DayFault → Option FileFault
-file_fault (day.Segment fault) = Some fault
-file_fault (day.Orders fault) = Some fault
-file_fault _ = None
 
 -- a statement isn't written for want of memory, or because the writer failed
 abbrev pub IsOfWriting : DayFault → Type 0

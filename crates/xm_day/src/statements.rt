@@ -6,7 +6,7 @@ ghost use Rattle.xm_day.specs.Faults.{IsOfWriting};
 ghost use Rattle.xm_day.specs.Statement.{cash_line, date_text, day_line, heading_text, limit_text, member_indices, name_at, order_line, phase_word, references_line, restriction_word, rows_line, securities_text, security_line, security_text, side_word, statement, total_text, validity_text};
 ghost use Rattle.xm_rules.specs.Served.{IsUntraded};
 ghost use Rattle.xm_rules.specs.Step.{replay};
-ghost use Rattle.xm_ticks.specs.Writing.{AppendsFront};
+ghost use Rattle.xm_ticks.specs.Writing.{AppendsPrefix};
 
 use crate::day::DayReport;
 use crate::faults::DayFault;
@@ -21,7 +21,7 @@ use xm_ticks::{Price, TickSize, write_money, write_price, write_whole};
 /// Writes the statement of the desks of a segment, which are in index order.
 ///
 /// The text is made whole first. After `OutOfMemory` nothing was written, and after `WriteFailed`
-/// a front of the text. Until trading is served no desk has a trade or a held stop.
+/// a proper prefix of the text. Until trading is served no desk has a trade or a held stop.
 pub fn statement<A: Allocator, B: Allocator + Copy, W: io::Write>(
     alloc: A,
     desks: &[Desk<B>],
@@ -35,7 +35,7 @@ pub fn statement<A: Allocator, B: Allocator + Copy, W: io::Write>(
     ensures ok { OnOk result (Appends (W.contents out.old) (W.contents out.new)
         (statement names.now (map replay desks.now) report.now.accepted report.now.refused)) }
     ensures memory { result ≡ Err DayFault.OutOfMemory → out.new ≡ out.old }
-    ensures failed { result ≡ Err DayFault.WriteFailed → AppendsFront (W.contents out.old) (W.contents out.new)
+    ensures failed { result ≡ Err DayFault.WriteFailed → AppendsPrefix (W.contents out.old) (W.contents out.new)
         (statement names.now (map replay desks.now) report.now.accepted report.now.refused) }
     ensures faults { IfErr result IsOfWriting }
 {

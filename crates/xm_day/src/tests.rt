@@ -301,14 +301,14 @@ fn the_first_path_is_read(rt: HostRuntime) -> Result<(), Fail> {
 }
 
 #[test]
-fn fronts_of_an_order_file(rt: HostRuntime) -> Result<(), Fail> {
+fn prefixes_of_an_order_file(rt: HostRuntime) -> Result<(), Fail> {
     let text = FIRST_PATH.as_bytes();
     let header = HEADER.len().saturating_sub(1);
     for end in 0..text.len() {
-        let front = &text[..end];
-        let whole = front.iter().filter(|byte| **byte == b'\n').count() as u32;
-        let ends_whole = front.last() == Some(&b'\n') || text.get(end) == Some(&b'\n');
-        let mut reader = front;
+        let prefix = &text[..end];
+        let whole = prefix.iter().filter(|byte| **byte == b'\n').count() as u32;
+        let ends_whole = prefix.last() == Some(&b'\n') || text.get(end) == Some(&b'\n');
+        let mut reader = prefix;
         let answer = rows_of(rt.alloc(), SEGMENT, &mut reader)?;
         let got = match answer {
             Ok(rows) => Ok(rows.len()),
@@ -319,7 +319,7 @@ fn fronts_of_an_order_file(rt: HostRuntime) -> Result<(), Fail> {
                 line: 1,
                 cause: FileCause::BadHeader,
             })
-        } else if front.last() == Some(&b'\n') {
+        } else if prefix.last() == Some(&b'\n') {
             Ok(whole.saturating_sub(1) as usize)
         } else if ends_whole {
             Ok(whole as usize)
