@@ -1,3 +1,4 @@
+pub mod Days
 pub mod FaultLines
 pub mod Inputs
 pub mod Requests

@@ -1,7 +1,9 @@
 //! `xetra-day run SEGMENT ORDERS`: replays a trading day and writes its statement.
 #![tactic(auto)]
 
-ghost use Rattle.std.specs.Prelude.{◌≡◌};
+ghost use Rattle.std.specs.Prelude.{◌≡◌, ◌≢◌, IfErr};
+ghost use Rattle.xetra_day.specs.Days.{RunEnds};
+ghost use Rattle.xetra_day.specs.Requests.{RefusesBytes};
 
 mod fault_lines;
 mod inputs;
@@ -48,7 +50,9 @@ fn answer<R: Env + AllocGlobal + Files + Print>(rt: &R) -> Result<(), Stop> {
 }
 
 /// The words of the command line, of which the first is the program's name.
-fn read_command_line<R: Env + AllocGlobal>(rt: &R) -> Result<Vec<String>, Stop> {
+fn read_command_line<R: Env + AllocGlobal>(rt: &R) -> Result<Vec<String>, Stop>
+    ensures { IfErr result RefusesBytes }
+{
     let words = match env::args(rt) {
         Ok(words) => words.collect(rt.alloc()),
         Err(error) if error.kind() == io::ErrorKind::InvalidData => {
@@ -68,7 +72,10 @@ fn run<S: Read, O: Read, W: Write>(
     segment: &mut S,
     orders: &mut O,
     out: &mut W,
-) -> Result<(), DayFault> {
+) -> Result<(), DayFault>
+    ensures ends { RunEnds (S.remaining segment.old) (O.remaining orders.old) (W.contents out.old) (W.contents out.new) result }
+    ensures untouched { IfErr result (λ fault. fault ≢ DayFault.WriteFailed → out.new ≡ out.old) }
+{
     match xm_day::run_alone(alloc, segment, orders, out) {
         Ok(_) => out.flush().map_err(|_| DayFault::WriteFailed),
         Err(fault) => Err(told(fault)),
