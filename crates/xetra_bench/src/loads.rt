@@ -1,4 +1,5 @@
-//! The load of a desk: orders that are entered on both sides, and then cancelled in another order.
+//! The load of a desk: orders that are entered on both sides and then cancelled in another order; and again entered, and
+//! cancelled by one command.
 ghost use Rattle.std.specs.Prelude.{◌<◌, ◌≤◌, IfOk};
 
 use std::alloc::Global;
@@ -15,6 +16,17 @@ pub struct LoadFault;
 pub enum Part {
     Enter,
     Cancel,
+    CancelAll,
+}
+
+/// The parts of a load of this many orders, each with the number of its commands.
+pub fn parts(orders: u32) -> [(Part, u32); 4] {
+    [
+        (Part::Enter, orders),
+        (Part::Cancel, orders),
+        (Part::Enter, orders),
+        (Part::CancelAll, 1),
+    ]
 }
 
 impl Part {
@@ -22,20 +34,22 @@ impl Part {
         match self {
             Part::Enter => "enter",
             Part::Cancel => "cancel",
+            Part::CancelAll => "cancel-all",
         }
     }
 
-    /// The command of a part at this place in it.
-    fn command(self, place: u32, orders: u32) -> Command
-        requires some { 0 < orders }
-        requires few { orders ≤ 1000000 }
+    /// The command of a part of so many commands at this place in it.
+    fn command(self, place: u32, commands: u32) -> Command
+        requires some { 0 < commands }
+        requires few { commands ≤ 1000000 }
     {
         match self {
             Part::Enter => entry(place),
             Part::Cancel => Command::Cancel {
                 member: 0,
-                reference: mixed(place, orders),
+                reference: mixed(place, commands),
             },
+            Part::CancelAll => Command::CancelAll { member: 0 },
         }
     }
 }
@@ -64,16 +78,16 @@ pub fn open(alloc: Global) -> Result<Desk<Global>, LoadFault> {
     Desk::open(alloc, settings).map_err(|_| LoadFault)
 }
 
-/// Gives the desk each command of a part, and answers how many it accepted.
-pub fn give(desk: &mut Desk<Global>, part: Part, orders: u32) -> Result<u32, LoadFault>
-    ensures { IfOk result (λ accepted. accepted ≤ orders) }
+/// Gives the desk each of the commands of a part, and answers how many it accepted.
+pub fn give(desk: &mut Desk<Global>, part: Part, commands: u32) -> Result<u32, LoadFault>
+    ensures { IfOk result (λ accepted. accepted ≤ commands) }
 {
-    if orders > 1_000_000 {
+    if commands > 1_000_000 {
         return Err(LoadFault);
     }
     let mut accepted = 0;
-    for place in 0..orders {
-        let command = part.command(place, orders);
+    for place in 0..commands {
+        let command = part.command(place, commands);
         if !command.is_served(desk.phase()) {
             return Err(LoadFault);
         }

@@ -4,13 +4,13 @@
 
 mod loads;
 
-use crate::loads::{LoadFault, Part, give, open};
+use crate::loads::{LoadFault, give, open, parts};
 use std::env;
 use std::process::ExitCode;
 use std::rt::{Clock, Env};
 use std::time::Instant;
 
-/// How many orders a load enters and cancels: where the commands are counted, and where they are
+/// How many orders a load enters and cancels twice: where the commands are counted, and where they are
 /// measured.
 const COUNTED: u32 = 200;
 
@@ -46,8 +46,8 @@ fn is_measured<R: Env + AllocGlobal>(rt: &R) -> Result<bool, LoadFault> {
 /// Prints how many commands of each part of a load were accepted, and how many orders it left.
 fn count<R: AllocGlobal + Print>(rt: &R, orders: u32) -> Result<(), LoadFault> {
     let mut desk = open(rt.alloc())?;
-    for part in [Part::Enter, Part::Cancel] {
-        let accepted = give(&mut desk, part, orders)?;
+    for (part, commands) in parts(orders) {
+        let accepted = give(&mut desk, part, commands)?;
         let left = desk.orders().map_err(|_| LoadFault)?.len();
         println!(rt;
             "{} {orders} orders: {accepted} accepted, {left} left",
@@ -61,13 +61,13 @@ fn count<R: AllocGlobal + Print>(rt: &R, orders: u32) -> Result<(), LoadFault> {
 /// Prints the nanoseconds that a command of each part of a load took.
 fn measure<R: AllocGlobal + Print + Clock>(rt: &R, orders: u32) -> Result<(), LoadFault> {
     let mut desk = open(rt.alloc())?;
-    for part in [Part::Enter, Part::Cancel] {
+    for (part, commands) in parts(orders) {
         let start = Instant::now(rt).map_err(|_| LoadFault)?;
-        give(&mut desk, part, orders)?;
+        give(&mut desk, part, commands)?;
         let taken = start.elapsed(rt).map_err(|_| LoadFault)?;
         let nanoseconds = taken
             .as_nanos()
-            .checked_div(u128::from(orders))
+            .checked_div(u128::from(commands))
             .ok_or(LoadFault)?;
         println!(rt;
             "{} {orders} orders: {nanoseconds} ns a command",
