@@ -1,20 +1,22 @@
-use super::{bought, buy, give, settings};
-use crate::Desk;
+use super::buy;
+use super::day::Day;
 use std::test::Fail;
 use xm_rules::Command;
 
 #[test]
 fn cancel_all_twice(rt: HostRuntime) -> Result<(), Fail> {
-    let mut desk = Desk::open(rt.alloc(), settings(100)?)?;
-    assert!(rt; give(&rt, &mut desk, buy(0, 1, 1000, 10)).is_ok());
-    assert!(rt; give(&rt, &mut desk, buy(1, 1, 1000, 20)).is_ok());
-    assert!(rt; give(&rt, &mut desk, buy(0, 2, 990, 30)).is_ok());
+    let mut day = Day::open(rt.alloc(), 100)?;
+    let entered = [
+        (buy(0, 1, 1000, 10), Ok(1)),
+        (buy(1, 1, 1000, 20), Ok(2)),
+        (buy(0, 2, 990, 30), Ok(3)),
+    ];
+    day.give_all(&rt, &entered);
     for version in 4..6 {
-        let answer = give(&rt, &mut desk, Command::CancelAll { member: 0 });
-        assert_eq!(rt; answer.map(|reply| reply.version), Ok(version));
-        let orders = desk.orders().map_err(|_| "memory")?;
-        assert_eq!(rt; orders.as_slice(), [bought(1, 1, 1000, 20)?].as_slice());
+        day.give_all(&rt, &[(Command::CancelAll { member: 0 }, Ok(version))]);
+        day.buys_are(&rt, &[(1, 1, 1000, 20)]);
     }
-    assert!(rt; give(&rt, &mut desk, buy(0, 1, 1000, 10)).is_ok());
+    day.give_all(&rt, &[(buy(0, 1, 1000, 10), Ok(6))]);
+    day.buys_are(&rt, &[(1, 1, 1000, 20), (0, 1, 1000, 10)]);
     Ok(())
 }

@@ -1,61 +1,111 @@
-use super::{bought, buy, cancel, change, give, settings};
-use crate::Desk;
+use super::day::Day;
+use super::{buy, cancel, change};
 use std::alloc::Allocator;
+use std::process::Abort;
 use std::test::Fail;
 use xm_refusing::Refusing;
 use xm_rules::{Auction, CallStage, Command, Order, OutOfMemory, Phase, Refusal};
 
-/// The orders of a desk, asked for once more where the first answer is for want of memory.
-fn live<A: Allocator + Copy>(
-    desk: &Desk<A>,
-    refused: &mut Vec<&'static str>,
-) -> Result<Vec<Order, A>, Fail> {
-    match desk.orders() {
-        Ok(orders) => Ok(orders),
-        Err(OutOfMemory) => {
-            refused.push("orders")?;
-            Ok(desk.orders().map_err(|_| "refused twice")?)
+/// How often a call answered for want of memory.
+#[derive(Drop)]
+struct Refused {
+    commands: u64,
+    lists: u64,
+}
+
+impl Refused {
+    /// The orders of a day, asked for once more where the first answer is for want of memory.
+    fn orders<A: Allocator + Copy>(&mut self, rt: &impl Abort, day: &Day<A>) -> Vec<Order, A> {
+        match day.orders() {
+            Ok(orders) => orders,
+            Err(OutOfMemory) => {
+                self.lists = self.lists.wrapping_add(1);
+                day.orders().expect(rt, "refused twice")
+            }
         }
+    }
+
+    /// Compares all that the readers answer of two days.
+    fn compare<A: Allocator + Copy, B: Allocator + Copy>(
+        &mut self,
+        rt: &impl Abort,
+        day: &Day<A>,
+        like: &Day<B>,
+    ) {
+        assert_eq!(rt; day.settings(), like.settings());
+        assert_eq!(rt; day.phase(), like.phase());
+        assert_eq!(rt; day.reference_prices(), like.reference_prices());
+        assert!(rt; day.journal() == like.journal());
+        like.orders_are(rt, &self.orders(rt, day));
+    }
+
+    /// Gives a command to a day, where memory may be refused, and to one like it, where it is not.
+    fn give<A: Allocator + Copy, B: Allocator + Copy>(
+        &mut self,
+        rt: &impl Abort,
+        day: &mut Day<A>,
+        like: &mut Day<B>,
+        command: Command,
+    ) {
+        let mut answer = day.apply(rt, command);
+        if answer == Err(Refusal::OutOfMemory) {
+            self.commands = self.commands.wrapping_add(1);
+            self.compare(rt, day, like);
+            answer = day.apply(rt, command);
+        }
+        assert_eq!(rt; answer, like.apply(rt, command));
+        self.compare(rt, day, like);
+    }
+
+    /// Runs a day in which the request of this number is refused, and answers whether one was.
+    fn run<A: Allocator + Copy>(
+        &mut self,
+        rt: &impl Abort,
+        alloc: A,
+        nth: u64,
+    ) -> Result<bool, Fail> {
+        let refusing = Refusing::new(alloc, nth);
+        let mut day = Day::open(&refusing, 100)?;
+        let mut like = Day::open(alloc, 100)?;
+        let commands = commands();
+        for command in commands {
+            self.give(rt, &mut day, &mut like, command);
+        }
+        assert!(rt; like.journal() == commands.as_slice());
+        assert_eq!(rt;
+            like.phase(),
+            Phase::Call(Auction::Opening, CallStage::Ordinary)
+        );
+        like.buys_are(rt, &[(1, 1, 1010, 6), (0, 2, 990, 7)]);
+        Ok(refusing.has_refused())
     }
 }
 
-#[test]
-fn each_growth_refused_in_turn(rt: HostRuntime) -> Result<(), Fail> {
-    let day = [
+fn commands() -> [Command; 10] {
+    [
         buy(0, 1, 1000, 10),
         Command::StartOpening,
         buy(1, 1, 1010, 5),
         cancel(0, 1),
         buy(0, 2, 990, 7),
         change(1, 1, 6, None),
+        buy(0, 3, 980, 1),
+        change(0, 2, 7, Some(985)),
         Command::CancelAll { member: 0 },
         buy(0, 2, 990, 7),
-    ];
-    let mut refused = Vec::new(rt.alloc());
+    ]
+}
+
+#[test]
+fn each_growth_refused_in_turn(rt: HostRuntime) -> Result<(), Fail> {
+    let mut refused = Refused {
+        commands: 0,
+        lists: 0,
+    };
     for nth in 1..100 {
-        let alloc = Refusing::new(rt.alloc(), nth);
-        let mut desk = Desk::open(&alloc, settings(100)?)?;
-        for command in day {
-            let phase = desk.phase();
-            let commands = desk.journal().len();
-            let orders = live(&desk, &mut refused)?;
-            if give(&rt, &mut desk, command) == Err(Refusal::OutOfMemory) {
-                refused.push("apply")?;
-                assert_eq!(rt; (desk.phase(), desk.journal().len()), (phase, commands));
-                assert_eq!(rt; live(&desk, &mut refused)?.as_slice(), orders.as_slice());
-                assert!(rt; give(&rt, &mut desk, command).is_ok());
-            }
-        }
-        assert_eq!(rt;
-            desk.phase(),
-            Phase::Call(Auction::Opening, CallStage::Ordinary)
-        );
-        assert_eq!(rt; desk.journal().len(), day.len());
-        let left = [bought(1, 1, 1010, 6)?, bought(0, 2, 990, 7)?];
-        assert_eq!(rt; live(&desk, &mut refused)?.as_slice(), left.as_slice());
-        if !alloc.has_refused() {
-            assert_eq!(rt; refused.len() as u64 + 1, nth);
-            assert!(rt; refused.contains(&"apply") && refused.contains(&"orders"));
+        if !refused.run(&rt, rt.alloc(), nth)? {
+            assert_eq!(rt; refused.commands.wrapping_add(refused.lists), nth - 1);
+            assert!(rt; refused.commands > 0 && refused.lists > 0);
             return Ok(());
         }
     }
