@@ -1,7 +1,11 @@
 use super::day::Day;
 use super::{buy, cancel, settings};
 use std::test::Fail;
-use xm_rules::{Auction, CallStage, Command, Phase, Refusal, Reply};
+use xm_rules::{
+    Auction, CallStage, Command, Condition, Kind, Order, OrderKind, Phase, Refusal, Reply,
+    Restriction, Side, Validity,
+};
+use xm_ticks::Price;
 
 #[test]
 fn orders_before_and_in_the_opening_call(rt: HostRuntime) -> Result<(), Fail> {
@@ -58,5 +62,72 @@ fn names_of_orders(rt: HostRuntime) -> Result<(), Fail> {
     ];
     day.give_all(&rt, &steps);
     day.buys_are(&rt, &[(1, 7, 1000, 20), (0, 7, 1000, 30)]);
+    Ok(())
+}
+
+/// Orders of every kind, each with an earlier reference than the one before.
+fn orders_of_every_kind() -> Option<[Order; 4]> {
+    let first = Order {
+        member: 1,
+        reference: 4,
+        side: Side::Buy,
+        kind: OrderKind::Market,
+        rest: 5,
+        validity: Validity::Day,
+        restriction: Restriction::Free,
+    };
+    let second = Order {
+        reference: 3,
+        side: Side::Sell,
+        kind: OrderKind::Limit(Price::new(1000)?),
+        validity: Validity::TillDate(20260105),
+        restriction: Restriction::OpeningOnly,
+        ..first
+    };
+    let third = Order {
+        reference: 2,
+        kind: OrderKind::Limit(Price::new(1010)?),
+        validity: Validity::TillCancelled,
+        restriction: Restriction::AuctionsOnly,
+        ..first
+    };
+    let fourth = Order {
+        reference: 1,
+        side: Side::Sell,
+        validity: Validity::TillDate(99_999_999),
+        restriction: Restriction::ClosingOnly,
+        ..first
+    };
+    Some([first, second, third, fourth])
+}
+
+/// The entry of an order.
+fn entry_of(order: &Order) -> Command {
+    let kind = match order.kind {
+        OrderKind::Market => Kind::Market,
+        OrderKind::Limit(price) => Kind::Limit(price.get()),
+    };
+    Command::Enter {
+        member: order.member,
+        reference: order.reference,
+        side: order.side,
+        kind,
+        quantity: order.rest,
+        validity: order.validity,
+        restriction: order.restriction,
+        condition: Condition::Plain,
+    }
+}
+
+#[test]
+fn orders_of_every_kind_in_time_order(rt: HostRuntime) -> Result<(), Fail> {
+    let orders = orders_of_every_kind().ok_or("no price")?;
+    let mut day = Day::open(rt.alloc(), 100)?;
+    for order in &orders {
+        assert!(rt; day.give(&rt, entry_of(order)).is_ok());
+    }
+    day.orders_are(&rt, &orders);
+    day.give_all(&rt, &[(Command::StartOpening, Ok(5))]);
+    day.orders_are(&rt, &orders);
     Ok(())
 }
