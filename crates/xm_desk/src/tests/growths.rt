@@ -57,19 +57,16 @@ impl Refused {
         self.compare(rt, day, like);
     }
 
-    /// Runs a day in which the request of this number is refused, and answers whether one was.
-    fn run<A: Allocator + Copy>(
+    /// Gives the commands of a day.
+    fn give_all<A: Allocator + Copy, B: Allocator + Copy>(
         &mut self,
         rt: &impl Abort,
-        alloc: A,
-        nth: u64,
-    ) -> Result<bool, Fail> {
-        let refusing = Refusing::new(alloc, nth);
-        let mut day = Day::open(&refusing, 100)?;
-        let mut like = Day::open(alloc, 100)?;
+        day: &mut Day<A>,
+        like: &mut Day<B>,
+    ) {
         let commands = commands();
         for command in commands {
-            self.give(rt, &mut day, &mut like, command);
+            self.give(rt, day, like, command);
         }
         assert!(rt; like.journal() == commands.as_slice());
         assert_eq!(rt;
@@ -77,6 +74,19 @@ impl Refused {
             Phase::Call(Auction::Opening, CallStage::Ordinary)
         );
         like.buys_are(rt, &[(1, 1, 1010, 6), (0, 2, 990, 7)]);
+    }
+
+    /// Runs a day in which the request of this number is refused, and answers whether one was.
+    fn run<A: Allocator + Copy>(
+        &mut self,
+        rt: &impl Abort,
+        alloc: A,
+        nth: u64,
+    ) -> Result<bool, Fail> {
+        let mut like = Day::open(alloc, 100)?;
+        let refusing = Refusing::new(alloc, nth);
+        let mut day = Day::open(&refusing, 100)?;
+        self.give_all(rt, &mut day, &mut like);
         Ok(refusing.has_refused())
     }
 }
