@@ -1,0 +1,114 @@
+//! A book that a test fills.
+ghost use Rattle.std.specs.Prelude.{◌≡◌, ◌+◌, ◌<◌, ◌^◌, [], IsTrue, OnErr, OnOk, false, length};
+ghost use Rattle.xm_book.specs.TimeList.{is_known};
+ghost use Rattle.xm_rules.specs.Commands.{is_in_range};
+
+use crate::{Book, Place};
+use std::alloc::Allocator;
+use std::marker::Model;
+use xm_rules::{Order, OutOfMemory, Phase, Side};
+use xm_ticks::Price;
+
+/// A book with no reserved place, which takes up to 1,000,000 orders in all. What its calls answer
+/// is for a test to compare, so they promise nothing.
+#[derive(Drop)]
+pub struct Entries<A: Allocator> {
+    book: Book<A>,
+    entered: u64,
+}
+
+impl<A: Allocator> Model for Entries<A> {
+    ghost use Rattle.std.specs.Prelude.{◌≡◌, ◌≤◌, List, []};
+    ghost use Rattle.xm_rules.specs.declared.orders.Order.{Order};
+
+    ghost Value = { List Order };
+
+    ghost view = { λ e. e.book.orders };
+
+    ghost invariant = { λ e. record {
+      unreserved : e.book.reserved ≡ [];
+      adds : e.book.adds ≤ e.entered;
+      few : e.entered ≤ 1000000;
+    } };
+}
+
+impl<A: Allocator + Copy> Entries<A> {
+    pub fn new(alloc: A) -> Entries<A> {
+        Entries {
+            book: Book::new(alloc),
+            entered: 0,
+        }
+    }
+
+    pub fn orders(&self) -> Result<Vec<Order, A>, OutOfMemory> {
+        self.book.orders()
+    }
+
+    pub fn of_member(&self, member: u32) -> Result<Vec<u32, A>, OutOfMemory> {
+        self.book.of_member(member)
+    }
+}
+
+impl<A: Allocator> Entries<A> {
+    pub fn len(&self) -> usize {
+        self.book.len()
+    }
+
+    pub fn find(&self, member: u32, reference: u32) -> Option<Order> {
+        self.book.find(member, reference).copied()
+    }
+
+    pub fn best(&self, side: Side, phase: Phase) -> Option<Order> {
+        self.book.best(side, phase).copied()
+    }
+
+    pub fn next_after(&self, side: Side, phase: Phase, order: Order) -> Option<Order> {
+        self.book.next_after(side, phase, &order).copied()
+    }
+
+    pub fn best_limit(&self, side: Side, phase: Phase) -> Option<Price> {
+        self.book.best_limit(side, phase)
+    }
+
+    /// Puts in an order, and answers whether the book can take it: not one of a known name, nor one
+    /// with a rest out of range.
+    pub fn enter(&mut self, order: Order) -> Result<bool, OutOfMemory> {
+        let known = self.book.find(order.member, order.reference).is_some();
+        let in_range = 1 <= order.rest && order.rest <= 1_000_000;
+        if known || !in_range || self.book.len() >= 1_000_000 || self.entered >= 1_000_000 {
+            return Ok(false);
+        }
+        join(&mut self.book, order)?;
+        self.entered += 1;
+        Ok(true)
+    }
+
+    pub fn remove(&mut self, member: u32, reference: u32) -> Option<Order> {
+        self.book.remove(member, reference)
+    }
+
+    /// Gives an order a new rest, and answers whether the book can: the order is known, and the rest
+    /// is in range and doesn't rise.
+    pub fn reduce(&mut self, member: u32, reference: u32, rest: u32) -> bool {
+        let present = match self.book.find(member, reference) {
+            None => return false,
+            Some(order) => order.rest,
+        };
+        1 <= rest && rest <= present && self.book.reduce(member, reference, rest)
+    }
+}
+
+fn join<A: Allocator>(book: &mut Book<A>, order: Order) -> Result<(), OutOfMemory>
+    requires name { is_known order.member order.reference book.old ≡ false }
+    requires rest { IsTrue (is_in_range order.rest) }
+    requires few { length book.old.orders < 1999999 }
+    requires adds { book.old.adds < 2 ^ 63 }
+    requires unreserved { book.old.reserved ≡ [] }
+    ensures ok { OnOk result (book.new.adds ≡ book.old.adds + 1) }
+    ensures err { OnErr result (book.new ≡ book.old) }
+    ensures unreserved { book.new.reserved ≡ [] }
+{
+    book.reserve_for(&Place::of(&order))?;
+    book.add(order);
+    Ok(())
+}
