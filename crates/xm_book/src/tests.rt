@@ -1,5 +1,6 @@
 mod entries;
 mod priority;
+mod reserving;
 mod time_order;
 
 use entries::Entries;

@@ -1,5 +1,6 @@
 //! A book that a test fills.
 ghost use Rattle.std.specs.Prelude.{◌≡◌, ◌+◌, ◌<◌, ◌^◌, [], IsTrue, OnErr, OnOk, false, length};
+ghost use Rattle.xm_book.specs.Places.{SamePlaces};
 ghost use Rattle.xm_book.specs.TimeList.{is_known};
 ghost use Rattle.xm_rules.specs.Commands.{is_in_range};
 
@@ -74,13 +75,34 @@ impl<A: Allocator> Entries<A> {
     /// with a rest out of range.
     pub fn enter(&mut self, order: Order) -> Result<bool, OutOfMemory> {
         let known = self.book.find(order.member, order.reference).is_some();
-        let in_range = 1 <= order.rest && order.rest <= 1_000_000;
-        if known || !in_range || self.book.len() >= 1_000_000 || self.entered >= 1_000_000 {
+        let full = self.book.len() >= 1_000_000 || self.entered >= 1_000_000;
+        if known || full || !is_in_range(order.rest) {
             return Ok(false);
         }
         join(&mut self.book, order)?;
         self.entered += 1;
         Ok(true)
+    }
+
+    /// Puts in an order in place of the one of its name, which stays until room is reserved, and
+    /// answers whether there is one.
+    pub fn replace(&mut self, order: Order) -> Result<bool, OutOfMemory> {
+        let known = self.book.find(order.member, order.reference).is_some();
+        let full = self.book.len() >= 1_000_000 || self.entered >= 1_000_000;
+        if !known || full || !is_in_range(order.rest) {
+            return Ok(false);
+        }
+        exchange(&mut self.book, order)?;
+        self.entered += 1;
+        Ok(true)
+    }
+
+    /// Reserves the place of an order twice, and gives it up twice.
+    pub fn reserve_twice(&mut self, order: Order) -> Result<(), OutOfMemory> {
+        if self.book.len() >= 1_000_000 {
+            return Ok(());
+        }
+        reserve_twice(&mut self.book, &Place::of(&order))
     }
 
     pub fn remove(&mut self, member: u32, reference: u32) -> Option<Order> {
@@ -98,6 +120,12 @@ impl<A: Allocator> Entries<A> {
     }
 }
 
+fn is_in_range(rest: u32) -> bool
+    ensures { result ≡ is_in_range rest }
+{
+    1 <= rest && rest <= 1_000_000
+}
+
 fn join<A: Allocator>(book: &mut Book<A>, order: Order) -> Result<(), OutOfMemory>
     requires name { is_known order.member order.reference book.old ≡ false }
     requires rest { IsTrue (is_in_range order.rest) }
@@ -111,4 +139,43 @@ fn join<A: Allocator>(book: &mut Book<A>, order: Order) -> Result<(), OutOfMemor
     book.reserve_for(&Place::of(&order))?;
     book.add(order);
     Ok(())
+}
+
+fn exchange<A: Allocator>(book: &mut Book<A>, order: Order) -> Result<(), OutOfMemory>
+    requires rest { IsTrue (is_in_range order.rest) }
+    requires few { length book.old.orders < 1999999 }
+    requires adds { book.old.adds < 2 ^ 63 }
+    requires unreserved { book.old.reserved ≡ [] }
+    ensures ok { OnOk result (book.new.adds ≡ book.old.adds + 1) }
+    ensures err { OnErr result (book.new ≡ book.old) }
+    ensures unreserved { book.new.reserved ≡ [] }
+{
+    book.reserve_for(&Place::of(&order))?;
+    book.remove(order.member, order.reference);
+    book.add(order);
+    Ok(())
+}
+
+// Reserves a place and gives it up.
+fn reserve_and_release<A: Allocator>(book: &mut Book<A>, place: &Place) -> Result<(), OutOfMemory>
+    requires { length book.old.orders + length book.old.reserved < 2000000 }
+    ensures rest { book.new ≡ record book.old { reserved = book.new.reserved } }
+    ensures places { SamePlaces book.new.reserved book.old.reserved }
+{
+    book.reserve_for(place)?;
+    book.release(place);
+    Ok(())
+}
+
+// Reserves a place, and meanwhile once more.
+fn reserve_twice<A: Allocator>(book: &mut Book<A>, place: &Place) -> Result<(), OutOfMemory>
+    requires few { length book.old.orders < 1999999 }
+    requires unreserved { book.old.reserved ≡ [] }
+    ensures adds { book.new.adds ≡ book.old.adds }
+    ensures unreserved { book.new.reserved ≡ [] }
+{
+    book.reserve_for(place)?;
+    let second = reserve_and_release(book, place);
+    book.release(place);
+    second
 }

@@ -5,12 +5,12 @@ use std::alloc::Allocator;
 use std::process::Abort;
 use xm_rules::{Order, Phase, Restriction, Side};
 
-fn buy(rt: &impl Abort, reference: u32) -> Order {
+pub fn buy(rt: &impl Abort, reference: u32) -> Order {
     order(Side::Buy, reference, limit(rt, 100))
 }
 
 /// A book of two buys at one price, the first of reference 1 and the second of reference 2.
-fn two_buys<A: Allocator + Copy>(rt: &impl Abort, alloc: A) -> Entries<A> {
+pub fn two_buys<A: Allocator + Copy>(rt: &impl Abort, alloc: A) -> Entries<A> {
     let mut book = Entries::new(alloc);
     enter(rt, &mut book, buy(rt, 1));
     enter(rt, &mut book, buy(rt, 2));
@@ -18,7 +18,7 @@ fn two_buys<A: Allocator + Copy>(rt: &impl Abort, alloc: A) -> Entries<A> {
 }
 
 /// Compares the references of all orders, which stand in time order and in that of priority.
-fn compare_all<A: Allocator + Copy>(rt: &impl Abort, book: &Entries<A>, references: &[u32]) {
+pub fn compare_all<A: Allocator + Copy>(rt: &impl Abort, book: &Entries<A>, references: &[u32]) {
     let stored = book.of_member(0).expect(rt, "memory");
     assert_eq!(rt; stored.as_slice(), references);
     compare_walk(rt, book, Side::Buy, Phase::Continuous, references);

@@ -1,4 +1,4 @@
-use Rattle.std.proofs.Common.{◌≡◌, rules}
+use Rattle.std.proofs.Common.{rules}
 use Rattle.xm_book.proofs.Reserving.{reserved-there}
 use Rattle.xm_book.specs.Places.{place_of}
 use Rattle.xm_book.specs.TimeList.{Reserves}
