@@ -1,7 +1,8 @@
 //! Places that are reserved for orders to come.
 use super::time_order::{buy, compare_all, two_buys};
-use super::enter;
-use xm_rules::{Order, OrderKind, Side};
+use super::{compare_walk, enter, found};
+use std::process::Abort;
+use xm_rules::{Order, OrderKind, Phase, Side};
 
 #[test]
 fn reserved_and_released(rt: HostRuntime) {
@@ -23,15 +24,20 @@ fn place_of_a_live_name(rt: HostRuntime) {
     compare_all(&rt, &book, &[2, 1]);
 }
 
-#[test]
-fn place_on_the_other_side(rt: HostRuntime) {
-    let mut book = two_buys(&rt, rt.alloc());
-    let sell = Order {
+fn sell(rt: &impl Abort) -> Order {
+    Order {
         side: Side::Sell,
         kind: OrderKind::Market,
         rest: 1,
-        ..buy(&rt, 1)
-    };
-    assert_eq!(rt; book.replace(sell), Ok(true));
-    assert_eq!(rt; book.find(0, 1), Some(sell));
+        ..buy(rt, 1)
+    }
+}
+
+#[test]
+fn place_on_the_other_side(rt: HostRuntime) {
+    let mut book = two_buys(&rt, rt.alloc());
+    assert_eq!(rt; book.replace(sell(&rt)), Ok(true));
+    found(&rt, book.find(0, 1), sell(&rt));
+    found(&rt, book.best(Side::Sell, Phase::Continuous), sell(&rt));
+    compare_walk(&rt, &book, Side::Buy, Phase::Continuous, &[2]);
 }

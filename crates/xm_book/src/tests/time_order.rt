@@ -1,6 +1,6 @@
 //! The places of orders in time.
 use super::entries::Entries;
-use super::{CLOSING, compare_walk, enter, limit, order};
+use super::{CLOSING, compare_walk, enter, found, limit, order};
 use std::alloc::Allocator;
 use std::process::Abort;
 use xm_rules::{Order, Phase, Restriction, Side};
@@ -38,7 +38,7 @@ fn reduction(rt: HostRuntime) {
         rest: 4,
         ..buy(&rt, 1)
     };
-    assert_eq!(rt; book.find(0, 1), Some(reduced));
+    found(&rt, book.find(0, 1), reduced);
     compare_all(&rt, &book, &[1, 2]);
 }
 
@@ -67,16 +67,20 @@ fn cancelled_name(rt: HostRuntime) {
     compare_all(&rt, &book, &[2, 3, 1]);
 }
 
+fn restricted_buy(rt: &impl Abort) -> Order {
+    Order {
+        restriction: Restriction::ClosingOnly,
+        ..buy(rt, 1)
+    }
+}
+
 #[test]
 fn inactive_order(rt: HostRuntime) {
     let mut book = Entries::new(rt.alloc());
-    let restricted = Order {
-        restriction: Restriction::ClosingOnly,
-        ..buy(&rt, 1)
-    };
-    enter(&rt, &mut book, restricted);
+    enter(&rt, &mut book, restricted_buy(&rt));
     assert!(rt; book.best(Side::Buy, Phase::Continuous).is_none());
-    assert_eq!(rt; book.best(Side::Buy, CLOSING), Some(restricted));
+    found(&rt, book.best(Side::Buy, CLOSING), restricted_buy(&rt));
     let stored = book.orders().expect(&rt, "memory");
-    assert_eq!(rt; stored.as_slice(), [restricted].as_slice());
+    assert_eq!(rt; stored.len(), 1);
+    found(&rt, stored.first().copied(), restricted_buy(&rt));
 }
