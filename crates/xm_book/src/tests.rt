@@ -4,6 +4,7 @@ mod growths;
 mod plain;
 mod priority;
 mod reserving;
+mod side_by_side;
 mod time_order;
 
 use entries::Entries;
