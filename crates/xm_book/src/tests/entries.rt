@@ -109,6 +109,10 @@ impl<A: Allocator> Entries<A> {
         self.book.remove(member, reference)
     }
 
+    pub fn remove_all(&mut self, member: u32) {
+        self.book.remove_all(member)
+    }
+
     /// Gives an order a new rest, and answers whether the book can: the order is known, and the rest
     /// is in range and doesn't rise.
     pub fn reduce(&mut self, member: u32, reference: u32, rest: u32) -> bool {

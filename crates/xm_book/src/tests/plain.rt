@@ -108,6 +108,10 @@ impl Plain {
             .retain(|order| !is_named(order, member, reference));
     }
 
+    pub fn remove_all(&mut self, member: u32) {
+        self.orders.retain(|order| order.member != member);
+    }
+
     pub fn reduce(&mut self, member: u32, reference: u32, rest: u32) {
         for order in self.orders.iter_mut() {
             if is_named(order, member, reference) {

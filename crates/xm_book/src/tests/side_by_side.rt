@@ -102,17 +102,6 @@ fn remove<A: Allocator>(
     list.remove(member, reference);
 }
 
-fn remove_member<A: Allocator>(
-    rt: &impl Abort,
-    book: &mut Entries<A>,
-    list: &mut Plain,
-    member: u32,
-) {
-    for reference in 0..10 {
-        remove(rt, book, list, member, reference);
-    }
-}
-
 fn reduce<A: Allocator>(rt: &impl Abort, book: &mut Entries<A>, list: &mut Plain, to: &Order) {
     let falls = match list.find(to.member, to.reference) {
         None => false,
@@ -136,7 +125,10 @@ fn turn<A: Allocator>(
         32..=43 => remove(rt, book, list, order.member, order.reference),
         44..=55 => reduce(rt, book, list, order),
         56..=62 => replace(rt, book, list, order),
-        _ => remove_member(rt, book, list, order.member),
+        _ => {
+            book.remove_all(order.member);
+            list.remove_all(order.member);
+        }
     }
 }
 
