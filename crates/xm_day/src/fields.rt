@@ -1,11 +1,11 @@
 //! The texts of the fields of the order file.
-ghost use Rattle.std.specs.Prelude.{◌≡◌, ◌<◌, ◌≤◌, ◌^◌, length, IfSome};
+ghost use Rattle.std.specs.Prelude.{◌≡◌};
 ghost use Rattle.std.specs.Str.{bytes_eq};
-ghost use Rattle.xm_ticks.specs.Reading.{number_of, price_of};
+ghost use Rattle.xm_ticks.specs.Reading.{price_of};
 ghost use Rattle.xm_day.specs.Rows.{condition_of, raw_price, restriction_of, side_of, validity_of, whole_of};
 
 use xm_rules::{Condition, Restriction, Side, Validity};
-use xm_ticks::{PriceFault, TickSize, read_price};
+use xm_ticks::{PriceFault, TickSize, read_number, read_price};
 
 /// Whether a field is this word.
 pub(crate) fn is_word(text: &[u8], word: &str) -> bool
@@ -21,29 +21,10 @@ pub(crate) fn whole(text: &[u8]) -> Option<u32>
     if text.len() > 10 {
         return None;
     }
-    match digits(text) {
+    match read_number(text) {
         Some(number) => u32::try_from(number).ok(),
         None => None,
     }
-}
-
-/// The number that digits write, if there is a digit and nothing else.
-fn digits(text: &[u8]) -> Option<u64>
-    requires { length text.now ≤ 10 }
-    ensures value { result ≡ number_of text.now }
-    ensures small { IfSome result (λ n. n < 10 ^ 10) }
-{
-    if text.is_empty() {
-        return None;
-    }
-    let mut number = 0u64;
-    for byte in text {
-        if !byte.is_ascii_digit() {
-            return None;
-        }
-        number = number * 10 + u64::from(*byte - b'0');
-    }
-    Some(number)
 }
 
 /// The raw price of a text: 0 where it is a number and no price, so that its row is refused.

@@ -10,5 +10,5 @@ pub mod writing;
 
 pub use numbers::{JournalLimit, Price, Quantity, TickSize};
 pub use ranges::inside;
-pub use reading::{PriceFault, read_price};
+pub use reading::{PriceFault, read_number, read_price};
 pub use writing::{write_money, write_price, write_whole};

@@ -1,4 +1,4 @@
-//! The price of a text.
+//! The number and the price of a text.
 ghost use Rattle.std.specs.Prelude.{◌≡◌, ◌<◌, ◌≤◌, ◌^◌, length, IfSome};
 ghost use Rattle.std.specs.Option.{ForSome};
 ghost use Rattle.xm_ticks.specs.Reading.{number_of, point_of, price_of, price_of_parts, price_of_amount};
@@ -28,10 +28,10 @@ pub fn read_price(text: &[u8], tick: TickSize) -> Result<Price, PriceFault>
         return Err(PriceFault::NotANumber);
     }
     match point(text) {
-        None => price_of_parts(number(text), Some(0), 0, tick),
+        None => price_of_parts(read_number(text), Some(0), 0, tick),
         Some(i) => price_of_parts(
-            number(&text[..i]),
-            number(&text[i + 1..]),
+            read_number(&text[..i]),
+            read_number(&text[i + 1..]),
             text.len() - (i + 1),
             tick,
         ),
@@ -46,8 +46,8 @@ fn point(text: &[u8]) -> Option<usize>
     text.iter().position(|byte| *byte == b'.')
 }
 
-/// The number that digits write, if there is a digit and nothing else.
-fn number(text: &[u8]) -> Option<u64>
+/// The number that up to 16 digits write, if there is a digit and nothing else.
+pub fn read_number(text: &[u8]) -> Option<u64>
     requires { length text.now ≤ 16 }
     ensures value { result ≡ number_of text.now }
     ensures small { IfSome result (λ n. n < 10 ^ 16) }
@@ -55,14 +55,14 @@ fn number(text: &[u8]) -> Option<u64>
     if text.is_empty() {
         return None;
     }
-    let mut n = 0u64;
+    let mut number = 0u64;
     for byte in text {
         if !byte.is_ascii_digit() {
             return None;
         }
-        n = n * 10 + u64::from(*byte - b'0');
+        number = number * 10 + u64::from(*byte - b'0');
     }
-    Some(n)
+    Some(number)
 }
 
 /// The price of the numbers before and after a point, of which the second has so many digits.

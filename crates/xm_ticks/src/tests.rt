@@ -1,6 +1,6 @@
 use crate::{
-    JournalLimit, Price, PriceFault, Quantity, TickSize, inside, read_price, write_money,
-    write_price, write_whole,
+    JournalLimit, Price, PriceFault, Quantity, TickSize, inside, read_number, read_price,
+    write_money, write_price, write_whole,
 };
 use std::io::{self, Write};
 use std::test::Fail;
@@ -65,6 +65,22 @@ fn ranges_of_the_numbers(rt: HostRuntime) -> Result<(), Fail> {
     assert_eq!(rt; tick(10_000)?.get(), 10_000);
     assert_eq!(rt; TickSize::FINEST.get(), 1);
     Ok(())
+}
+
+#[test]
+fn number_texts(rt: HostRuntime) {
+    let read = [
+        ("0", Some(0)),
+        ("0012", Some(12)),
+        ("9999999999999999", Some(9_999_999_999_999_999)),
+        ("", None),
+        ("1 ", None),
+        ("-1", None),
+        ("1a", None),
+    ];
+    for (text, number) in read {
+        assert_eq!(rt; read_number(text.as_bytes()), number, "{text}");
+    }
 }
 
 #[test]
