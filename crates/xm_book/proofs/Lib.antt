@@ -12,7 +12,6 @@ pub mod Paired
 pub mod Precedence
 pub mod Priorities
 pub mod Ranks
-pub mod Releasing
 pub mod Reserving
 pub mod Restrictions
 pub mod Retained

@@ -1,8 +1,19 @@
-use Rattle.std.proofs.Common.{rules}
-use Rattle.xm_book.proofs.Releasing.{given-up}
-use Rattle.xm_book.proofs.Reserving.{reserved-there}
+use Rattle.std.proofs.Common.{rules, List, ◌∷◌, arith}
+use Rattle.xm_book.proofs.Reserving.{counted-cons, reserved-there}
+use Rattle.xm_book.specs.Places.{SamePlaces, same_place}
 use Rattle.xm_book.specs.TimeList.{Reserves}
+use Rattle.xm_book.specs.declared.places.Place.{Place}
 use Rattle.xm_book.proofs.tests.entries.reserve_and_release.Goals as goal
+
+-- one that is given up again leaves the others
+given-up : (p : Place) (old between new : List Place) → SamePlaces between (p ∷ old) → SamePlaces between (p ∷ new) → SamePlaces new old
+given-up p old between new a b =
+    let l = a.length in
+    let m = b.length in
+    record {
+      length = omega arith;
+      counts = λ q. omega (arith, a.counts q, b.counts q, counted-cons (same_place q) p old, counted-cons (same_place q) p new);
+    }
 
 pub release-requires : goal.release-requires
 release-requires g c =
