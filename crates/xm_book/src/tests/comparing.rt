@@ -72,9 +72,21 @@ fn compare_side<A: Allocator>(
     same(rt, book.best(side, phase), list.best(side, phase));
     assert_eq!(rt; book.best_limit(side, phase), list.best_limit(side, phase));
     for order in list.orders() {
-        let next = list.next_after(side, phase, *order);
-        same(rt, book.next_after(side, phase, *order), next);
+        compare_next(rt, book, list, side, phase, order);
     }
+}
+
+/// Compares what comes after the order of a name, which may be unknown.
+pub fn compare_next<A: Allocator>(
+    rt: &impl Abort,
+    book: &Entries<A>,
+    list: &Plain,
+    side: Side,
+    phase: Phase,
+    order: &Order,
+) {
+    let next = list.next_after(side, phase, *order);
+    same(rt, book.next_after(side, phase, *order), next);
 }
 
 /// Compares two answers.

@@ -1,5 +1,5 @@
 //! Some thousand calls of the book and of the plain list side by side.
-use super::comparing::{compare_member, compare_orders, compare_sides, same};
+use super::comparing::{compare_member, compare_next, compare_orders, compare_sides, same};
 use super::entries::Entries;
 use super::plain::Plain;
 use super::{CLOSING, INTRADAY, OPENING, limit, order};
@@ -143,7 +143,9 @@ fn four_thousand_turns(rt: HostRuntime) {
         turn(&rt, &mut book, &mut list, &order, numbers.draw());
         compare_orders(&rt, &book, &list);
         compare_member(&rt, &book, &list, order.member);
-        compare_sides(&rt, &book, &list, numbers.phase());
+        let phase = numbers.phase();
+        compare_sides(&rt, &book, &list, phase);
+        compare_next(&rt, &book, &list, order.side, phase, &order);
         most = book.len().max(most);
     }
     assert!(rt; most >= 20);
