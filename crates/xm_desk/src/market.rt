@@ -1,6 +1,7 @@
 //! The state of a security, and how commands change it.
 ghost use Rattle.std.specs.Prelude.{◌≡◌, ◌+◌, ◌++◌, ◌∷◌, ◌<◌, [], IsTrue, None, Some, IfOk, OnErr, OnOk, false, find};
 ghost use Rattle.xm_desk.specs.Changes.{change_refusal, changed_orders};
+ghost use Rattle.xm_desk.specs.Entries.{is_entry};
 ghost use Rattle.xm_book.specs.TimeList.{removed, without_member};
 ghost use Rattle.xm_rules.specs.Commands.{has_prices_in_range, is_in_range, order_kind};
 ghost use Rattle.xm_rules.specs.Orders.{is_named};
@@ -86,32 +87,7 @@ impl<A: Allocator> Market<A> {
         ensures { result ≡ first_failing (own_checks self.now command.now) }
     {
         match command {
-            Command::Enter {
-                member,
-                reference,
-                side: _,
-                kind,
-                quantity,
-                validity,
-                restriction,
-                condition,
-            } => {
-                if !is_in_range(*quantity) {
-                    Some(Refusal::BadQuantity)
-                } else if !has_prices_in_range(*kind) {
-                    Some(Refusal::BadPrice)
-                } else if is_over(self.settings.today, *validity) {
-                    Some(Refusal::BadValidity)
-                } else if is_bad_combination(*condition, *kind, *restriction) {
-                    Some(Refusal::BadCombination)
-                } else if is_immediate(*condition) && self.phase != Phase::Continuous {
-                    Some(Refusal::WrongPhase)
-                } else if self.has_order(*member, *reference) {
-                    Some(Refusal::DuplicateReference)
-                } else {
-                    None
-                }
-            }
+            Command::Enter { .. } => self.refusal_of_entry(command),
             Command::Change {
                 member,
                 reference,
@@ -134,6 +110,42 @@ impl<A: Allocator> Market<A> {
                 }
             }
             _ => unreachable!(),
+        }
+    }
+
+    /// The refusal of an entry by the checks that it has by itself.
+    fn refusal_of_entry(&self, command: &Command) -> Option<Refusal>
+        requires entry { IsTrue (is_entry command.now) }
+        requires served { IsTrue (is_served self.now.phase command.now) }
+        ensures { result ≡ first_failing (own_checks self.now command.now) }
+    {
+        let Command::Enter {
+            member,
+            reference,
+            side: _,
+            kind,
+            quantity,
+            validity,
+            restriction,
+            condition,
+        } = *command
+        else {
+            unreachable!()
+        };
+        if !is_in_range(quantity) {
+            Some(Refusal::BadQuantity)
+        } else if !has_prices_in_range(kind) {
+            Some(Refusal::BadPrice)
+        } else if is_over(self.settings.today, validity) {
+            Some(Refusal::BadValidity)
+        } else if is_bad_combination(condition, kind, restriction) {
+            Some(Refusal::BadCombination)
+        } else if is_immediate(condition) && self.phase != Phase::Continuous {
+            Some(Refusal::WrongPhase)
+        } else if self.has_order(member, reference) {
+            Some(Refusal::DuplicateReference)
+        } else {
+            None
         }
     }
 
@@ -206,24 +218,7 @@ impl<A: Allocator> Market<A> {
         ensures err { OnErr result (self.new ≡ self.old) }
     {
         match command {
-            Command::Enter {
-                member,
-                reference,
-                side,
-                kind,
-                quantity,
-                validity,
-                restriction,
-                condition: _,
-            } => self.enter(Order {
-                member: *member,
-                reference: *reference,
-                side: *side,
-                kind: order_kind(*kind),
-                rest: *quantity,
-                validity: *validity,
-                restriction: *restriction,
-            }),
+            Command::Enter { .. } => self.enter(command),
             Command::Change {
                 member,
                 reference,
@@ -246,7 +241,40 @@ impl<A: Allocator> Market<A> {
         }
     }
 
-    fn enter(&mut self, order: Order) -> Result<(), OutOfMemory>
+    /// The order of an entry joins the book.
+    fn enter(&mut self, command: &Command) -> Result<(), OutOfMemory>
+        requires entry { IsTrue (is_entry command.now) }
+        requires untraded { IsUntraded self.old }
+        requires served { IsTrue (is_served self.old.phase command.now) }
+        requires lawful { refusal_of self.old command.now ≡ None }
+        ensures ok { OnOk result (self.new ≡ step self.old command.now) }
+        ensures err { OnErr result (self.new ≡ self.old) }
+    {
+        let Command::Enter {
+            member,
+            reference,
+            side,
+            kind,
+            quantity,
+            validity,
+            restriction,
+            condition: _,
+        } = *command
+        else {
+            unreachable!()
+        };
+        self.join(Order {
+            member,
+            reference,
+            side,
+            kind: order_kind(kind),
+            rest: quantity,
+            validity,
+            restriction,
+        })
+    }
+
+    fn join(&mut self, order: Order) -> Result<(), OutOfMemory>
         requires name { has_order self.old order.member order.reference ≡ false }
         requires rest { IsTrue (is_in_range order.rest) }
         requires room { self.old.accepted < self.old.settings.limit + 64 }

@@ -13,29 +13,6 @@ use Rattle.xm_rules.specs.declared.commands.Command.TheVariants.{Enter}
 use Rattle.xm_rules.specs.declared.commands.Condition.{Condition}
 use Rattle.xm_desk.proofs.market.Market.act.Goals as goal
 
-pub order_kind-requires : goal.order_kind-requires
-order_kind-requires g c =
-    let e = c.in-Enter in
-    let passed = subst (λ (command : Command). refusal_of c.args.self.now command ≡ None) e.is c.requires.lawful in
-    let passes = entry-passes c.args.self.now e.member e.reference e.side e.kind e.quantity e.validity e.restriction e.condition passed in
-    search (rules, passes.prices)
-
-pub enter-requires-clause-name : goal.enter-requires-clause-name
-enter-requires-clause-name g c =
-    let e = c.in-Enter in
-    let passed = subst (λ (command : Command). refusal_of c.args.self.now command ≡ None) e.is c.requires.lawful in
-    (entry-passes c.args.self.now e.member e.reference e.side e.kind e.quantity e.validity e.restriction e.condition passed).fresh
-
-pub enter-requires-clause-rest : goal.enter-requires-clause-rest
-enter-requires-clause-rest g c =
-    let e = c.in-Enter in
-    let passed = subst (λ (command : Command). refusal_of c.args.self.now command ≡ None) e.is c.requires.lawful in
-    let passes = entry-passes c.args.self.now e.member e.reference e.side e.kind e.quantity e.validity e.restriction e.condition passed in
-    search (rules, passes.quantity)
-
-pub enter-requires-clause-room : goal.enter-requires-clause-room
-enter-requires-clause-room g c = accepted-below c.args.self.now c.args.command.now c.requires.lawful
-
 pub change-requires-clause-passes : goal.change-requires-clause-passes
 change-requires-clause-passes g c =
     let e = c.in-Change in
@@ -53,19 +30,6 @@ cancel_all-requires g c = record { room = accepted-below c.args.self.now c.args.
 
 pub start_opening-requires : goal.start_opening-requires
 start_opening-requires g c = record { room = accepted-below c.args.self.now c.args.command.now c.requires.lawful }
-
-pub returns-in-Enter-clause-ok : goal.returns-in-Enter-clause-ok
-returns-in-Enter-clause-ok g c =
-    let s = c.args.self.now in
-    let e = c.in-Enter in
-    let passed = subst (λ (command : Command). refusal_of s command ≡ None) e.is c.requires.lawful in
-    let plain = entry-plain s e.member e.reference e.side e.kind e.quantity e.validity e.restriction e.condition passed c.requires.untraded.before in
-    let served : (not (is_continuous s.phase) && not (is_stop (trigger_of e.kind))) ≡ true = search rules in
-    let no_stop = no_trigger (trigger_of e.kind) (and_parts (not (is_continuous s.phase)) (not (is_stop (trigger_of e.kind))) served).1 in
-    let stepped = ap (step s) e.is
-    ∙ ap (λ (condition : Condition). step s (Enter e.member e.reference e.side e.kind e.quantity e.validity e.restriction condition)) plain
-    ∙ step-entered s e.member e.reference e.side e.kind e.quantity e.validity e.restriction no_stop c.requires.untraded in
-    search (rules, stepped)
 
 pub returns-in-Change-clause-ok : goal.returns-in-Change-clause-ok
 returns-in-Change-clause-ok g c =
