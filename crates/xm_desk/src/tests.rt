@@ -27,10 +27,19 @@ fn settings(limit: u32) -> Result<DeskSettings, Fail> {
 }
 
 fn buy(member: u32, reference: u32, limit: u32, quantity: u32) -> Command {
+    limited(Side::Buy, member, reference, limit, quantity)
+}
+
+fn sell(member: u32, reference: u32, limit: u32, quantity: u32) -> Command {
+    limited(Side::Sell, member, reference, limit, quantity)
+}
+
+/// The entry of a free order for the day.
+fn limited(side: Side, member: u32, reference: u32, limit: u32, quantity: u32) -> Command {
     Command::Enter {
         member,
         reference,
-        side: Side::Buy,
+        side,
         kind: Kind::Limit(limit),
         quantity,
         validity: Validity::Day,

@@ -1,5 +1,5 @@
 use super::day::Day;
-use super::{buy, cancel, change};
+use super::{buy, cancel, change, sell};
 use std::alloc::Allocator;
 use std::process::Abort;
 use std::test::Fail;
@@ -99,7 +99,7 @@ fn commands() -> [Command; 10] {
         cancel(0, 1),
         buy(0, 2, 990, 7),
         change(1, 1, 6, None),
-        buy(0, 3, 980, 1),
+        sell(0, 3, 1020, 1),
         change(0, 2, 7, Some(985)),
         Command::CancelAll { member: 0 },
         buy(0, 2, 990, 7),
