@@ -1,11 +1,11 @@
 -- How many orders a change leaves.
-use Rattle.std.proofs.Common.{ℕ, ◌+◌, ◌≤◌, Bool, true, false, ◌&&◌, not, if◌then◌else◌, List, [], ◌∷◌, ◌++◌, length, filter, Option, Some, None, arith}
+use Rattle.std.proofs.Common.{ℕ, ◌+◌, ◌≤◌, Bool, true, false, ◌&&◌, not, if◌then◌else◌, List, [], ◌∷◌, length, filter, Option, Some, None, arith}
 use Rattle.std.specs.Prelude.{nat_le}
 use Rattle.std.proofs.lemmas.List.{length-append, length-map}
 use Rattle.std.proofs.lemmas.List.Sums.{count_by-le-length, length-filter}
 use Rattle.xm_desk.specs.Changes.{changed_orders}
 use Rattle.xm_book.specs.TimeList.{removed}
-use Rattle.xm_rules.specs.Orders.{is_named, with_rest}
+use Rattle.xm_rules.specs.Orders.{is_named}
 use Rattle.xm_rules.specs.Step.{changed_kind, same_limit}
 use Rattle.xm_rules.specs.declared.orders.Order.{Order}
 

@@ -1,5 +1,5 @@
 -- What a command that isn't refused has passed.
-use Rattle.std.proofs.Common.{◌≡◌, ◌∙◌, ℕ, ◌+◌, ◌<◌, Bool, true, false, ◌&&◌, ◌||◌, not, List, [], ◌∷◌, ◌++◌, find, Option, Some, None, refl, sym, if◌then◌else◌}
+use Rattle.std.proofs.Common.{◌≡◌, ◌∙◌, ℕ, Bool, true, false, ◌&&◌, ◌||◌, not, List, [], ◌∷◌, ◌++◌, find, Option, Some, None, refl, if◌then◌else◌}
 use Rattle.xm_desk.proofs.Changed.{change-refused}
 use Rattle.xm_desk.specs.Changes.{change_refusal}
 use Rattle.xm_rules.proofs.Journals.{passes}

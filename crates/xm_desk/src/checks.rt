@@ -12,6 +12,7 @@ pub fn is_in_range(number: u32) -> bool
     1 <= number && number <= 1_000_000
 }
 
+/// Whether each price that an entry gives is in range.
 pub fn has_prices_in_range(kind: Kind) -> bool
     ensures { result ≡ has_prices_in_range kind }
 {

@@ -41,8 +41,8 @@ impl<A: Allocator> Model for Desk<A> {
 impl<A: Allocator + Copy> Desk<A> {
     /// A desk before the day.
     ///
-    /// More than 1,000 members are `TooMany`. A width outside 1 to 999 thousandths, or a dynamic one
-    /// that is not below the wide one, is `BadWidths`.
+    /// More than 1,000 members are `TooMany`. A width outside 1 to 999 thousandths, or a dynamic
+    /// one that is not below the wide one, is `BadWidths`.
     pub fn open(alloc: A, settings: DeskSettings) -> Result<Desk<A>, OpenFault>
         ensures opened { IfOk result (λ desk. desk ≡ record { settings = settings; commands = [] }) }
         ensures sound { OnOk result (open_fault settings ≡ None) }
@@ -74,8 +74,8 @@ impl<A: Allocator + Copy> Desk<A> {
 impl<A: Allocator> Desk<A> {
     /// Takes a command into the journal and answers its reply. A refused one changes nothing.
     ///
-    /// The command must be served in the desk's phase, see `Command::is_served`. The refusal is that
-    /// of `refusal_of`, or `OutOfMemory` where a growth was refused.
+    /// The command must be served in the desk's phase, see `Command::is_served`. The refusal is
+    /// that of `refusal_of`, or `OutOfMemory` where a growth was refused.
     pub fn apply(&mut self, command: Command) -> Result<Reply, Refusal>
         requires { IsTrue (is_served (replay self.old).phase command) }
         ensures accepted { OnOk result (refusal_of (replay self.old) command ≡ None) }
@@ -137,8 +137,8 @@ impl<A: Allocator> Desk<A> {
         self.journal.as_slice()
     }
 
-    /// Why a command would be refused, memory aside: the first of its checks that fails. The command
-    /// must be served in the desk's phase, see `Command::is_served`.
+    /// Why a command would be refused, memory aside: the first of its checks that fails. The
+    /// command must be served in the desk's phase, see `Command::is_served`.
     pub fn refusal_of(&self, command: &Command) -> Option<Refusal>
         requires { IsTrue (is_served (replay self.now).phase command.now) }
         ensures { result ≡ refusal_of (replay self.now) command.now }

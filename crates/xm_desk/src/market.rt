@@ -1,4 +1,4 @@
-//! The state of a security, and how commands change it.
+//! What commands make of a security, and why one is refused.
 ghost use Rattle.std.specs.Prelude.{◌≡◌, ◌+◌, ◌++◌, ◌∷◌, ◌<◌, [], IsTrue, None, Some, IfOk, OnErr, OnOk, false, find};
 ghost use Rattle.xm_desk.specs.Changes.{change_refusal, changed_orders};
 ghost use Rattle.xm_desk.specs.Entries.{is_entry};
@@ -26,7 +26,7 @@ use xm_rules::{
 };
 use xm_ticks::Price;
 
-/// The state of a security.
+/// A security after the commands that it accepted. None of them has traded, and no stop is held.
 #[derive(Drop)]
 pub struct Market<A: Allocator> {
     pub settings: DeskSettings,

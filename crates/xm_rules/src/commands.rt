@@ -44,6 +44,7 @@ pub enum Condition {
 /// units and prices in ticks.
 #[derive(Clone, Copy, PartialEq, Eq, Hash, Debug)]
 pub enum Command {
+    /// Enters an order or a stop.
     Enter {
         member: u32,
         reference: u32,
@@ -61,17 +62,25 @@ pub enum Command {
         quantity: u32,
         limit: Option<u32>,
     },
+    /// Deletes an order or a stop.
     Cancel {
         member: u32,
         reference: u32,
     },
+    /// Deletes all orders and stops of the member.
     CancelAll {
         member: u32,
     },
+    /// Leads from pre-trading to the opening call.
     StartOpening,
+    /// Leads from continuous trading to the intraday call.
     StartIntraday,
+    /// Leads from continuous trading to the closing call.
     StartClosing,
+    /// Ends a call with the trades at its price, or leads it to its next stage where that price is
+    /// outside the ranges.
     Uncross,
+    /// Ends the day, after post-trading. Orders and stops that are not valid beyond it are deleted.
     EndDay,
 }
 

@@ -20,6 +20,7 @@ pub enum OrderKind {
 #[derive(Clone, Copy, PartialEq, Eq, Hash, Debug)]
 pub enum Validity {
     Day,
+    /// To the end of this date.
     TillDate(u32),
     TillCancelled,
 }
@@ -70,7 +71,7 @@ pub enum TradeKind {
     Auction(Auction, CallStage),
 }
 
-/// A trade.
+/// A trade between a buy order and a sell order, each named by its member and reference.
 #[derive(Clone, Copy, PartialEq, Eq, Hash, Debug)]
 pub struct Trade {
     /// The number of the sweep or of the price determination that made it, from 1 in each security.

@@ -20,9 +20,12 @@ pub struct DeskSettings {
     pub today: u32,
     /// The number of members.
     pub members: u32,
+    /// The size of a tick, the unit of all prices.
     pub tick: TickSize,
     /// The last price of a previous day.
     pub reference: Price,
     pub widths: Widths,
+    /// The number of commands up to which the journal takes those of members; those of the phases
+    /// it takes up to 64 more.
     pub limit: JournalLimit,
 }

@@ -1,8 +1,7 @@
-use Rattle.std.proofs.Common.{◌≡◌, rules, ap, sym, subst, List, length, [], ◌∷◌}
-use Rattle.xm_book.proofs.Reserving.{reserved-there, used-last}
-use Rattle.xm_book.specs.Places.{SamePlaces, place_of}
+use Rattle.std.proofs.Common.{rules}
+use Rattle.xm_book.proofs.Reserving.{reserved-there}
+use Rattle.xm_book.specs.Places.{place_of}
 use Rattle.xm_book.specs.TimeList.{Reserves}
-use Rattle.xm_book.specs.declared.places.Place.{Place}
 use Rattle.xm_desk.proofs.changes.join.Goals as goal
 
 pub add-requires-clause-reserved : goal.add-requires-clause-reserved

@@ -1,4 +1,4 @@
-use Rattle.std.proofs.Common.{◌≡◌, ◌∙◌, List, Some, None, Err, [], ◌∷◌, ◌++◌, ap, sym, subst, rules, true}
+use Rattle.std.proofs.Common.{◌≡◌, ◌∙◌, List, Some, None, [], ◌∷◌, ◌++◌, ap, sym, subst, rules, true}
 use Rattle.xm_rules.proofs.Journals.{is_lawful-push, journal_of, replay-push}
 use Rattle.xm_rules.proofs.KeptSettings.{step-settings}
 use Rattle.xm_rules.proofs.Memory.{refusal-not_memory}

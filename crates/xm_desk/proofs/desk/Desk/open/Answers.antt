@@ -1,4 +1,4 @@
-use Rattle.std.proofs.Common.{◌≡◌, ◌∙◌, List, [], ap, sym, subst, true}
+use Rattle.std.proofs.Common.{◌≡◌, ◌∙◌, List, ap, sym, subst, true}
 use Rattle.xm_book.specs.TimeList.{TimeList}
 use Rattle.xm_rules.proofs.Journals.{is_lawful-opening, journal_of, replay-opening}
 use Rattle.xm_rules.proofs.Untraded.{opening-untraded}

@@ -1,16 +1,10 @@
-use Rattle.std.proofs.Common.{◌≡◌, ◌∙◌, ◌&&◌, not, true, None, ap, sym, subst, rules}
-use Rattle.std.proofs.lemmas.Bool.{and_parts}
-use Rattle.xm_desk.proofs.Passes.{change-passes, entry-passes, no_trigger}
-use Rattle.xm_desk.proofs.Steps.{step-cancelled, step-cancelled_all, step-changed, step-entered, step-opening}
+use Rattle.std.proofs.Common.{◌≡◌, ◌∙◌, None, ap, sym, subst, rules}
+use Rattle.xm_desk.proofs.Passes.{change-passes}
+use Rattle.xm_desk.proofs.Steps.{step-cancelled, step-cancelled_all, step-changed, step-opening}
 use Rattle.xm_rules.proofs.Journals.{accepted-below}
-use Rattle.xm_rules.proofs.Untraded.{entry-plain}
-use Rattle.xm_rules.specs.Commands.{is_stop, trigger_of}
 use Rattle.xm_rules.specs.Refusals.{refusal_of}
-use Rattle.xm_rules.specs.Settling.{is_continuous}
 use Rattle.xm_rules.specs.Step.{step}
 use Rattle.xm_rules.specs.declared.commands.Command.{Command}
-use Rattle.xm_rules.specs.declared.commands.Command.TheVariants.{Enter}
-use Rattle.xm_rules.specs.declared.commands.Condition.{Condition}
 use Rattle.xm_desk.proofs.market.Market.act.Goals as goal
 
 pub change-requires-clause-passes : goal.change-requires-clause-passes

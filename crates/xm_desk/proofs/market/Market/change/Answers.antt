@@ -2,7 +2,6 @@ use Rattle.std.proofs.Common.{◌≡◌, ap, find, length, arith, rules}
 use Rattle.xm_desk.proofs.Lengths.{changed-longer}
 use Rattle.xm_desk.specs.Changes.{changed_orders}
 use Rattle.xm_rules.specs.Orders.{is_named}
-use Rattle.xm_rules.specs.declared.orders.Order.{Order}
 use Rattle.xm_desk.proofs.market.Market.change.Goals as goal
 
 pub invariant_of-self-2 : goal.invariant_of-self-2

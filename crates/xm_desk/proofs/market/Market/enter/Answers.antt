@@ -1,4 +1,4 @@
-use Rattle.std.proofs.Common.{◌≡◌, ◌∙◌, ◌&&◌, not, true, None, ap, sym, subst, rules}
+use Rattle.std.proofs.Common.{◌≡◌, ◌∙◌, ◌&&◌, not, true, None, ap, subst, rules}
 use Rattle.std.proofs.lemmas.Bool.{and_parts}
 use Rattle.xm_desk.proofs.Passes.{entry-passes, no_trigger}
 use Rattle.xm_desk.proofs.Steps.{step-entered}
