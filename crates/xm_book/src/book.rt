@@ -170,7 +170,7 @@ impl<A: Allocator + Copy> Book<A> {
         }
     }
 
-    /// The orders in time order.
+    /// The orders in time order, or `OutOfMemory` where the answer can't be held.
     pub fn orders(&self) -> Result<Vec<Order, A>, OutOfMemory>
         ensures { IfOk result (λ orders. orders.items ≡ self.now.orders) }
     {
@@ -185,7 +185,7 @@ impl<A: Allocator + Copy> Book<A> {
         Ok(orders)
     }
 
-    /// The references of a member's orders, in time order.
+    /// The references of a member's orders, in time order, or `OutOfMemory` where the answer can't be held.
     pub fn of_member(&self, member: u32) -> Result<Vec<u32, A>, OutOfMemory>
         ensures { IfOk result (λ references. references.items ≡ references_of member self.now.orders) }
     {
@@ -210,8 +210,8 @@ impl<A: Allocator> Book<A> {
         self.stamps.len()
     }
 
-    /// Reserves what an order of this place takes, so that its `add` can't fail. Where a growth is refused, nothing
-    /// changes.
+    /// Reserves what an order of this place takes, so that its `add` can't fail. Before it, orders and reserved places
+    /// together are below 2,000,000. Where a growth is refused, the answer is `OutOfMemory` and nothing changes.
     pub fn reserve_for(&mut self, place: &Place) -> Result<(), OutOfMemory>
         requires { length self.old.orders + length self.old.reserved < 2000000 }
         ensures ok { OnOk result (Reserves place.now self.old self.new) }
@@ -220,7 +220,7 @@ impl<A: Allocator> Book<A> {
         self.grow_for(place).map_err(|_| OutOfMemory)
     }
 
-    // Does what `reserve_for` does.
+    // Stands by itself because its errors are the allocator's, so that `?` carries them.
     fn grow_for(&mut self, place: &Place) -> Result<(), AllocError>
         requires { length self.old.orders + length self.old.reserved < 2000000 }
         ensures ok { OnOk result (Reserves place.now self.old self.new) }
@@ -247,7 +247,8 @@ impl<A: Allocator> Book<A> {
         self.places.release(place);
     }
 
-    /// Puts an order into its reserved place, the last in time.
+    /// Puts an order into its reserved place, the last in time. No live order has its name, its rest is 1 to 1,000,000
+    /// units, and there were fewer than 2^63 adds before.
     pub fn add(&mut self, order: Order)
         requires reserved { IsTrue (is_reserved (place_of order) self.old) }
         requires name { is_known order.member order.reference self.old ≡ false }
@@ -300,8 +301,8 @@ impl<A: Allocator> Book<A> {
         retain_entries(&mut self.entries, member);
     }
 
-    /// Gives the order of this name a rest that is no higher. It keeps its place in time. Where no order has the name,
-    /// the answer is `false`.
+    /// Gives the order of this name a rest, in units, that is at least 1 and no higher than the present one. It keeps its
+    /// place in time. Where no order has the name, the answer is `false` and nothing changes.
     pub fn reduce(&mut self, member: u32, reference: u32, rest: u32) -> bool
         requires { IfSome (find (is_named member reference) self.old.orders) (λ o. (1 ≤ rest) × (rest ≤ o.rest)) }
         ensures known { result ≡ is_known member reference self.old }

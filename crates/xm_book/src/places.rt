@@ -10,8 +10,7 @@ use std::hash::{BuildHasherDefault, FoldHasher};
 use std::marker::Model;
 use xm_rules::{Order, OrderKind, Side};
 
-/// What is reserved for an order that is to come: room in the queue of its side, and its name in
-/// the index.
+/// What is reserved for an order that is to come: room for it in the queue of its side and in the index of names.
 #[derive(Clone, Copy, PartialEq, Eq, Hash, Debug)]
 pub struct Place {
     pub side: Side,

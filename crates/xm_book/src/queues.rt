@@ -1,4 +1,4 @@
-//! The queues of both sides.
+//! How the queue of a side is reached, to read it or to change it.
 ghost use Rattle.std.specs.Prelude.{◌≡◌, []};
 ghost use Rattle.std.specs.Borrow.{sem};
 ghost use Rattle.xm_book.specs.Layout.{queue_of};
