@@ -10,43 +10,55 @@ use xm_ticks::Price;
 #[test]
 fn orders_before_and_in_the_opening_call(rt: HostRuntime) -> Result<(), Fail> {
     let mut day = Day::open(rt.alloc(), 100)?;
-    let steps = [
-        (buy(0, 1, 1000, 10), Ok(1)),
-        (Command::StartOpening, Ok(2)),
-        (buy(1, 2, 990, 7), Ok(3)),
-        (cancel(0, 1), Ok(4)),
+    let commands = [
+        buy(0, 1, 1000, 10),
+        Command::StartOpening,
+        buy(1, 2, 990, 7),
+        cancel(0, 1),
     ];
-    day.give_all(&rt, &steps);
+    for command in commands {
+        assert!(rt; day.give(&rt, command).is_ok());
+    }
     day.buys_are(&rt, &[(1, 2, 990, 7)]);
     assert_eq!(rt; day.reference_prices(), (1000, 1000));
-    assert_eq!(rt; day.journal().len(), steps.len());
-    for (stored, (given, _)) in day.journal().iter().zip(steps) {
-        assert!(rt; *stored == given);
-    }
+    assert!(rt; day.journal() == commands.as_slice());
     Ok(())
 }
 
 #[test]
-fn replies_before_and_in_the_opening_call(rt: HostRuntime) -> Result<(), Fail> {
-    let mut day = Day::open(rt.alloc(), 100)?;
+fn settings_and_phase_before_the_day(rt: HostRuntime) -> Result<(), Fail> {
+    let expected = settings(100)?;
+    let day = Day::open(rt.alloc(), 100)?;
+    assert_eq!(rt; day.settings(), expected);
     assert_eq!(rt; day.phase(), Phase::PreTrading);
-    assert_eq!(rt; day.settings(), settings(100)?);
-    let entered = Reply {
-        version: 1,
+    Ok(())
+}
+
+/// The reply to a command that makes no trade.
+fn reply(version: u64, phase: Phase) -> Reply {
+    Reply {
+        version,
         first_trade: 0,
         trades: 0,
         quantity: 0,
         money: 0,
-        phase: Phase::PreTrading,
-    };
-    assert_eq!(rt; day.apply(&rt, buy(0, 1, 1000, 10)), Ok(entered));
-    let started = Reply {
-        version: 2,
-        phase: Phase::Call(Auction::Opening, CallStage::Ordinary),
-        ..entered
-    };
-    assert_eq!(rt; day.apply(&rt, Command::StartOpening), Ok(started));
-    assert_eq!(rt; day.phase(), started.phase);
+        phase,
+    }
+}
+
+#[test]
+fn replies_before_and_in_the_opening_call(rt: HostRuntime) -> Result<(), Fail> {
+    let opening = Phase::Call(Auction::Opening, CallStage::Ordinary);
+    let steps = [
+        (buy(0, 1, 1000, 10), reply(1, Phase::PreTrading)),
+        (Command::StartOpening, reply(2, opening)),
+        (cancel(0, 1), reply(3, opening)),
+    ];
+    let mut day = Day::open(rt.alloc(), 100)?;
+    for (command, reply) in steps {
+        assert_eq!(rt; day.apply(&rt, command), Ok(reply));
+        assert_eq!(rt; day.phase(), reply.phase);
+    }
     Ok(())
 }
 
