@@ -40,15 +40,25 @@ cancel,AAA,1,XYZ,,,,,,,,
 ";
 
 /// Gives its text one byte a call, and fails at the call with this number, counted from 0.
-pub(crate) struct Dripping<'a> {
+pub(crate) struct OneByteReader<'a> {
     text: &'a [u8],
     at: usize,
     fails_at: Option<usize>,
 }
 
-impl Drop for Dripping<'_> {
+impl<'a> OneByteReader<'a> {
+    pub(crate) fn new(text: &'a str, fails_at: Option<usize>) -> Self {
+        OneByteReader {
+            text: text.as_bytes(),
+            at: 0,
+            fails_at,
+        }
+    }
+}
+
+impl Drop for OneByteReader<'_> {
     fn drop(self) {
-        let Dripping {
+        let OneByteReader {
             text: _,
             at: _,
             fails_at: _,
@@ -56,7 +66,7 @@ impl Drop for Dripping<'_> {
     }
 }
 
-impl Read for Dripping<'_> {
+impl Read for OneByteReader<'_> {
     fn read(&mut self, buf: &mut [u8]) -> io::Result<usize> {
         if self.fails_at == Some(self.at) {
             return Err(io::Error::from(io::ErrorKind::BrokenPipe));
@@ -69,14 +79,6 @@ impl Read for Dripping<'_> {
             }
             _ => Ok(0),
         }
-    }
-}
-
-pub(crate) fn drip(text: &str, fails_at: Option<usize>) -> Dripping<'_> {
-    Dripping {
-        text: text.as_bytes(),
-        at: 0,
-        fails_at,
     }
 }
 
@@ -234,30 +236,32 @@ fn damaged_top_keys(rt: HostRuntime) -> Result<(), Fail> {
     Ok(())
 }
 
+/// What a key or a value of a security is replaced by, and the cause that is then told.
+const DAMAGED_SECURITIES: [(&str, &str, FileCause); 15] = [
+    ("tick = 100\n", "", FileCause::MissingKey),
+    ("tick = 100", "colour = 1", FileCause::MissingKey),
+    (
+        "tick = 100",
+        "tick = 100\ncolour = 1",
+        FileCause::UnknownKey,
+    ),
+    ("tick = 100", "tick = 0\ncolour = 1", FileCause::UnknownKey),
+    ("tick = 100", "tick = 0", FileCause::BadValue),
+    ("tick = 100", "tick = 10001", FileCause::BadValue),
+    ("\"10.00\"", "10.00", FileCause::BadValue),
+    ("\"10.00\"", "\"10.001\"", FileCause::BadValue),
+    ("\"10.00\"", "\"0\"", FileCause::BadValue),
+    ("\"10.00\"", "\"+1\"", FileCause::BadValue),
+    ("dynamic = 20", "dynamic = -1", FileCause::BadValue),
+    ("wide = 40", "wide = 4294967296", FileCause::BadValue),
+    ("journal = 100", "journal = 0", FileCause::BadValue),
+    ("journal = 100", "journal = 1000001", FileCause::BadValue),
+    ("\"XYZ\"", "\"X Z\"", FileCause::BadValue),
+];
+
 #[test]
 fn damaged_securities(rt: HostRuntime) -> Result<(), Fail> {
-    let damaged = [
-        ("tick = 100\n", "", FileCause::MissingKey),
-        ("tick = 100", "colour = 1", FileCause::MissingKey),
-        (
-            "tick = 100",
-            "tick = 100\ncolour = 1",
-            FileCause::UnknownKey,
-        ),
-        ("tick = 100", "tick = 0\ncolour = 1", FileCause::UnknownKey),
-        ("tick = 100", "tick = 0", FileCause::BadValue),
-        ("tick = 100", "tick = 10001", FileCause::BadValue),
-        ("\"10.00\"", "10.00", FileCause::BadValue),
-        ("\"10.00\"", "\"10.001\"", FileCause::BadValue),
-        ("\"10.00\"", "\"0\"", FileCause::BadValue),
-        ("\"10.00\"", "\"+1\"", FileCause::BadValue),
-        ("dynamic = 20", "dynamic = -1", FileCause::BadValue),
-        ("wide = 40", "wide = 4294967296", FileCause::BadValue),
-        ("journal = 100", "journal = 0", FileCause::BadValue),
-        ("journal = 100", "journal = 1000001", FileCause::BadValue),
-        ("\"XYZ\"", "\"X Z\"", FileCause::BadValue),
-    ];
-    for (old, new, cause) in damaged {
+    for (old, new, cause) in DAMAGED_SECURITIES {
         let text = replaced(rt.alloc(), SEGMENT, old, new)?;
         assert_eq!(rt;
             segment_fault(rt.alloc(), text.as_bytes()),
@@ -265,6 +269,11 @@ fn damaged_securities(rt: HostRuntime) -> Result<(), Fail> {
             "{new}"
         );
     }
+    Ok(())
+}
+
+#[test]
+fn a_damaged_second_security(rt: HostRuntime) -> Result<(), Fail> {
     let second = replaced(rt.alloc(), SECOND, "journal = 1", "journal = 0")?;
     let text = format!(in rt.alloc(); "{SEGMENT}{second}")?;
     assert_eq!(rt;
@@ -334,71 +343,68 @@ fn prefixes_of_an_order_file(rt: HostRuntime) -> Result<(), Fail> {
     Ok(())
 }
 
+/// Records of twelve fields, of which each has a bad one.
+const BAD_FIELDS: [&str; 22] = [
+    "change,AAA,1,XYZ,,,,,5,,,",
+    ",,,*,,,,,,,,",
+    "enter,,1,XYZ,buy,limit,10.00,,10,,,",
+    "enter,AAA,,XYZ,buy,limit,10.00,,10,,,",
+    "enter,AAA,1,,buy,limit,10.00,,10,,,",
+    "enter,AAA,1,XYZ,up,limit,10.00,,10,,,",
+    "enter,AAA,1,XYZ,buy,market,,,10,,,",
+    "enter,AAA,1,XYZ,buy,limit,,,10,,,",
+    "enter,AAA,1,XYZ,buy,limit,10.,,10,,,",
+    "enter,AAA,1,ABC,buy,limit,+1,,10,,,",
+    "enter,AAA,1,XYZ,buy,limit,10.00,1,10,,,",
+    "enter,AAA,1,XYZ,buy,limit,10.00,,,,,",
+    "enter,AAA,1,XYZ,buy,limit,10.00,,4294967296,,,",
+    "enter,AAA,1,XYZ,buy,limit,10.00,,00000000001,,,",
+    "enter,AAA,1,XYZ,buy,limit,10.00,,-1,,,",
+    "enter,AAA,1,XYZ,buy,limit,10.00,,10,day,,",
+    "enter,AAA,1,XYZ,buy,limit,10.00,,10,,free,",
+    "enter,AAA,1,XYZ,buy,limit,10.00,,10,,,plain",
+    "cancel,AAA,1,XYZ,buy,,,,,,,",
+    "cancel,AAA,1,,,,,,,,,",
+    "open,AAA,,*,,,,,,,,",
+    "open,,,,,,,,,,,",
+];
+
+/// Records that have another number of fields than the header.
+const OTHER_LENGTHS: [&str; 2] = ["open,,,*,,,,,,,", "open,,,*,,,,,,,,,"];
+
+/// The fault of an order file with this record, after a good one and before one of another length.
+fn record_fault(alloc: Global, record: &str) -> Result<Option<FileFault>, Fail> {
+    let text = format!(in alloc; "{HEADER}\ncancel,AAA,1,XYZ,,,,,,,,\n\n{record}\n?\n")?;
+    orders_fault(alloc, text.as_bytes())
+}
+
 #[test]
 fn damaged_records(rt: HostRuntime) -> Result<(), Fail> {
-    let damaged = [
-        ("change,AAA,1,XYZ,,,,,5,,,", FileCause::BadField),
-        (",,,*,,,,,,,,", FileCause::BadField),
-        ("enter,,1,XYZ,buy,limit,10.00,,10,,,", FileCause::BadField),
-        ("enter,AAA,,XYZ,buy,limit,10.00,,10,,,", FileCause::BadField),
-        ("enter,AAA,1,,buy,limit,10.00,,10,,,", FileCause::BadField),
-        ("enter,AAA,1,XYZ,up,limit,10.00,,10,,,", FileCause::BadField),
-        ("enter,AAA,1,XYZ,buy,market,,,10,,,", FileCause::BadField),
-        ("enter,AAA,1,XYZ,buy,limit,,,10,,,", FileCause::BadField),
-        ("enter,AAA,1,XYZ,buy,limit,10.,,10,,,", FileCause::BadField),
-        ("enter,AAA,1,ABC,buy,limit,+1,,10,,,", FileCause::BadField),
-        (
-            "enter,AAA,1,XYZ,buy,limit,10.00,1,10,,,",
-            FileCause::BadField,
-        ),
-        ("enter,AAA,1,XYZ,buy,limit,10.00,,,,,", FileCause::BadField),
-        (
-            "enter,AAA,1,XYZ,buy,limit,10.00,,4294967296,,,",
-            FileCause::BadField,
-        ),
-        (
-            "enter,AAA,1,XYZ,buy,limit,10.00,,00000000001,,,",
-            FileCause::BadField,
-        ),
-        (
-            "enter,AAA,1,XYZ,buy,limit,10.00,,-1,,,",
-            FileCause::BadField,
-        ),
-        (
-            "enter,AAA,1,XYZ,buy,limit,10.00,,10,day,,",
-            FileCause::BadField,
-        ),
-        (
-            "enter,AAA,1,XYZ,buy,limit,10.00,,10,,free,",
-            FileCause::BadField,
-        ),
-        (
-            "enter,AAA,1,XYZ,buy,limit,10.00,,10,,,plain",
-            FileCause::BadField,
-        ),
-        ("cancel,AAA,1,XYZ,buy,,,,,,,", FileCause::BadField),
-        ("cancel,AAA,1,,,,,,,,,", FileCause::BadField),
-        ("open,AAA,,*,,,,,,,,", FileCause::BadField),
-        ("open,,,,,,,,,,,", FileCause::BadField),
-        ("open,,,*,,,,,,,", FileCause::Syntax),
-        ("open,,,*,,,,,,,,,", FileCause::Syntax),
-    ];
-    for (record, cause) in damaged {
-        let text = format!(in rt.alloc(); "{HEADER}\ncancel,AAA,1,XYZ,,,,,,,,\n\n{record}\n?\n")?;
-        assert_eq!(rt;
-            orders_fault(rt.alloc(), text.as_bytes())?,
-            fault(3, cause),
-            "{record}"
-        );
+    for record in BAD_FIELDS {
+        let got = record_fault(rt.alloc(), record)?;
+        assert_eq!(rt; got, fault(3, FileCause::BadField), "{record}");
     }
+    for record in OTHER_LENGTHS {
+        let got = record_fault(rt.alloc(), record)?;
+        assert_eq!(rt; got, fault(3, FileCause::Syntax), "{record}");
+    }
+    Ok(())
+}
+
+#[test]
+fn a_damaged_header(rt: HostRuntime) -> Result<(), Fail> {
     let titles = replaced(rt.alloc(), HEADER, "member", "Member")?;
     assert_eq!(rt;
         orders_fault(rt.alloc(), titles.as_bytes())?,
         fault(1, FileCause::BadHeader)
     );
-    let bytes = b"open,,,*,\xff,,,,,,,\n";
+    Ok(())
+}
+
+#[test]
+fn a_field_that_is_no_text(rt: HostRuntime) -> Result<(), Fail> {
     let mut text = HEADER.as_bytes().to_vec(rt.alloc())?;
-    text.extend_from_slice(bytes)?;
+    text.extend_from_slice(b"open,,,*,\xff,,,,,,,\n")?;
     assert_eq!(rt;
         orders_fault(rt.alloc(), text.as_slice())?,
         fault(2, FileCause::BadField)
@@ -439,6 +445,11 @@ Z\",,,,,,,,",
         },
     ];
     assert_eq!(rt; rows.as_slice(), want.as_slice());
+    Ok(())
+}
+
+#[test]
+fn a_name_that_is_no_text(rt: HostRuntime) -> Result<(), Fail> {
     let mut text = HEADER.as_bytes().to_vec(rt.alloc())?;
     text.extend_from_slice(b"cancel,A\xffA,1,XYZ,,,,,,,,")?;
     let mut reader = text.as_slice();
@@ -494,10 +505,14 @@ fn more_than_a_million_rows(rt: HostRuntime) -> Result<(), Fail> {
 
 #[test]
 fn one_byte_a_call(rt: HostRuntime) -> Result<(), Fail> {
-    let (config, names) = read_segment(rt.alloc(), &mut drip(SEGMENT, None))?;
+    let (config, names) = read_segment(rt.alloc(), &mut OneByteReader::new(SEGMENT, None))?;
     assert_eq!(rt; config.today, 20_260_105);
     assert_eq!(rt; names.security(0), Some("XYZ"));
-    let rows = rows_of(rt.alloc(), SEGMENT, &mut drip(FIRST_PATH, None))??;
+    let rows = rows_of(
+        rt.alloc(),
+        SEGMENT,
+        &mut OneByteReader::new(FIRST_PATH, None),
+    )??;
     let mut at_once = FIRST_PATH.as_bytes();
     let want = rows_of(rt.alloc(), SEGMENT, &mut at_once)??;
     assert_eq!(rt; rows.as_slice(), want.as_slice());
@@ -507,11 +522,15 @@ fn one_byte_a_call(rt: HostRuntime) -> Result<(), Fail> {
 #[test]
 fn failing_readers(rt: HostRuntime) -> Result<(), Fail> {
     for call in 0..SEGMENT.len() + 1 {
-        let answer = read_segment(rt.alloc(), &mut drip(SEGMENT, Some(call)));
+        let answer = read_segment(rt.alloc(), &mut OneByteReader::new(SEGMENT, Some(call)));
         assert_eq!(rt; answer.err(), fault(0, FileCause::ReadFailed));
     }
     for call in 0..FIRST_PATH.len() + 1 {
-        let answer = rows_of(rt.alloc(), SEGMENT, &mut drip(FIRST_PATH, Some(call)))?;
+        let answer = rows_of(
+            rt.alloc(),
+            SEGMENT,
+            &mut OneByteReader::new(FIRST_PATH, Some(call)),
+        )?;
         assert_eq!(rt; answer.err(), fault(0, FileCause::ReadFailed));
     }
     Ok(())

@@ -1,4 +1,4 @@
-use crate::tests::{FIRST_PATH, SECOND, SEGMENT, drip, replaced};
+use crate::tests::{FIRST_PATH, OneByteReader, SECOND, SEGMENT, replaced};
 use crate::{DayFault, DayReport, FileCause, FileFault, run_alone};
 use std::alloc::Global;
 use std::io::{self, Write};
@@ -153,16 +153,16 @@ fn slow_and_failing_readers(rt: HostRuntime) -> Result<(), Fail> {
     };
     for call in 0..SEGMENT.len() + 1 {
         let mut out = Vec::new(rt.alloc());
-        let mut segment = drip(SEGMENT, Some(call));
-        let mut orders = drip(FIRST_PATH, None);
+        let mut segment = OneByteReader::new(SEGMENT, Some(call));
+        let mut orders = OneByteReader::new(FIRST_PATH, None);
         let answer = run_alone(rt.alloc(), &mut segment, &mut orders, &mut out);
         assert_eq!(rt; answer, Err(DayFault::Segment(failed)));
         assert!(rt; out.is_empty());
     }
     for call in 0..FIRST_PATH.len() + 2 {
         let mut out = Vec::new(rt.alloc());
-        let mut segment = drip(SEGMENT, None);
-        let mut orders = drip(FIRST_PATH, Some(call));
+        let mut segment = OneByteReader::new(SEGMENT, None);
+        let mut orders = OneByteReader::new(FIRST_PATH, Some(call));
         let answer = run_alone(rt.alloc(), &mut segment, &mut orders, &mut out);
         if call <= FIRST_PATH.len() {
             assert_eq!(rt; answer, Err(DayFault::Orders(failed)));
