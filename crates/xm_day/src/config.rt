@@ -8,10 +8,13 @@ use xm_ticks::{JournalLimit, Price, TickSize};
 /// The settings of a security.
 #[derive(Clone, Copy, PartialEq, Eq, Hash, Debug)]
 pub struct SecurityConfig {
+    /// The size of a tick, in ten-thousandths of a euro.
     pub tick: TickSize,
-    /// The last price of a previous day.
+    /// The last price of a previous day, in ticks.
     pub reference: Price,
+    /// The widths of the price ranges, in thousandths of their reference price.
     pub widths: Widths,
+    /// How many commands of members the journal takes.
     pub limit: JournalLimit,
 }
 
@@ -54,10 +57,13 @@ impl Securities {
     }
 }
 
-/// The settings of a segment: its date as a number, how many members it has, and its securities.
+/// The settings of a segment.
 #[derive(Drop, Debug)]
 pub struct SegmentConfig {
+    /// The date, as a number such as 20260105.
     pub today: u32,
+    /// The number of members.
     pub members: u32,
+    /// The settings of its securities, in index order.
     pub securities: Securities,
 }

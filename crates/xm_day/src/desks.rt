@@ -82,8 +82,7 @@ fn have_widths(securities: &[SecurityConfig]) -> bool
         .all(|security| are_widths(&security.widths))
 }
 
-/// Takes rows in their order, and counts which were accepted and refused. After `OutOfMemory` the
-/// rows before the one that was refused for it are taken.
+/// Takes rows in their order, and counts which were accepted and refused.
 pub fn take_rows<A: Allocator + Copy>(
     desks: &mut [Desk<A>],
     rows: &[Row],
