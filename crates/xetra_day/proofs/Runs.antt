@@ -7,7 +7,7 @@ use Rattle.clap.specs.declared.error.Error.{Error}
 use Rattle.clap.specs.declared.error.kind.ErrorKind.TheVariants as kind
 use Rattle.clap.proofs.OnLiterals.{clap_on_literals}
 use Rattle.xm_day.specs.declared.faults.DayFault.TheVariants as day
-use Rattle.xetra_day.specs.declared.requests.Stop.TheVariants.{Day}
+use Rattle.xetra_day.specs.declared.requests.Failure.TheVariants.{Day}
 use Rattle.xetra_day.specs.Requests.{AsksRun, answer_of, day_app, is_plain, paths_of}
 
 false_of : (b : Bool) → not b ≡ true → b ≡ false

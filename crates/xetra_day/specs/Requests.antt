@@ -11,8 +11,8 @@ use Rattle.clap.specs.declared.error.kind.ErrorKind.TheVariants as kind
 use Rattle.xm_day.specs.declared.faults.DayFault.TheVariants as day
 use Rattle.xetra_day.specs.declared.requests.Request.{Request}
 use Rattle.xetra_day.specs.declared.requests.Request.TheVariants.{Run, Help}
-use Rattle.xetra_day.specs.declared.requests.Stop.{Stop}
-use Rattle.xetra_day.specs.declared.requests.Stop.TheVariants.{Day, Words}
+use Rattle.xetra_day.specs.declared.requests.Failure.{Failure}
+use Rattle.xetra_day.specs.declared.requests.Failure.TheVariants.{Day, Words}
 
 -- ---- the command line
 
@@ -60,32 +60,32 @@ pub record AsksRun (words : List Text) (segment orders : Text) : Type 0 where
   pub orders_is_plain : is_plain orders ≡ true
 
 -- the run of these two files, or want of memory
-abbrev pub IsRun : Result Request Stop → Text → Text → Type 0
+abbrev pub IsRun : Result Request Failure → Text → Text → Type 0
 IsRun (Ok (Run s o)) segment orders = (s.now ≡ segment) × (o.now ≡ orders)
 IsRun (Ok (Help error)) segment orders = ⊥
-IsRun (Err stop) segment orders = stop ≡ Day day.OutOfMemory
+IsRun (Err failure) segment orders = failure ≡ Day day.OutOfMemory
 
 -- a run is one of the files that the words name
 abbrev pub IsOfPaths : Option (Text × Text) → Request → Type 0
 IsOfPaths paths (Run s o) = paths ≡ Some (s.now, o.now)
 IsOfPaths paths (Help error) = ⊤
 
-abbrev answer_at : Error → ErrorKind → Result Request Stop
+abbrev answer_at : Error → ErrorKind → Result Request Failure
 answer_at error kind.DisplayHelp = Ok (Help error)
 answer_at error kind.DisplayVersion = Ok (Help error)
 answer_at error kind.OutOfMemory = Err (Day day.OutOfMemory)
 answer_at error _ = Err (Words error)
 
 -- what is answered where no run was asked for: a help text, want of memory, or a mistake in the words
-abbrev pub answer_of : Error → Result Request Stop
+abbrev pub answer_of : Error → Result Request Failure
 answer_of error = answer_at error (kind_of error)
 
 -- words that are not text are a mistake, or memory is wanting
-abbrev pub RefusesBytes : Stop → Type 0
+abbrev pub RefusesBytes : Failure → Type 0
 RefusesBytes (Day fault) = fault ≡ day.OutOfMemory
 RefusesBytes (Words error) = kind_of error ≡ kind.ValueValidation
 
--- the status that the program stops with: 1 where the day has no statement, 2 where the words were mistaken
-abbrev pub stop_status : Stop → ℕ
-stop_status (Day fault) = 1
-stop_status (Words error) = 2
+-- the status that the program ends with after a failure: 1 where the day has no statement, 2 where the words were mistaken
+abbrev pub failure_status : Failure → ℕ
+failure_status (Day fault) = 1
+failure_status (Words error) = 2

@@ -12,7 +12,7 @@ mod requests;
 mod tests;
 
 use crate::fault_lines::{FaultLine, told};
-use crate::requests::{Request, Stop};
+use crate::requests::{Failure, Request};
 use std::alloc::Global;
 use std::io::{Read, Write};
 use std::process::ExitCode;
@@ -23,16 +23,16 @@ use xm_day::DayFault;
 fn main(rt: HostRuntime) -> ExitCode {
     match answer(&rt) {
         Ok(()) => ExitCode::SUCCESS,
-        Err(stop) => {
-            let status = stop.status();
-            tell(&rt, stop);
+        Err(failure) => {
+            let status = failure.status();
+            tell(&rt, failure);
             ExitCode::from(status)
         }
     }
 }
 
 /// Does what the command line asks for.
-fn answer<R: Env + AllocGlobal + Files + Print>(rt: &R) -> Result<(), Stop> {
+fn answer<R: Env + AllocGlobal + Files + Print>(rt: &R) -> Result<(), Failure> {
     let words = read_command_line(rt)?;
     match requests::read_words(rt.alloc(), words.as_slice())? {
         Request::Run { segment, orders } => {
@@ -42,7 +42,7 @@ fn answer<R: Env + AllocGlobal + Files + Print>(rt: &R) -> Result<(), Stop> {
         }
         Request::Help(text) => {
             if rt.print(text).is_err() {
-                return Err(Stop::Day(DayFault::WriteFailed));
+                return Err(Failure::Day(DayFault::WriteFailed));
             }
         }
     }
@@ -50,7 +50,7 @@ fn answer<R: Env + AllocGlobal + Files + Print>(rt: &R) -> Result<(), Stop> {
 }
 
 /// The words of the command line, of which the first is the program's name.
-fn read_command_line<R: Env + AllocGlobal>(rt: &R) -> Result<Vec<String>, Stop>
+fn read_command_line<R: Env + AllocGlobal>(rt: &R) -> Result<Vec<String>, Failure>
     ensures { IfErr result RefusesBytes }
 {
     let words = match env::args(rt) {
@@ -58,11 +58,11 @@ fn read_command_line<R: Env + AllocGlobal>(rt: &R) -> Result<Vec<String>, Stop>
         Err(error) if error.kind() == io::ErrorKind::InvalidData => {
             return Err(requests::refuse_bytes(rt.alloc()));
         }
-        Err(_) => return Err(Stop::Day(DayFault::OutOfMemory)),
+        Err(_) => return Err(Failure::Day(DayFault::OutOfMemory)),
     };
     match words {
         Ok(words) => Ok(words),
-        Err(_) => Err(Stop::Day(DayFault::OutOfMemory)),
+        Err(_) => Err(Failure::Day(DayFault::OutOfMemory)),
     }
 }
 
@@ -82,10 +82,10 @@ fn run<S: Read, O: Read, W: Write>(
     }
 }
 
-/// Tells on standard error why the program stops. Where that can't be written, the status tells alone.
-fn tell<R: Eprint>(rt: &R, stop: Stop) {
-    let _ = match stop {
-        Stop::Day(fault) => rt.eprintln(FaultLine(fault)),
-        Stop::Words(text) => rt.eprint(text),
+/// Tells on standard error why the program ends. Where that can't be written, the status tells alone.
+fn tell<R: Eprint>(rt: &R, failure: Failure) {
+    let _ = match failure {
+        Failure::Day(fault) => rt.eprintln(FaultLine(fault)),
+        Failure::Words(text) => rt.eprint(text),
     };
 }

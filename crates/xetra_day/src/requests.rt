@@ -3,7 +3,7 @@ ghost use Rattle.std.specs.Prelude.{◌≡◌, List, ℕ, IfOk, IfErr, IsSome, m
 ghost use Rattle.clap.specs.Words.{app_of, kind_of, subcommand_rows_of, takes};
 ghost use Rattle.clap.specs.declared.builder.command.Command.TheViews.{out-Command as fields_of};
 ghost use Rattle.clap.specs.declared.error.kind.ErrorKind.TheVariants as kind;
-ghost use Rattle.xetra_day.specs.Requests.{AsksRun, IsOfPaths, IsRun, RefusesBytes, answer_of, day_app, paths_in, paths_of, run_app, stop_status};
+ghost use Rattle.xetra_day.specs.Requests.{AsksRun, IsOfPaths, IsRun, RefusesBytes, answer_of, day_app, failure_status, paths_in, paths_of, run_app};
 
 use clap::error::ErrorKind;
 use clap::{Arg, ArgAction, ArgMatches, Command, Error};
@@ -32,39 +32,39 @@ pub enum Request<'a> {
 
 /// Why the program ends without what it was asked for.
 #[derive(Debug, Drop)]
-pub enum Stop {
+pub enum Failure {
     /// The day has no statement.
     Day(DayFault),
     /// The words are mistaken, as the text says.
     Words(Error),
 }
 
-impl Stop {
+impl Failure {
     /// The status that the program then ends with.
     pub fn status(&self) -> u8
-        ensures { result ≡ stop_status self.now }
+        ensures { result ≡ failure_status self.now }
     {
         match self {
-            Stop::Day(_) => 1,
-            Stop::Words(_) => 2,
+            Failure::Day(_) => 1,
+            Failure::Words(_) => 2,
         }
     }
 }
 
-impl From<DayFault> for Stop {
-    ghost use Rattle.xetra_day.specs.declared.requests.Stop.TheVariants.{Day};
+impl From<DayFault> for Failure {
+    ghost use Rattle.xetra_day.specs.declared.requests.Failure.TheVariants.{Day};
 
-    ghost from_gives = { λ fault stop. stop ≡ Day fault };
+    ghost from_gives = { λ fault failure. failure ≡ Day fault };
 
-    fn from(fault: DayFault) -> Stop {
-        Stop::Day(fault)
+    fn from(fault: DayFault) -> Failure {
+        Failure::Day(fault)
     }
 }
 
 /// What the words ask for, of which the first is the program's name.
 ///
 /// A mistake in the words is refused as the text tells.
-pub fn read_words<'a>(alloc: Global, words: &'a [String]) -> Result<Request<'a>, Stop>
+pub fn read_words<'a>(alloc: Global, words: &'a [String]) -> Result<Request<'a>, Failure>
     ensures paths { IfOk result (IsOfPaths (paths_of (map string_bytes words.entry.now))) }
     ensures run { (segment orders : List ℕ) → AsksRun (map string_bytes words.entry.now) segment orders
         → IsRun result segment orders }
@@ -76,23 +76,23 @@ pub fn read_words<'a>(alloc: Global, words: &'a [String]) -> Result<Request<'a>,
 }
 
 /// The answer to words that are not text.
-pub fn refuse_bytes(alloc: Global) -> Stop
+pub fn refuse_bytes(alloc: Global) -> Failure
     ensures { RefusesBytes result }
 {
     match bytes_error(alloc) {
-        Ok(error) => Stop::Words(error),
-        Err(_) => Stop::Day(DayFault::OutOfMemory),
+        Ok(error) => Failure::Words(error),
+        Err(_) => Failure::Day(DayFault::OutOfMemory),
     }
 }
 
 /// What is answered where the words ask for no run.
-fn answer<'a>(error: Error) -> Result<Request<'a>, Stop>
+fn answer<'a>(error: Error) -> Result<Request<'a>, Failure>
     ensures { result ≡ answer_of error }
 {
     match error.kind() {
         ErrorKind::DisplayHelp | ErrorKind::DisplayVersion => Ok(Request::Help(error)),
-        ErrorKind::OutOfMemory => Err(Stop::Day(DayFault::OutOfMemory)),
-        _ => Err(Stop::Words(error)),
+        ErrorKind::OutOfMemory => Err(Failure::Day(DayFault::OutOfMemory)),
+        _ => Err(Failure::Words(error)),
     }
 }
 

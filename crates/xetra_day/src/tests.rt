@@ -2,7 +2,7 @@
 
 use crate::fault_lines::FaultLine;
 use crate::inputs::Input;
-use crate::requests::{Request, Stop, read_words, refuse_bytes};
+use crate::requests::{Failure, Request, read_words, refuse_bytes};
 use crate::{inputs, run};
 use std::alloc::{AllocError, Global};
 use std::fs::File;
@@ -32,142 +32,82 @@ fn at(line: u32, cause: FileCause) -> FileFault {
     FileFault { line, cause }
 }
 
-/// Whether the program tells of the fault by this line.
-fn has_line(alloc: Global, fault: DayFault, line: &str) -> Result<bool, AllocError> {
+/// The line by which the program tells of the fault.
+fn line_of(alloc: Global, fault: DayFault) -> Result<String, AllocError> {
     let fault = FaultLine(fault);
-    let text = format!(in alloc; "{fault}")?;
-    Ok(text.as_str() == line)
+    format!(in alloc; "{fault}")
 }
 
 #[test]
 fn each_segment_fault_has_its_line(rt: HostRuntime) -> Result<(), Fail> {
-    let alloc = rt.alloc();
-    assert!(rt;
-        has_line(
-            alloc,
-            DayFault::Segment(at(0, FileCause::ReadFailed)),
-            "xetra-day: segment: line 0: ReadFailed"
-        )?
-    );
-    assert!(rt;
-        has_line(
-            alloc,
-            DayFault::Segment(at(0, FileCause::TooLong)),
-            "xetra-day: segment: line 0: TooLong"
-        )?
-    );
-    assert!(rt;
-        has_line(
-            alloc,
-            DayFault::Segment(at(0, FileCause::Syntax)),
-            "xetra-day: segment: line 0: Syntax"
-        )?
-    );
-    assert!(rt;
-        has_line(
-            alloc,
-            DayFault::Segment(at(8, FileCause::MissingKey)),
-            "xetra-day: segment: line 8: MissingKey"
-        )?
-    );
-    assert!(rt;
-        has_line(
-            alloc,
-            DayFault::Segment(at(1, FileCause::UnknownKey)),
-            "xetra-day: segment: line 1: UnknownKey"
-        )?
-    );
-    assert!(rt;
-        has_line(
-            alloc,
-            DayFault::Segment(at(10, FileCause::BadValue)),
-            "xetra-day: segment: line 10: BadValue"
-        )?
-    );
-    assert!(rt;
-        has_line(
-            alloc,
-            DayFault::Segment(at(2, FileCause::DuplicateName)),
-            "xetra-day: segment: line 2: DuplicateName"
-        )?
-    );
-    assert!(rt;
-        has_line(
-            alloc,
-            DayFault::Segment(at(0, FileCause::OutOfMemory)),
-            "xetra-day: segment: line 0: OutOfMemory"
-        )?
-    );
+    let lines = [
+        (0, FileCause::ReadFailed, "line 0: ReadFailed"),
+        (0, FileCause::TooLong, "line 0: TooLong"),
+        (0, FileCause::Syntax, "line 0: Syntax"),
+        (8, FileCause::MissingKey, "line 8: MissingKey"),
+        (1, FileCause::UnknownKey, "line 1: UnknownKey"),
+        (10, FileCause::BadValue, "line 10: BadValue"),
+        (2, FileCause::DuplicateName, "line 2: DuplicateName"),
+        (0, FileCause::OutOfMemory, "line 0: OutOfMemory"),
+    ];
+    for (line, cause, told) in lines {
+        let text = line_of(rt.alloc(), DayFault::Segment(at(line, cause)))?;
+        let want = format!(in rt.alloc(); "xetra-day: segment: {told}")?;
+        assert_eq!(rt; text.as_str(), want.as_str());
+    }
     Ok(())
 }
 
 #[test]
 fn each_order_fault_has_its_line(rt: HostRuntime) -> Result<(), Fail> {
-    let alloc = rt.alloc();
-    assert!(rt;
-        has_line(
-            alloc,
-            DayFault::Orders(at(0, FileCause::ReadFailed)),
-            "xetra-day: orders: line 0: ReadFailed"
-        )?
-    );
-    assert!(rt;
-        has_line(
-            alloc,
-            DayFault::Orders(at(1, FileCause::BadHeader)),
-            "xetra-day: orders: line 1: BadHeader"
-        )?
-    );
-    assert!(rt;
-        has_line(
-            alloc,
-            DayFault::Orders(at(4_294_967_295, FileCause::BadField)),
-            "xetra-day: orders: line 4294967295: BadField"
-        )?
-    );
-    assert!(rt;
-        has_line(
-            alloc,
-            DayFault::Orders(at(1_000_002, FileCause::TooManyRows)),
-            "xetra-day: orders: line 1000002: TooManyRows"
-        )?
-    );
+    let lines = [
+        (0, FileCause::ReadFailed, "line 0: ReadFailed"),
+        (1, FileCause::BadHeader, "line 1: BadHeader"),
+        (
+            4_294_967_295,
+            FileCause::BadField,
+            "line 4294967295: BadField",
+        ),
+        (
+            1_000_002,
+            FileCause::TooManyRows,
+            "line 1000002: TooManyRows",
+        ),
+    ];
+    for (line, cause, told) in lines {
+        let text = line_of(rt.alloc(), DayFault::Orders(at(line, cause)))?;
+        let want = format!(in rt.alloc(); "xetra-day: orders: {told}")?;
+        assert_eq!(rt; text.as_str(), want.as_str());
+    }
     Ok(())
 }
 
 #[test]
 fn each_other_fault_has_its_line(rt: HostRuntime) -> Result<(), Fail> {
-    let alloc = rt.alloc();
-    assert!(rt;
-        has_line(
-            alloc,
+    let lines = [
+        (
             DayFault::Open(OpenFault::NoSecurity),
-            "xetra-day: open: NoSecurity"
-        )?
-    );
-    assert!(rt;
-        has_line(
-            alloc,
+            "xetra-day: open: NoSecurity",
+        ),
+        (
             DayFault::Open(OpenFault::TooMany),
-            "xetra-day: open: TooMany"
-        )?
-    );
-    assert!(rt;
-        has_line(
-            alloc,
+            "xetra-day: open: TooMany",
+        ),
+        (
             DayFault::Open(OpenFault::BadWidths),
-            "xetra-day: open: BadWidths"
-        )?
-    );
-    assert!(rt;
-        has_line(
-            alloc,
+            "xetra-day: open: BadWidths",
+        ),
+        (
             DayFault::Open(OpenFault::OutOfMemory),
-            "xetra-day: open: OutOfMemory"
-        )?
-    );
-    assert!(rt; has_line(alloc, DayFault::OutOfMemory, "xetra-day: out of memory")?);
-    assert!(rt; has_line(alloc, DayFault::WriteFailed, "xetra-day: write failed")?);
+            "xetra-day: open: OutOfMemory",
+        ),
+        (DayFault::OutOfMemory, "xetra-day: out of memory"),
+        (DayFault::WriteFailed, "xetra-day: write failed"),
+    ];
+    for (fault, line) in lines {
+        let text = line_of(rt.alloc(), fault)?;
+        assert_eq!(rt; text.as_str(), line);
+    }
     Ok(())
 }
 
@@ -181,53 +121,66 @@ fn answer_to(alloc: Global, words: &[&str]) -> Result<String, AllocError> {
     match read_words(alloc, line.as_slice()) {
         Ok(Request::Run { segment, orders }) => format!(in alloc; "run {segment} and {orders}"),
         Ok(Request::Help(text)) => format!(in alloc; "help {text}"),
-        Err(Stop::Day(fault)) => format!(in alloc; "fault {fault}"),
-        Err(Stop::Words(text)) => format!(in alloc; "{text}"),
+        Err(Failure::Day(fault)) => format!(in alloc; "fault {fault}"),
+        Err(Failure::Words(text)) => format!(in alloc; "{text}"),
     }
 }
 
 #[test]
 fn words_of_a_run(rt: HostRuntime) -> Result<(), Fail> {
-    let alloc = rt.alloc();
-    let plain = answer_to(alloc, &["run", "day.toml", "day.csv"])?;
-    assert!(rt; plain.as_str() == "run day.toml and day.csv");
-    let dashes = answer_to(alloc, &["run", "--", "-s", "--orders"])?;
-    assert!(rt; dashes.as_str() == "run -s and --orders");
-    let spaces = answer_to(alloc, &["run", "a day", ""])?;
-    assert!(rt; spaces.as_str() == "run a day and ");
+    let answers = [
+        (
+            ["run", "day.toml", "day.csv"].as_slice(),
+            "run day.toml and day.csv",
+        ),
+        (
+            ["run", "--", "-s", "--orders"].as_slice(),
+            "run -s and --orders",
+        ),
+        (["run", "a day", ""].as_slice(), "run a day and "),
+    ];
+    for (words, answer) in answers {
+        let text = answer_to(rt.alloc(), words)?;
+        assert_eq!(rt; text.as_str(), answer);
+    }
     Ok(())
 }
 
 #[test]
 fn mistaken_words(rt: HostRuntime) -> Result<(), Fail> {
-    let alloc = rt.alloc();
-    let nothing = answer_to(alloc, &["run"])?;
-    assert!(rt;
-        nothing.as_str()
-            == "error: the following required arguments were not provided:\n  <SEGMENT>\n  <ORDERS>\n\nUsage: xetra-day run <SEGMENT> <ORDERS>\n\nFor more information, try '--help'.\n"
-    );
-    let one = answer_to(alloc, &["run", "day.toml"])?;
-    assert!(rt;
-        one.as_str()
-            == "error: the following required arguments were not provided:\n  <ORDERS>\n\nUsage: xetra-day run <SEGMENT> <ORDERS>\n\nFor more information, try '--help'.\n"
-    );
-    let three = answer_to(alloc, &["run", "day.toml", "day.csv", "more"])?;
-    assert!(rt;
-        three.as_str()
-            == "error: unexpected argument 'more' found\n\nUsage: xetra-day run <SEGMENT> <ORDERS>\n\nFor more information, try '--help'.\n"
-    );
-    let dash = answer_to(alloc, &["run", "-s", "day.csv"])?;
-    assert!(rt;
-        dash.as_str()
-            == "error: unexpected argument '-s' found\n\n  tip: to pass '-s' as a value, use '-- -s'\n\nUsage: xetra-day run <SEGMENT> <ORDERS>\n\nFor more information, try '--help'.\n"
-    );
-    let unknown = answer_to(alloc, &["walk", "day.toml", "day.csv"])?;
-    assert!(rt;
-        unknown.as_str()
-            == "error: unrecognized subcommand 'walk'\n\nUsage: xetra-day <COMMAND>\n\nFor more information, try '--help'.\n"
-    );
-    let none = answer_to(alloc, &[])?;
-    assert!(rt; none.as_str().starts_with("Replays a trading day"));
+    let answers = [
+        (
+            ["run"].as_slice(),
+            "error: the following required arguments were not provided:\n  <SEGMENT>\n  <ORDERS>\n\nUsage: xetra-day run <SEGMENT> <ORDERS>\n\nFor more information, try '--help'.\n",
+        ),
+        (
+            ["run", "day.toml"].as_slice(),
+            "error: the following required arguments were not provided:\n  <ORDERS>\n\nUsage: xetra-day run <SEGMENT> <ORDERS>\n\nFor more information, try '--help'.\n",
+        ),
+        (
+            ["run", "day.toml", "day.csv", "more"].as_slice(),
+            "error: unexpected argument 'more' found\n\nUsage: xetra-day run <SEGMENT> <ORDERS>\n\nFor more information, try '--help'.\n",
+        ),
+        (
+            ["run", "-s", "day.csv"].as_slice(),
+            "error: unexpected argument '-s' found\n\n  tip: to pass '-s' as a value, use '-- -s'\n\nUsage: xetra-day run <SEGMENT> <ORDERS>\n\nFor more information, try '--help'.\n",
+        ),
+        (
+            ["walk", "day.toml", "day.csv"].as_slice(),
+            "error: unrecognized subcommand 'walk'\n\nUsage: xetra-day <COMMAND>\n\nFor more information, try '--help'.\n",
+        ),
+    ];
+    for (words, answer) in answers {
+        let text = answer_to(rt.alloc(), words)?;
+        assert_eq!(rt; text.as_str(), answer);
+    }
+    Ok(())
+}
+
+#[test]
+fn no_words(rt: HostRuntime) -> Result<(), Fail> {
+    let text = answer_to(rt.alloc(), &[])?;
+    assert!(rt; text.as_str().starts_with("Replays a trading day"));
     Ok(())
 }
 
@@ -251,9 +204,9 @@ fn help_is_an_answer(rt: HostRuntime) -> Result<(), Fail> {
 
 #[test]
 fn words_that_are_not_text(rt: HostRuntime) -> Result<(), Fail> {
-    let stop = refuse_bytes(rt.alloc());
-    assert_eq!(rt; stop.status(), 2);
-    let Stop::Words(text) = stop else {
+    let failure = refuse_bytes(rt.alloc());
+    assert_eq!(rt; failure.status(), 2);
+    let Failure::Words(text) = failure else {
         return Err(Fail::from("no text"));
     };
     let text = format!(in rt.alloc(); "{text}")?;
