@@ -1,11 +1,10 @@
 -- How a run of a day ends.
-use Rattle.std.proofs.Common.{◌≡◌, refl, ℕ, List, Option, None, Result, Err}
-use Rattle.xm_day.specs.Answers.{AreRowsOf, DayEnds, IsSegmentOf, OrdersEnd, RowsEnd, statement_of}
+use Rattle.std.proofs.Common.{◌≡◌, refl, ℕ, List, Option, None, Err}
+use Rattle.xm_day.specs.Answers.{AreRowsOf, OrdersEnd, statement_of}
 use Rattle.xm_day.specs.Day.{day, segment_fault}
 use Rattle.xm_day.specs.Faults.{IsOfWriting}
 use Rattle.xm_day.specs.Names.{NameLists}
 use Rattle.xm_day.specs.declared.config.SegmentConfig.{SegmentConfig}
-use Rattle.xm_day.specs.declared.day.DayReport.{DayReport}
 use Rattle.xm_day.specs.declared.faults.DayFault.{DayFault}
 use Rattle.xm_day.specs.declared.faults.DayFault.TheVariants.{Segment, Orders, Open, OutOfMemory, WriteFailed}
 use Rattle.xm_day.specs.declared.rows.Row.{Row}

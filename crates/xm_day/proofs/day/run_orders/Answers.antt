@@ -1,4 +1,4 @@
-use Rattle.std.proofs.Common.{◌≡◌, ◌∙◌, List, All, Err, length, map, ap, sym, subst}
+use Rattle.std.proofs.Common.{◌∙◌, List, All, Err, length, map, ap, sym, subst}
 use Rattle.std.specs.Io.KnownBytes.{Appends}
 use Rattle.xm_rules.specs.Served.{IsUntraded}
 use Rattle.xm_rules.specs.Step.{Journal, replay}
@@ -8,7 +8,6 @@ use Rattle.xm_day.proofs.Endings.{OrdersEnd-of_writing}
 use Rattle.xm_day.specs.Answers.{statement_of}
 use Rattle.xm_day.specs.Day.{Day}
 use Rattle.xm_day.specs.Statement.{statement}
-use Rattle.xm_day.specs.declared.faults.DayFault.TheVariants.{WriteFailed}
 use Rattle.xm_day.proofs.day.run_orders.Goals as goal
 
 pub take_rows-requires-clause-untraded : goal.take_rows-requires-clause-untraded
