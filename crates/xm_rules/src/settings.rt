@@ -22,8 +22,9 @@ pub struct DeskSettings {
     pub members: u32,
     /// The size of a tick, the unit of all prices.
     pub tick: TickSize,
-    /// The last price of a previous day.
+    /// The last price of a previous day, in ticks.
     pub reference: Price,
+    /// The widths of the price ranges.
     pub widths: Widths,
     /// The number of commands up to which the journal takes those of members; those of the phases
     /// it takes up to 64 more.
