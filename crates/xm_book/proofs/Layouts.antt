@@ -25,7 +25,7 @@ use Rattle.xm_book.specs.declared.places.Place.{Place}
 use Rattle.xm_book.specs.declared.queue.Rank.{Rank}
 use Rattle.xm_book.specs.declared.queues.Queues.{Queues}
 use Rattle.xm_book.proofs.Changes.{index-is, keep-all, keeps, key_of-kept, key_of-others, key_of-push, length-kept, lie-kept, lie-others, lie-push, lie-reduced, map-filter, of_others, orders-kept, others, others-timed, own_names-kept, own_names-push, own_names-reduced, parted, reduced, reduced-key, reduced-map, reduced-rank, reduced-rises, reduced-stamps, rests-kept, rests-push, rests-reduced, rises-kept, rises-push, some_none, stamps-others}
-use Rattle.xm_book.proofs.Counted.{Gains-length, count-all, count_one, weight}
+use Rattle.xm_book.proofs.Counted.{Gains-length, count_one, weight}
 use Rattle.xm_book.proofs.Listings.{StandsAlone, all-each, any-map, find-map, found, has_name-is, keyed-at, listing-is, no_key, none-found, some-found, some-is, stands_alone}
 use Rattle.xm_book.proofs.Ranks.{ranked-contains, ranked-length, ranked-map, ranked-push, ranked-filter}
 use Rattle.xm_book.proofs.Retained.{count-unless, get-unless}
@@ -80,9 +80,6 @@ any-count f g h (p ∷ ps) e = count_if (f p) refl (any-count f g h ps) e
 -- a place that is reserved is one of its side
 pub of_side-reserved : (p : Place) (ps : List Place) → list_any (same_place p) ps ≡ true → 1 ≤ count_by (is_of p.side) ps
 of_side-reserved p ps h = any-count (same_place p) (is_of p.side) (λ q e. ap (is_of p.side) (sym (same_place-is p q e)) ∙ same_side-itself p.side) ps h
-
-pub count-reserved : (p : Place) (ps : List Place) → list_any (same_place p) ps ≡ true → 1 ≤ length ps
-count-reserved p ps h = omega (arith, any-count (same_place p) (λ q. true) (λ q e. refl) ps h, count-all ps)
 
 module _ {A S : Type 0} (xs : List Listed) (ps : List Place) (entries : Slab Entry) (stamps : Vec Stamp A) (queues : Queues A) (names : index.IndexMap (ℕ × ℕ) ℕ S) (adds : ℕ) where
   -- what a clause sees is the list that the parts hold

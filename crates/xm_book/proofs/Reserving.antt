@@ -1,5 +1,5 @@
 -- What a list of reserved places holds after one is reserved or used.
-use Rattle.std.proofs.Common.{◌≡◌, ℕ, ◌+◌, ◌<◌, Bool, true, false, ◌||◌, cond, List, [], ◌∷◌, length, refl, arith}
+use Rattle.std.proofs.Common.{◌≡◌, ℕ, ◌+◌, ◌<◌, Bool, true, false, ◌||◌, cond, List, [], ◌∷◌, refl, arith}
 use Rattle.std.specs.Prelude.{nat_eq}
 use Rattle.std.specs.List.{list_any, count_by}
 use Rattle.std.proofs.lemmas.List.Sums.{sum_by-cons}
@@ -47,8 +47,3 @@ reserved-there p old new same =
     let one : ℕ = 1 in
     let here : cond (same_place p p) 1 0 ≡ one = rw (same_place-self p) refl in
     any-counted (same_place p) new (omega (arith, same.counts p, counted-cons (same_place p) p old, here))
-
--- where one place was reserved and is used, none is left
-pub used-last : (p : Place) (old new : List Place) → length old ≡ 1 → SamePlaces old (p ∷ new) → new ≡ []
-used-last p old [] one same = refl
-used-last p old (q ∷ qs) one same = let l = same.length in absurd (omega arith)
