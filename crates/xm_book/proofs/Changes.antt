@@ -11,15 +11,15 @@ use Rattle.std.proofs.lemmas.List.Folds.{list_all-append, list_any-append}
 use Rattle.std.proofs.lemmas.List.Sums.{count_by-le-length, length-filter}
 use Rattle.indexmap.proofs.SetLemmas.{map-remove}
 use Rattle.slab.specs.Slab.{Slab, Updates, get}
-use Rattle.xm_book.specs.Layout.{Lies, entry_of, has_name, is_before, key_of, pair_eq, stamp_of}
-use Rattle.xm_book.specs.Ranks.{Listed, order_of, rank_of, rises}
-use Rattle.xm_book.specs.TimeList.{have_own_names, removed}
+use Rattle.xm_book.specs.Layout.{Lies, listed_entry, has_name, is_earlier, key_of, pair_eq, stamp_of}
+use Rattle.xm_book.specs.Ranks.{Listed, listed_order, rank_of, rises}
+use Rattle.xm_book.specs.TimeList.{have_own_names}
 use Rattle.xm_book.specs.declared.book.Entry.{Entry}
 use Rattle.xm_book.specs.declared.book.Stamp.{Stamp}
 use Rattle.xm_book.proofs.Listings.{StandsAlone, has_name-is, left-false, lower, none-any, not-true, right-false, rises-at, same-index}
 use Rattle.xm_book.proofs.Sameness.{left-true, right-true}
 use Rattle.xm_rules.specs.Commands.{is_in_range}
-use Rattle.xm_rules.specs.Orders.{is_named, with_rest}
+use Rattle.xm_rules.specs.Orders.{is_named, removed, with_rest}
 use Rattle.xm_rules.specs.declared.orders.Order.{Order}
 
 -- ---- an order joins
@@ -86,10 +86,10 @@ key_of-push member reference (y ∷ xs) x h =
 pub some_none : {X : Type 0} (o : Option X) (x : X) → o ≡ Some x → o ≡ None → ⊥
 some_none o x h k = cc
 
-pub lie-push : (entries new : Slab Entry) (xs : List Listed) (x : Listed) → All (Lies entries) xs → get entries x.key ≡ None → Updates entries new x.key (Some (entry_of x)) → All (Lies new) (xs ++ x ∷ [])
+pub lie-push : (entries new : Slab Entry) (xs : List Listed) (x : Listed) → All (Lies entries) xs → get entries x.key ≡ None → Updates entries new x.key (Some (listed_entry x)) → All (Lies new) (xs ++ x ∷ [])
 lie-push entries new xs x all none u =
     All-push (Lies new) xs x
-    (All-weaker (Lies entries) (Lies new) (λ y l. u.others y.key (λ e. some_none (get entries y.key) (entry_of y) l (ap (get entries) e ∙ none)) ∙ l) xs all)
+    (All-weaker (Lies entries) (Lies new) (λ y l. u.others y.key (λ e. some_none (get entries y.key) (listed_entry y) l (ap (get entries) e ∙ none)) ∙ l) xs all)
     u.changed
 
 -- ---- orders leave
@@ -112,8 +112,8 @@ map-filter {X} f p q (x ∷ xs) h =
     kept_if true rest = ap (λ ys. f x ∷ ys) rest
     kept_if false rest = rest
 
-pub orders-kept : (test : Order → Bool) (xs : List Listed) → map order_of (filter (keeps test) xs) ≡ filter test (map order_of xs)
-orders-kept test xs = map-filter order_of (keeps test) test xs (λ k d lt. refl)
+pub orders-kept : (test : Order → Bool) (xs : List Listed) → map listed_order (filter (keeps test) xs) ≡ filter test (map listed_order xs)
+orders-kept test xs = map-filter listed_order (keeps test) test xs (λ k d lt. refl)
 
 same_tests : (s t : Bool) → (s ≡ true → t ≡ true) → (t ≡ true → s ≡ true) → s ≡ t
 same_tests true t h k = sym (h refl)
@@ -237,7 +237,7 @@ module _ (xs : List Listed) (high : ℕ) (rise : rises 0 xs high ≡ true) (x : 
   time-at : (k : ℕ) (d : Stamp) → k < length xs → (get_or (map stamp_of xs) k d).time ≡ (get_or xs k x).time
   time-at k d lt = ap (λ (s : Stamp). s.time) (get_or-map stamp_of xs k x d lt)
 
-  pub parted : IsPartitionedBy (is_before x.time) (map stamp_of xs)
+  pub parted : IsPartitionedBy (is_earlier x.time) (map stamp_of xs)
   parted i j d le lt h =
       let long = length-map xs stamp_of in
       let later = ltb-true (get_or (map stamp_of xs) j d).time x.time h in
@@ -245,10 +245,10 @@ module _ (xs : List Listed) (high : ℕ) (rise : rises 0 xs high ≡ true) (x : 
       let start = time-at i d (omega arith) in
       elim (cases_lt i j) [
         | inl l ↦ let up = rises-at 0 xs high rise i j x l (omega arith) in lt-ltb (get_or (map stamp_of xs) i d).time x.time (omega arith)
-        | inr g ↦ let same : j ≡ i = omega arith in subst (λ k. is_before x.time (get_or (map stamp_of xs) k d) ≡ true) same h
+        | inr g ↦ let same : j ≡ i = omega arith in subst (λ k. is_earlier x.time (get_or (map stamp_of xs) k d) ≡ true) same h
       ]
 
-  pub index-is : (c : Contains xs x) (i : ℕ) → IsPartitionPoint (λ s. is_before x.time s ≡ true) (λ s. is_before x.time s ≡ false) (map stamp_of xs) i → i ≡ c.0
+  pub index-is : (c : Contains xs x) (i : ℕ) → IsPartitionPoint (λ s. is_earlier x.time s ≡ true) (λ s. is_earlier x.time s ≡ false) (map stamp_of xs) i → i ≡ c.0
   index-is c i point =
       let long = length-map xs stamp_of in
       let here = time-at c.0 (stamp_of x) c.1 ∙ ap (λ (z : Listed). z.time) c.2 in
@@ -282,11 +282,11 @@ stamps-others member reference entries xs high x rise s =
 abbrev pub reduced : ℕ → ℕ → ℕ → Listed → Listed
 reduced member reference rest z = if has_name member reference z then record z { order = record z.order { rest = rest } } else z
 
-pub reduced-map : (member reference rest : ℕ) (xs : List Listed) → map order_of (map (reduced member reference rest) xs) ≡ with_rest member reference rest (map order_of xs)
+pub reduced-map : (member reference rest : ℕ) (xs : List Listed) → map listed_order (map (reduced member reference rest) xs) ≡ with_rest member reference rest (map listed_order xs)
 reduced-map member reference rest [] = refl
 reduced-map member reference rest (x ∷ xs) = (λ i. order_if (has_name member reference x) i ∷ reduced-map member reference rest xs i)
   where
-    order_if : (b : Bool) → order_of (if b then record x { order = record x.order { rest = rest } } else x) ≡ (if b then record x.order { rest = rest } else x.order)
+    order_if : (b : Bool) → listed_order (if b then record x { order = record x.order { rest = rest } } else x) ≡ (if b then record x.order { rest = rest } else x.order)
     order_if true = refl
     order_if false = refl
 

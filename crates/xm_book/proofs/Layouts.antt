@@ -15,9 +15,9 @@ use Rattle.std.proofs.lemmas.List.Sums.{count_by-le-length, sum_by-set}
 use Rattle.slab.specs.Slab.{Slab, get, slab_len, HasRoomFor, Updates, with_value}
 use Rattle.indexmap.specs.IndexMap as index
 use Rattle.xm_book.specs.Counted.{Gains}
-use Rattle.xm_book.specs.Layout.{IsLaidOut, Lies, entry_of, has_name, is_before, is_of, is_of_another, key_of, listing, pair_eq, queue_for, queue_of, stamp_of, unless_of, with_queue}
+use Rattle.xm_book.specs.Layout.{IsLaidOut, Lies, listed_entry, has_name, is_earlier, is_of, is_of_another, key_of, listing, pair_eq, queue_for, queue_of, stamp_of, unless_of, with_queue}
 use Rattle.xm_book.specs.Places.{place_of, same_place}
-use Rattle.xm_book.specs.Ranks.{Listed, QueueView, has_time, insert_rank, order_of, precedes, rank_of, ranked}
+use Rattle.xm_book.specs.Ranks.{Listed, QueueView, has_time, insert_rank, listed_order, precedes, rank_of, ranked}
 use Rattle.xm_book.specs.TimeList.{have_own_names}
 use Rattle.xm_book.specs.declared.book.Entry.{Entry}
 use Rattle.xm_book.specs.declared.book.Stamp.{Stamp}
@@ -113,7 +113,7 @@ module _ {A S : Type 0} (xs : List Listed) (ps : List Place) (entries : Slab Ent
         entries_room = omega arith;
         stamps_room = omega arith;
         names_room = omega arith;
-        sound = record { names = h.sound.names; rests = h.sound.rests; within = omega (arith, length-map xs order_of) };
+        sound = record { names = h.sound.names; rests = h.sound.rests; within = omega (arith, length-map xs listed_order) };
       }
 
   -- ---- a place is given up
@@ -259,7 +259,7 @@ module _ {A S : Type 0} (xs : List Listed) (ps : List Place) (entries : Slab Ent
       let there = sym (ranked-push s xs joined h.rise ∙ ap (λ (b : Bool). if b then insert_rank s (rank_of joined) (ranked s xs) else ranked s xs) other) in
       h.queued s ∙ (λ i. record { side = s; ranks = there i; reserved = other_sides-gained (place_of order) qs ps s gain other i })))
 
-  pub added : list_any (is_named order.member order.reference) (map order_of xs) ≡ false → is_in_range order.rest ≡ true
+  pub added : list_any (is_named order.member order.reference) (map listed_order xs) ≡ false → is_in_range order.rest ≡ true
       → (new : Slab Entry) → get entries key ≡ None → Updates entries new key (Some (record { order = order; time = adds })) → slab_len new ≡ slab_len entries + 1 → new.capacity ≡ entries.capacity
       → (more : Vec Stamp A) → more.items ≡ stamps.items ++ stamp_of joined ∷ [] → vec_len more ≡ vec_len stamps + 1 → vec_capacity more ≡ vec_capacity stamps
       → (q : QueueView) → q ≡ record { side = (queue_of order.side queues).side; ranks = insert_rank (queue_of order.side queues).side (rank_of joined) (queue_of order.side queues).ranks; reserved = (queue_of order.side queues).reserved - 1 }
@@ -267,7 +267,7 @@ module _ {A S : Type 0} (xs : List Listed) (ps : List Place) (entries : Slab Ent
       → IsLaidOut (xs ++ joined ∷ []) qs new more (with_queue order.side queues q) index' (adds + 1)
   added unknown range new none update len cap more items count wide q same index' pairs room =
       let long = Gains-length (place_of order) qs ps gain in
-      let view = map-append order_of xs (joined ∷ []) in
+      let view = map-append listed_order xs (joined ∷ []) in
       let alone = sym (any-map order.member order.reference xs) ∙ unknown in
       record {
         stamped = items ∙ (λ i. h.stamped i ++ stamp_of joined ∷ []) ∙ sym (map-append stamp_of xs (joined ∷ []));
@@ -279,9 +279,9 @@ module _ {A S : Type 0} (xs : List Listed) (ps : List Place) (entries : Slab Ent
         stamps_room = omega (arith, h.stamps_room);
         names_room = omega (arith, h.names_room);
         sound = record {
-          names = ap have_own_names view ∙ own_names-push (map order_of xs) order unknown h.sound.names;
-          rests = ap (list_all (λ (o : Order). is_in_range o.rest)) view ∙ rests-push (λ (o : Order). is_in_range o.rest) (map order_of xs) order h.sound.rests range;
-          within = omega (arith, h.sound.within, length-map xs order_of, length-map (xs ++ joined ∷ []) order_of, length-append xs (joined ∷ []));
+          names = ap have_own_names view ∙ own_names-push (map listed_order xs) order unknown h.sound.names;
+          rests = ap (list_all (λ (o : Order). is_in_range o.rest)) view ∙ rests-push (λ (o : Order). is_in_range o.rest) (map listed_order xs) order h.sound.rests range;
+          within = omega (arith, h.sound.within, length-map xs listed_order, length-map (xs ++ joined ∷ []) listed_order, length-append xs (joined ∷ []));
         };
       }
 
@@ -290,9 +290,9 @@ pub record NamedAt (member reference key : ℕ) (xs : List Listed) (entries : Sl
   pub listed : Listed
   pub found : find (has_name member reference) xs ≡ Some listed
   pub key_is : listed.key ≡ key
-  pub lies : get entries key ≡ Some (entry_of listed)
+  pub lies : get entries key ≡ Some (listed_entry listed)
   pub alone : StandsAlone member reference entries xs listed
-  pub order : find (is_named member reference) (map order_of xs) ≡ Some listed.order
+  pub order : find (is_named member reference) (map listed_order xs) ≡ Some listed.order
 
 module _ {A S : Type 0} (xs : List Listed) (ps : List Place) (entries : Slab Entry) (stamps : Vec Stamp A) (queues : Queues A) (names : index.IndexMap (ℕ × ℕ) ℕ S) (adds : ℕ)
     (h : IsLaidOut xs ps entries stamps queues names adds) (member reference : ℕ) where
@@ -306,12 +306,12 @@ module _ {A S : Type 0} (xs : List Listed) (ps : List Place) (entries : Slab Ent
         key_is = at.2;
         lies = ap (get entries) (sym at.2) ∙ alone.lies;
         alone = alone;
-        order = find-map member reference xs ∙ ap (option_map order_of) at.1;
+        order = find-map member reference xs ∙ ap (option_map listed_order) at.1;
       }
 
-  pub not_named : None ≡ index.get pair_eq names (member, reference) → find (is_named member reference) (map order_of xs) ≡ None
+  pub not_named : None ≡ index.get pair_eq names (member, reference) → find (is_named member reference) (map listed_order xs) ≡ None
   not_named e =
-      find-map member reference xs ∙ ap (option_map order_of) (no_key member reference xs (sym (h.named member reference) ∙ sym e))
+      find-map member reference xs ∙ ap (option_map listed_order) (no_key member reference xs (sym (h.named member reference) ∙ sym e))
 
 pub none_known : (member reference : ℕ) (os : List Order) → find (is_named member reference) os ≡ None → list_any (is_named member reference) os ≡ false
 none_known member reference os h = none-found (is_named member reference) os h
@@ -374,9 +374,9 @@ kept xs ps entries stamps queues names adds h test new lie len cap fewer items c
       stamps_room = omega (arith, h.stamps_room);
       names_room = omega (arith, h.names_room);
       sound = record {
-        names = ap have_own_names view ∙ own_names-kept test (map order_of xs) h.sound.names;
-        rests = ap (list_all (λ (o : Order). is_in_range o.rest)) view ∙ rests-kept (λ (o : Order). is_in_range o.rest) test (map order_of xs) h.sound.rests;
-        within = omega (arith, h.sound.within, length-map xs order_of, length-map (filter (keeps test) xs) order_of, length-kept (keeps test) xs);
+        names = ap have_own_names view ∙ own_names-kept test (map listed_order xs) h.sound.names;
+        rests = ap (list_all (λ (o : Order). is_in_range o.rest)) view ∙ rests-kept (λ (o : Order). is_in_range o.rest) test (map listed_order xs) h.sound.rests;
+        within = omega (arith, h.sound.within, length-map xs listed_order, length-map (filter (keeps test) xs) listed_order, length-kept (keeps test) xs);
       };
     }
 
@@ -411,7 +411,7 @@ module _ {A S : Type 0} (xs : List Listed) (ps : List Place) (entries : Slab Ent
   lie-retained new slots =
       lie-kept (of_others member) entries new xs h.lie
       (λ k d lt t l. (let z = get_or xs k d in
-      ap (λ os. get_or os z.key None) slots ∙ get-unless member entries.slots z.key ∙ ap (unless_of member) l ∙ ap (λ (b : Bool). if b then Some (entry_of z) else None) t))
+      ap (λ os. get_or os z.key None) slots ∙ get-unless member entries.slots z.key ∙ ap (unless_of member) l ∙ ap (λ (b : Bool). if b then Some (listed_entry z) else None) t))
 
   -- all orders of a member leave
   pub all_taken_out : (new : Slab Entry) → new.slots ≡ map (unless_of member) entries.slots → new.capacity ≡ entries.capacity
@@ -430,17 +430,17 @@ module _ {A S : Type 0} (xs : List Listed) (ps : List Place) (entries : Slab Ent
 module _ {A S : Type 0} (xs : List Listed) (ps : List Place) (entries : Slab Entry) (stamps : Vec Stamp A) (queues : Queues A) (names : index.IndexMap (ℕ × ℕ) ℕ S) (adds : ℕ)
     (h : IsLaidOut xs ps entries stamps queues names adds) (member reference key : ℕ) (n : NamedAt member reference key xs entries) where
   -- its entry is that of its stamp and of its rank
-  pub entry-is : (e : Entry) → get entries key ≡ Some e → e ≡ entry_of n.listed
+  pub entry-is : (e : Entry) → get entries key ≡ Some e → e ≡ listed_entry n.listed
   entry-is e k = some-is (sym k ∙ n.lies)
 
-  pub stamps-parted : IsPartitionedBy (is_before n.listed.time) stamps.items
-  stamps-parted = subst (λ ss. IsPartitionedBy (is_before n.listed.time) ss) (sym h.stamped) (parted xs adds h.rise n.listed)
+  pub stamps-parted : IsPartitionedBy (is_earlier n.listed.time) stamps.items
+  stamps-parted = subst (λ ss. IsPartitionedBy (is_earlier n.listed.time) ss) (sym h.stamped) (parted xs adds h.rise n.listed)
 
-  pub stamp-index : (i : ℕ) → IsPartitionPoint (λ s. is_before n.listed.time s ≡ true) (λ s. is_before n.listed.time s ≡ false) stamps.items i → i ≡ n.alone.contains.0
+  pub stamp-index : (i : ℕ) → IsPartitionPoint (λ s. is_earlier n.listed.time s ≡ true) (λ s. is_earlier n.listed.time s ≡ false) stamps.items i → i ≡ n.alone.contains.0
   stamp-index i point =
-      index-is xs adds h.rise n.listed n.alone.contains i (subst (λ ss. IsPartitionPoint (λ s. is_before n.listed.time s ≡ true) (λ s. is_before n.listed.time s ≡ false) ss i) h.stamped point)
+      index-is xs adds h.rise n.listed n.alone.contains i (subst (λ ss. IsPartitionPoint (λ s. is_earlier n.listed.time s ≡ true) (λ s. is_earlier n.listed.time s ≡ false) ss i) h.stamped point)
 
-  pub stamp-within : (i : ℕ) → IsPartitionPoint (λ s. is_before n.listed.time s ≡ true) (λ s. is_before n.listed.time s ≡ false) stamps.items i → i < length stamps.items
+  pub stamp-within : (i : ℕ) → IsPartitionPoint (λ s. is_earlier n.listed.time s ≡ true) (λ s. is_earlier n.listed.time s ≡ false) stamps.items i → i < length stamps.items
   stamp-within i point = omega (arith, stamp-index i point, n.alone.contains.1, ap length h.stamped, length-map xs stamp_of)
 
   pub rank-contained : Contains (queue_of n.listed.order.side queues).ranks (rank_of (record { key = key; time = n.listed.time; order = n.listed.order }))
@@ -475,7 +475,7 @@ module _ {A S : Type 0} (xs : List Listed) (ps : List Place) (entries : Slab Ent
       (λ s e. (let there = sym (keep-all (has_time n.listed.time) (ranked s xs) (other-times s e)) ∙ gone s in h.queued s ∙ (λ i. record { side = s; ranks = there i; reserved = count_by (is_of s) ps })))
 
   pub taken_out : (new : Slab Entry) → Updates entries new key None → slab_len new + 1 ≡ slab_len entries → new.capacity ≡ entries.capacity
-      → (i : ℕ) → IsPartitionPoint (λ s. is_before n.listed.time s ≡ true) (λ s. is_before n.listed.time s ≡ false) stamps.items i
+      → (i : ℕ) → IsPartitionPoint (λ s. is_earlier n.listed.time s ≡ true) (λ s. is_earlier n.listed.time s ≡ false) stamps.items i
       → (fewer : Vec Stamp A) → fewer.items ≡ remove stamps.items i → vec_len fewer + 1 ≡ vec_len stamps → vec_capacity fewer ≡ vec_capacity stamps
       → (q : QueueView) → q ≡ record { side = (queue_of n.listed.order.side queues).side; ranks = filter (λ (r : Rank). not (has_time n.listed.time r)) (queue_of n.listed.order.side queues).ranks; reserved = (queue_of n.listed.order.side queues).reserved }
       → (index' : index.IndexMap (ℕ × ℕ) ℕ S) → ((k : ℕ × ℕ) → index.get pair_eq index' k ≡ (if pair_eq (member, reference) k then None else index.get pair_eq names k)) → index.spare names ≤ index.spare index'
@@ -491,7 +491,7 @@ module _ {A S : Type 0} (xs : List Listed) (ps : List Place) (entries : Slab Ent
   entry-within : key < length entries.slots
   entry-within = elim (cases_lt key (length entries.slots)) [
     | inl lt ↦ lt
-    | inr past ↦ absurd (some_none (get entries key) (entry_of n.listed) n.lies (get_or_past entries.slots key None past))
+    | inr past ↦ absurd (some_none (get entries key) (listed_entry n.listed) n.lies (get_or_past entries.slots key None past))
   ]
 
   pub lessened_to : (rest : ℕ) → 1 ≤ rest → rest ≤ n.listed.order.rest → (new : Slab Entry) → new ≡ with_value entries key (record { order = record n.listed.order { rest = rest }; time = n.listed.time })
@@ -504,10 +504,10 @@ module _ {A S : Type 0} (xs : List Listed) (ps : List Place) (entries : Slab Ent
         changed = ap (λ os. get_or os key None) slots ∙ get_or-set_same entries.slots key (Some value) None entry-within;
         others = λ k m. ap (λ os. get_or os k None) slots ∙ get_or-set_other entries.slots key k (Some value) None m;
       } in
-      let count : slab_len new ≡ slab_len entries = ap (count_by is_some) slots ∙ count-written entries.slots key (entry_of n.listed) value n.lies entry-within in
+      let count : slab_len new ≡ slab_len entries = ap (count_by is_some) slots ∙ count-written entries.slots key (listed_entry n.listed) value n.lies entry-within in
       let view = reduced-map member reference rest xs in
-      let all : All (λ (o : Order). is_in_range o.rest ≡ true) (map order_of xs) = all-each (λ (o : Order). is_in_range o.rest) (map order_of xs) h.sound.rests in
-      let top = range-high n.listed.order.rest (All-contains (λ (o : Order). is_in_range o.rest ≡ true) (map order_of xs) n.listed.order all (found (is_named member reference) n.listed.order (map order_of xs) n.order).1) in
+      let all : All (λ (o : Order). is_in_range o.rest ≡ true) (map listed_order xs) = all-each (λ (o : Order). is_in_range o.rest) (map listed_order xs) h.sound.rests in
+      let top = range-high n.listed.order.rest (All-contains (λ (o : Order). is_in_range o.rest ≡ true) (map listed_order xs) n.listed.order all (found (is_named member reference) n.listed.order (map listed_order xs) n.order).1) in
       record {
         stamped = h.stamped ∙ sym (reduced-stamps member reference rest xs);
         lie = lie-reduced member reference rest entries new xs n.listed n.alone h.lie (subst (λ k. Updates entries new k (Some value)) (sym n.key_is) update);
@@ -518,8 +518,8 @@ module _ {A S : Type 0} (xs : List Listed) (ps : List Place) (entries : Slab Ent
         stamps_room = h.stamps_room;
         names_room = h.names_room;
         sound = record {
-          names = ap have_own_names view ∙ own_names-reduced member reference rest (map order_of xs) h.sound.names;
-          rests = ap (list_all (λ (o : Order). is_in_range o.rest)) view ∙ rests-reduced member reference rest (map order_of xs) (in_range rest low (omega (arith, top))) h.sound.rests;
-          within = omega (arith, h.sound.within, length-map xs order_of, length-map (map (reduced member reference rest) xs) order_of, length-map xs (reduced member reference rest));
+          names = ap have_own_names view ∙ own_names-reduced member reference rest (map listed_order xs) h.sound.names;
+          rests = ap (list_all (λ (o : Order). is_in_range o.rest)) view ∙ rests-reduced member reference rest (map listed_order xs) (in_range rest low (omega (arith, top))) h.sound.rests;
+          within = omega (arith, h.sound.within, length-map xs listed_order, length-map (map (reduced member reference rest) xs) listed_order, length-map xs (reduced member reference rest));
         };
       }

@@ -6,7 +6,7 @@ use Rattle.std.specs.Prelude.{nat_le, nat_lt}
 use Rattle.std.proofs.lemmas.Bool.{or_parts, not-false}
 use Rattle.std.proofs.lemmas.Bool.Decides.{nat_tests}
 use Rattle.xm_book.specs.Ranks.{has_limit}
-use Rattle.xm_rules.specs.Active.{Placed, limits}
+use Rattle.xm_rules.specs.Active.{Positioned, limits}
 use Rattle.xm_rules.specs.Orders.{limit_of}
 use Rattle.xm_rules.specs.Priority.{is_better, is_ahead}
 use Rattle.xm_rules.specs.Sides.{reaches, best_from, best}
@@ -78,37 +78,37 @@ reached side (Limit q) p x e h =
     let same : q ≡ x = cc in
     subst (λ (y : ℕ). reaches side p y ≡ true) same (not-false (reaches side p q) h)
 
-abbrev is_limited : Placed → Bool
+abbrev is_limited : Positioned → Bool
 is_limited i = has_limit i.order.kind
 
-limit_at : (side : Side) (queue : List Placed) (j : Placed) (kind : OrderKind) → j.order.kind ≡ kind → Passes is_limited queue j → has_none_ahead (is_ahead side) (filter is_limited queue) j ≡ true
+limit_at : (side : Side) (queue : List Positioned) (j : Positioned) (kind : OrderKind) → j.order.kind ≡ kind → Passes is_limited queue j → has_none_ahead (is_ahead side) (filter is_limited queue) j ≡ true
     → limit_of kind ≡ best side (limits queue)
 limit_at side queue j Market e h none = absurd (let l : has_limit j.order.kind ≡ has_limit Market = ap has_limit e in let t = h.passes in cc)
 limit_at side queue j (Limit p) e h none =
-    sym (best_is side p (limits queue) (Contains-filter_map (λ (i : Placed). limit_of i.order.kind) queue j p (ap limit_of e) h.contains)
-    (λ x at. let from = IsGiven-filter_map (λ (i : Placed). limit_of i.order.kind) queue x at in
+    sym (best_is side p (limits queue) (Contains-filter_map (λ (i : Positioned). limit_of i.order.kind) queue j p (ap limit_of e) h.contains)
+    (λ x at. let from = IsGiven-filter_map (λ (i : Positioned). limit_of i.order.kind) queue x at in
     let i = from.from in
     let behind = none_ahead (is_ahead side) (filter is_limited queue) j i none (Contains-filter is_limited queue i (limited i.order.kind x from.given) from.contains) in
-    let parts = or_parts (is_better side i.order.kind j.order.kind) (not (is_better side j.order.kind i.order.kind) && nat_lt i.place j.place) behind in
+    let parts = or_parts (is_better side i.order.kind j.order.kind) (not (is_better side j.order.kind i.order.kind) && nat_lt i.position j.position) behind in
     reached side i.order.kind p x from.given (subst (λ (k : OrderKind). is_better side i.order.kind k ≡ false) e parts.0)))
 
-none_if : (queue : List Placed) (i : Placed) (kind : OrderKind) → (filter is_limited queue ≡ [] → limits queue ≡ [])
+none_if : (queue : List Positioned) (i : Positioned) (kind : OrderKind) → (filter is_limited queue ≡ [] → limits queue ≡ [])
     → (if has_limit kind then i ∷ filter is_limited queue else filter is_limited queue) ≡ [] → cons_option (limit_of kind) (limits queue) ≡ []
 none_if queue i Market rest e = rest e
 none_if queue i (Limit p) rest e = absurd (cc)
 
-no_limits : (queue : List Placed) → filter is_limited queue ≡ [] → limits queue ≡ []
+no_limits : (queue : List Positioned) → filter is_limited queue ≡ [] → limits queue ≡ []
 no_limits [] e = refl
 no_limits (i ∷ is) e = none_if is i i.order.kind (no_limits is) e
 
-limit_by : (side : Side) (queue : List Placed) (o : Option Placed) → first_of (is_ahead side) (filter is_limited queue) ≡ o
-    → option_and_then (λ (i : Placed). limit_of i.order.kind) o ≡ best side (limits queue)
+limit_by : (side : Side) (queue : List Positioned) (o : Option Positioned) → first_of (is_ahead side) (filter is_limited queue) ≡ o
+    → option_and_then (λ (i : Positioned). limit_of i.order.kind) o ≡ best side (limits queue)
 limit_by side queue None e = sym (ap (best side) (no_limits queue (first_of-None (is_ahead side) (not_ahead_of_itself side) (ahead_on side) (filter is_limited queue) e)))
 limit_by side queue (Some j) e =
     let found = find-Some (has_none_ahead (is_ahead side) (filter is_limited queue)) (filter is_limited queue) j e in
     limit_at side queue j j.order.kind refl (Passes-filter is_limited queue j found.contains) found.passes
 
 -- the best limit is that of the first with a limit
-pub limit_of_first : (side : Side) (queue : List Placed)
-    → option_and_then (λ (i : Placed). limit_of i.order.kind) (first_of (is_ahead side) (filter (λ (i : Placed). has_limit i.order.kind) queue)) ≡ best side (limits queue)
+pub limit_of_first : (side : Side) (queue : List Positioned)
+    → option_and_then (λ (i : Positioned). limit_of i.order.kind) (first_of (is_ahead side) (filter (λ (i : Positioned). has_limit i.order.kind) queue)) ≡ best side (limits queue)
 limit_of_first side queue = limit_by side queue (first_of (is_ahead side) (filter is_limited queue)) refl

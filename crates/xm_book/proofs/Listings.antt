@@ -8,8 +8,8 @@ use Rattle.std.proofs.lemmas.Bool.Decides.{nat_tests}
 use Rattle.std.proofs.lemmas.List.{get_or_default, map-append, take_more}
 use Rattle.std.proofs.lemmas.List.Elements.{All-nil, All-cons, All-head, All-tail, All-contains, All-weaker, Contains-append_right, Contains-get_or, filter-append, filter_map-append}
 use Rattle.slab.specs.Slab.{Slab, get}
-use Rattle.xm_book.specs.Layout.{Lies, entry_of, has_name, key_of, listed_at, listing, stamp_of}
-use Rattle.xm_book.specs.Ranks.{Listed, order_of, rises}
+use Rattle.xm_book.specs.Layout.{Lies, listed_entry, has_name, key_of, listed_at, listing, stamp_of}
+use Rattle.xm_book.specs.Ranks.{Listed, listed_order, rises}
 use Rattle.xm_book.specs.TimeList.{have_own_names, references_of}
 use Rattle.xm_book.specs.declared.book.Entry.{Entry}
 use Rattle.xm_book.specs.declared.book.Stamp.{Stamp}
@@ -30,10 +30,10 @@ abbrev pub order_under : Slab Entry → ℕ → Option Order
 order_under entries key = option_map (λ (e : Entry). e.order) (get entries key)
 
 abbrev pub orders_to : Slab Entry → List Stamp → ℕ → List Order
-orders_to entries stamps i = map order_of (listing entries (take i stamps))
+orders_to entries stamps i = map listed_order (listing entries (take i stamps))
 
 one_order : (s : Stamp) (o : Option Entry)
-    → map order_of (cons_option (option_map (λ (e : Entry). let l : Listed = record { key = s.key; time = s.time; order = e.order } in l) o) []) ≡ option_to_list (option_map (λ (e : Entry). e.order) o)
+    → map listed_order (cons_option (option_map (λ (e : Entry). let l : Listed = record { key = s.key; time = s.time; order = e.order } in l) o) []) ≡ option_to_list (option_map (λ (e : Entry). e.order) o)
 one_order s None = refl
 one_order s (Some e) = refl
 
@@ -41,8 +41,8 @@ pub orders-more : (entries : Slab Entry) (stamps : List Stamp) (i : ℕ) (d : St
     → orders_to entries stamps (i + 1) ≡ orders_to entries stamps i ++ option_to_list (order_under entries (get_or stamps i d).key)
 orders-more entries stamps i d h =
     let s = get_or stamps i d in
-    ap (λ ss. map order_of (listing entries ss)) (take_more stamps i d h) ∙ ap (map order_of) (filter_map-append (listed_at entries) (take i stamps) (s ∷ []))
-    ∙ map-append order_of (listing entries (take i stamps)) (listing entries (s ∷ [])) ∙ ap (λ os. orders_to entries stamps i ++ os) (one_order s (get entries s.key))
+    ap (λ ss. map listed_order (listing entries ss)) (take_more stamps i d h) ∙ ap (map listed_order) (filter_map-append (listed_at entries) (take i stamps) (s ∷ []))
+    ∙ map-append listed_order (listing entries (take i stamps)) (listing entries (s ∷ [])) ∙ ap (λ os. orders_to entries stamps i ++ os) (one_order s (get entries s.key))
 
 references_at : (member : ℕ) (os : List Order) (o : Order) → references_of member (os ++ o ∷ []) ≡ references_of member os ++ references_of member (o ∷ [])
 references_at member os o =
@@ -64,16 +64,16 @@ pub has_name-is : (member reference : ℕ) (x : Listed) → has_name member refe
 has_name-is member reference x h =
     (eqb-true x.order.member member (left-true (x.order.member == member) (x.order.reference == reference) h), eqb-true x.order.reference reference (right-true (x.order.member == member) (x.order.reference == reference) h))
 
-pub find-map : (member reference : ℕ) (xs : List Listed) → find (is_named member reference) (map order_of xs) ≡ option_map order_of (find (has_name member reference) xs)
+pub find-map : (member reference : ℕ) (xs : List Listed) → find (is_named member reference) (map listed_order xs) ≡ option_map listed_order (find (has_name member reference) xs)
 find-map member reference [] = refl
 find-map member reference (x ∷ xs) = find_if (has_name member reference x) (find-map member reference xs)
   where
-    find_if : (b : Bool) → find (is_named member reference) (map order_of xs) ≡ option_map order_of (find (has_name member reference) xs)
-        → (if b then Some x.order else find (is_named member reference) (map order_of xs)) ≡ option_map order_of (if b then Some x else find (has_name member reference) xs)
+    find_if : (b : Bool) → find (is_named member reference) (map listed_order xs) ≡ option_map listed_order (find (has_name member reference) xs)
+        → (if b then Some x.order else find (is_named member reference) (map listed_order xs)) ≡ option_map listed_order (if b then Some x else find (has_name member reference) xs)
     find_if true rest = refl
     find_if false rest = rest
 
-pub any-map : (member reference : ℕ) (xs : List Listed) → list_any (is_named member reference) (map order_of xs) ≡ list_any (has_name member reference) xs
+pub any-map : (member reference : ℕ) (xs : List Listed) → list_any (is_named member reference) (map listed_order xs) ≡ list_any (has_name member reference) xs
 any-map member reference [] = refl
 any-map member reference (x ∷ xs) = ap (λ b. has_name member reference x || b) (any-map member reference xs)
 
@@ -110,7 +110,7 @@ module _ {X : Type 0} (p : X → Bool) where
 
 -- no other order has the name of the one that is found
 named_if : (member reference : ℕ) (x y : Listed) (xs : List Listed) (b : Bool) → has_name member reference y ≡ b
-    → list_any (is_named y.order.member y.order.reference) (map order_of xs) ≡ false
+    → list_any (is_named y.order.member y.order.reference) (map listed_order xs) ≡ false
     → (find (has_name member reference) xs ≡ Some x → All (λ (z : Listed). has_name member reference z ≡ true → z ≡ x) xs)
     → (if b then Some y else find (has_name member reference) xs) ≡ Some x → All (λ (z : Listed). has_name member reference z ≡ true → z ≡ x) (y ∷ xs)
 named_if member reference x y xs true e own rest h =
@@ -128,13 +128,13 @@ pub not-true : (b : Bool) → not b ≡ true → b ≡ false
 not-true true h = absurd (cc)
 not-true false h = refl
 
-named-once : (member reference : ℕ) (x : Listed) (xs : List Listed) → have_own_names (map order_of xs) ≡ true → find (has_name member reference) xs ≡ Some x
+named-once : (member reference : ℕ) (x : Listed) (xs : List Listed) → have_own_names (map listed_order xs) ≡ true → find (has_name member reference) xs ≡ Some x
     → All (λ (z : Listed). has_name member reference z ≡ true → z ≡ x) xs
 named-once member reference x [] own h = absurd (cc)
 named-once member reference x (y ∷ xs) own h =
-    let any = list_any (is_named y.order.member y.order.reference) (map order_of xs) in
-    named_if member reference x y xs (has_name member reference y) refl (not-true any (left-true (not any) (have_own_names (map order_of xs)) own))
-    (named-once member reference x xs (right-true (not any) (have_own_names (map order_of xs)) own)) h
+    let any = list_any (is_named y.order.member y.order.reference) (map listed_order xs) in
+    named_if member reference x y xs (has_name member reference y) refl (not-true any (left-true (not any) (have_own_names (map listed_order xs)) own))
+    (named-once member reference x xs (right-true (not any) (have_own_names (map listed_order xs)) own)) h
 
 -- ---- the times rise
 pub lower : (l m : ℕ) (xs : List Listed) (high : ℕ) → l ≤ m → rises m xs high ≡ true → rises l xs high ≡ true
@@ -187,7 +187,7 @@ keys-once entries xs x all c = All-weaker (Lies entries) (λ (z : Listed). z.key
   where
     same_key : (z : Listed) → z.key ≡ x.key → Lies entries z → z ≡ x
     same_key z e l =
-        let f : entry_of z ≡ entry_of x = some-is (sym l ∙ ap (get entries) e ∙ All-contains (Lies entries) xs x all c) in
+        let f : listed_entry z ≡ listed_entry x = some-is (sym l ∙ ap (get entries) e ∙ All-contains (Lies entries) xs x all c) in
         (λ i. record { key = e i; time = (f i).time; order = (f i).order })
 
 -- the order of a name stands alone in its name, its time and its key
@@ -199,7 +199,7 @@ pub record StandsAlone (member reference : ℕ) (entries : Slab Entry) (xs : Lis
   pub timed : All (λ (z : Listed). z.time ≡ x.time → z ≡ x) xs
   pub keyed : All (λ (z : Listed). z.key ≡ x.key → z ≡ x) xs
 
-pub stands_alone : (member reference : ℕ) (entries : Slab Entry) (xs : List Listed) (high : ℕ) (x : Listed) → All (Lies entries) xs → rises 0 xs high ≡ true → have_own_names (map order_of xs) ≡ true
+pub stands_alone : (member reference : ℕ) (entries : Slab Entry) (xs : List Listed) (high : ℕ) (x : Listed) → All (Lies entries) xs → rises 0 xs high ≡ true → have_own_names (map listed_order xs) ≡ true
     → find (has_name member reference) xs ≡ Some x → StandsAlone member reference entries xs x
 stands_alone member reference entries xs high x all rise own h =
     let f = found (has_name member reference) x xs h in

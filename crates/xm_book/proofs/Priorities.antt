@@ -6,7 +6,7 @@ use Rattle.slab.specs.Slab.{Slab, get}
 use Rattle.indexmap.specs.IndexMap as index
 use Rattle.xm_book.specs.Layout.{IsLaidOut, Lies, pair_eq, queue_of}
 use Rattle.xm_book.specs.Queues.{best_order, next_order}
-use Rattle.xm_book.specs.Ranks.{Listed, QueueView, first_active, first_limit, next_active, order_of, rank_of, ranked}
+use Rattle.xm_book.specs.Ranks.{Listed, QueueView, first_active, first_limit, next_active, listed_order, rank_of, ranked}
 use Rattle.xm_book.specs.declared.book.Entry.{Entry}
 use Rattle.xm_book.specs.declared.book.Stamp.{Stamp}
 use Rattle.xm_book.specs.declared.places.Place.{Place}
@@ -50,33 +50,33 @@ module _ {A S : Type 0} (xs : List Listed) (ps : List Place) (entries : Slab Ent
       let lies = All-contains (Lies entries) xs a.listed h.lie a.contains in
       ap (option_map (λ (e : Entry). e.order)) (ap (λ (r : Rank). get entries r.key) a.rank ∙ lies) ∙ sym a.order
 
-  pub best_at : (o : Option Rank) → o ≡ first_active phase (queue_of side queues).side (queue_of side queues).ranks → AreOf xs o (best_order phase side (map order_of xs))
+  pub best_at : (o : Option Rank) → o ≡ first_active phase (queue_of side queues).side (queue_of side queues).ranks → AreOf xs o (best_order phase side (map listed_order xs))
   best_at o e =
-      subst (λ r. AreOf xs r (best_order phase side (map order_of xs))) (sym (e ∙ ap (λ (q : QueueView). first_active phase q.side q.ranks) (h.queued side))) (first_active-is phase side xs adds h.rise)
+      subst (λ r. AreOf xs r (best_order phase side (map listed_order xs))) (sym (e ∙ ap (λ (q : QueueView). first_active phase q.side q.ranks) (h.queued side))) (first_active-is phase side xs adds h.rise)
 
   pub limit_at : (o : Option Rank) → o ≡ first_limit phase (queue_of side queues).side (queue_of side queues).ranks
-      → option_and_then (λ (r : Rank). limit_of r.kind) o ≡ best side (limits (active phase side (map order_of xs)))
+      → option_and_then (λ (r : Rank). limit_of r.kind) o ≡ best side (limits (active phase side (map listed_order xs)))
   limit_at o e =
       ap (option_and_then (λ (r : Rank). limit_of r.kind)) (e ∙ ap (λ (q : QueueView). first_limit phase q.side q.ranks) (h.queued side)) ∙ first_limit-is phase side xs adds h.rise
 
-  pub no_next : (member reference : ℕ) → None ≡ index.get pair_eq names (member, reference) → next_order phase side member reference (map order_of xs) ≡ None
+  pub no_next : (member reference : ℕ) → None ≡ index.get pair_eq names (member, reference) → next_order phase side member reference (map listed_order xs) ≡ None
   no_next member reference e =
-      next_order-unknown phase side member reference (map order_of xs) (none_known member reference (map order_of xs) (not_named xs ps entries stamps queues names adds h member reference e))
+      next_order-unknown phase side member reference (map listed_order xs) (none_known member reference (map listed_order xs) (not_named xs ps entries stamps queues names adds h member reference e))
 
   module _ (member reference key : ℕ) (n : NamedAt member reference key xs entries) where
-    named : next_order phase side n.listed.order.member n.listed.order.reference (map order_of xs) ≡ next_order phase side member reference (map order_of xs)
+    named : next_order phase side n.listed.order.member n.listed.order.reference (map listed_order xs) ≡ next_order phase side member reference (map listed_order xs)
     named =
         let is = has_name-is member reference n.listed n.alone.is in
-        (λ i. next_order phase side (is.0 i) (is.1 i) (map order_of xs))
+        (λ i. next_order phase side (is.0 i) (is.1 i) (map listed_order xs))
 
-    pub inactive : (is_active phase n.listed.order.restriction && same_side side n.listed.order.side) ≡ false → next_order phase side member reference (map order_of xs) ≡ None
+    pub inactive : (is_active phase n.listed.order.restriction && same_side side n.listed.order.side) ≡ false → next_order phase side member reference (map listed_order xs) ≡ None
     inactive e = sym named ∙ next_order-inactive phase side xs n.listed h.sound.names n.alone.contains e
 
     pub next_at : (is_active phase n.listed.order.restriction && same_side side n.listed.order.side) ≡ true
         → (o : Option Rank) → o ≡ next_active phase (queue_of side queues).side (rank_of (record { key = key; time = n.listed.time; order = n.listed.order })) (queue_of side queues).ranks
-        → AreOf xs o (next_order phase side member reference (map order_of xs))
+        → AreOf xs o (next_order phase side member reference (map listed_order xs))
     next_at t o e =
         let rank = ap (λ (k : ℕ). rank_of (record { key = k; time = n.listed.time; order = n.listed.order })) (sym n.key_is) in
         let same = e ∙ (λ i. next_active phase (h.queued side i).side (rank i) (h.queued side i).ranks) in
-        subst (λ r. AreOf xs r (next_order phase side member reference (map order_of xs))) (sym same)
+        subst (λ r. AreOf xs r (next_order phase side member reference (map listed_order xs))) (sym same)
         (subst (λ o. AreOf xs (next_active phase side (rank_of n.listed) (ranked side xs)) o) named (next_active-is phase side xs adds n.listed h.rise h.sound.names n.alone.contains t))

@@ -5,7 +5,7 @@ use Rattle.std.specs.Option.{option_map_or}
 use Rattle.std.specs.Vec.{vec_capacity}
 use Rattle.slab.specs.Slab.{Slab, get, slab_len}
 use Rattle.indexmap.specs.IndexMap as index
-use Rattle.xm_book.specs.Ranks.{Listed, QueueView, order_of, ranked, rises}
+use Rattle.xm_book.specs.Ranks.{Listed, QueueView, listed_order, ranked, rises}
 use Rattle.xm_book.specs.TimeList.{IsBook}
 use Rattle.xm_book.specs.declared.book.Entry.{Entry}
 use Rattle.xm_book.specs.declared.book.Stamp.{Stamp}
@@ -16,8 +16,8 @@ use Rattle.xm_rules.specs.Sides.{same_side}
 use Rattle.xm_rules.specs.declared.orders.Side.{Side}
 use Rattle.xm_rules.specs.declared.orders.Side.TheVariants.{Buy, Sell}
 
-abbrev pub entry_of : Listed → Entry
-entry_of x = record { order = x.order; time = x.time }
+abbrev pub listed_entry : Listed → Entry
+listed_entry x = record { order = x.order; time = x.time }
 
 abbrev pub stamp_of : Listed → Stamp
 stamp_of x = record { time = x.time; key = x.key }
@@ -29,12 +29,13 @@ listed_at entries s = option_map (λ (e : Entry). record { key = s.key; time = s
 abbrev pub listing : Slab Entry → List Stamp → List Listed
 listing entries stamps = filter_map (listed_at entries) stamps
 
-abbrev pub is_before : ℕ → Stamp → Bool
-is_before time s = nat_lt s.time time
+-- a stamp from before a time
+abbrev pub is_earlier : ℕ → Stamp → Bool
+is_earlier time s = nat_lt s.time time
 
 -- the order lies under its key
 abbrev pub Lies : Slab Entry → Listed → Type 0
-Lies entries x = get entries x.key ≡ Some (entry_of x)
+Lies entries x = get entries x.key ≡ Some (listed_entry x)
 
 -- the order of another member lies under the key
 abbrev pub is_of_another : ℕ → Slab Entry → ℕ → Bool
@@ -81,4 +82,4 @@ pub record IsLaidOut {A S : Type 0} (xs : List Listed) (ps : List Place) (entrie
   pub entries_room : slab_len entries + length ps ≤ entries.capacity
   pub stamps_room : vec_len stamps + length ps ≤ vec_capacity stamps
   pub names_room : length ps ≤ index.spare names
-  pub sound : IsBook (record { orders = map order_of xs; reserved = ps; adds = adds })
+  pub sound : IsBook (record { orders = map listed_order xs; reserved = ps; adds = adds })

@@ -1,7 +1,7 @@
 -- The active orders of a side in order of priority.
 use Rattle.std.specs.Prelude.{ℕ, not, List, filter, find, Option, Some, None, option_map}
 use Rattle.std.specs.List.{list_any}
-use Rattle.xm_rules.specs.Active.{Placed, active}
+use Rattle.xm_rules.specs.Active.{Positioned, active}
 use Rattle.xm_rules.specs.Orders.{is_named}
 use Rattle.xm_rules.specs.Priority.{is_ahead}
 use Rattle.xm_rules.specs.declared.orders.Order.{Order}
@@ -9,16 +9,16 @@ use Rattle.xm_rules.specs.declared.orders.Side.{Side}
 use Rattle.xm_rules.specs.declared.phases.Phase.{Phase}
 
 -- the order of a queue that has none ahead of it
-abbrev pub first : Side → List Placed → Option Placed
-first side queue = find (λ (j : Placed). not (list_any (λ (i : Placed). is_ahead side i j) queue)) queue
+abbrev pub first : Side → List Positioned → Option Positioned
+first side queue = find (λ (j : Positioned). not (list_any (λ (i : Positioned). is_ahead side i j) queue)) queue
 
 -- the first of those that an order is ahead of
-abbrev pub first_behind : Side → List Placed → Option Placed → Option Placed
+abbrev pub first_behind : Side → List Positioned → Option Positioned → Option Positioned
 first_behind side queue None = None
-first_behind side queue (Some i) = first side (filter (λ (j : Placed). is_ahead side i j) queue)
+first_behind side queue (Some i) = first side (filter (λ (j : Positioned). is_ahead side i j) queue)
 
-abbrev pub order_at : Option Placed → Option Order
-order_at i = option_map (λ (i : Placed). i.order) i
+abbrev pub order_at : Option Positioned → Option Order
+order_at i = option_map (λ (i : Positioned). i.order) i
 
 -- the best active order of a side
 abbrev pub best_order : Phase → Side → List Order → Option Order
@@ -28,4 +28,4 @@ best_order phase side orders = order_at (first side (active phase side orders))
 abbrev pub next_order : Phase → Side → ℕ → ℕ → List Order → Option Order
 next_order phase side member reference orders =
     let queue = active phase side orders in
-    order_at (first_behind side queue (find (λ (i : Placed). is_named member reference i.order) queue))
+    order_at (first_behind side queue (find (λ (i : Positioned). is_named member reference i.order) queue))

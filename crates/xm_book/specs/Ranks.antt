@@ -20,8 +20,8 @@ pub record Listed : Type 0 where
   pub time : ℕ
   pub order : Order
 
-abbrev pub order_of : Listed → Order
-order_of x = x.order
+abbrev pub listed_order : Listed → Order
+listed_order x = x.order
 
 -- times that rise strictly, the first of which is no lower than the first number, and the last lower than the second
 abbrev pub rises : ℕ → List Listed → ℕ → Bool

@@ -38,14 +38,6 @@ pub record Reserves (place : Place) (old new : TimeList) : Type 0 where
 abbrev pub is_known : ℕ → ℕ → TimeList → Bool
 is_known member reference l = list_any (is_named member reference) l.orders
 
--- the list without the order of this name
-abbrev pub removed : ℕ → ℕ → List Order → List Order
-removed member reference orders = filter (λ (o : Order). not (is_named member reference o)) orders
-
--- no order of the member is left
-abbrev pub without_member : ℕ → List Order → List Order
-without_member member orders = filter (λ (o : Order). not (o.member == member)) orders
-
 -- the references of a member's orders, in time order
 abbrev pub references_of : ℕ → List Order → List ℕ
 references_of member orders = map (λ (o : Order). o.reference) (filter (λ (o : Order). o.member == member) orders)

@@ -5,26 +5,25 @@ ghost use Rattle.std.specs.Option.{option_map};
 ghost use Rattle.std.specs.Vec.{vec_capacity};
 ghost use Rattle.indexmap.specs.IndexMap.{spare};
 ghost use Rattle.slab.specs.Slab.{get};
-ghost use Rattle.xm_book.specs.Layout.{is_before, is_of_another, unless_of};
+ghost use Rattle.xm_book.specs.Layout.{is_earlier, is_of_another, unless_of};
 ghost use Rattle.xm_book.specs.Places.{SamePlaces, place_of};
 ghost use Rattle.xm_book.specs.Queues.{best_order, next_order};
 ghost use Rattle.xm_book.specs.Ranks.{rank_of};
-ghost use Rattle.xm_book.specs.TimeList.{IsBook, Reserves, is_known, is_reserved, references_of, removed, without_member};
+ghost use Rattle.xm_book.specs.TimeList.{IsBook, Reserves, is_known, is_reserved, references_of};
 ghost use Rattle.xm_rules.specs.Active.{active, limits};
 ghost use Rattle.xm_rules.specs.Commands.{is_in_range};
-ghost use Rattle.xm_rules.specs.Orders.{is_named, limit_of, with_rest};
+ghost use Rattle.xm_rules.specs.Orders.{is_named, removed, with_rest, without_member};
 ghost use Rattle.xm_rules.specs.Sides.{best};
 
-use crate::activity::is_active;
 use crate::places::{Place, Places};
 use crate::queue::{Queue, Rank};
 use crate::queues::Queues;
 use indexmap::IndexMap;
 use slab::Slab;
-use std::alloc::{AllocError, Allocator};
+use std::alloc::Allocator;
 use std::hash::{BuildHasherDefault, FoldHasher};
 use std::marker::Model;
-use xm_rules::{Order, OrderKind, OutOfMemory, Phase, Side};
+use xm_rules::{Order, OutOfMemory, Phase, Side};
 use xm_ticks::Price;
 
 /// An order with the number of its add.
@@ -62,17 +61,17 @@ pub struct Book<A: Allocator> {
 impl<A: Allocator> Model for Book<A> {
     ghost use Rattle.std.specs.Prelude.{map};
     ghost use Rattle.xm_book.specs.Layout.{IsLaidOut, listing};
-    ghost use Rattle.xm_book.specs.Ranks.{order_of};
+    ghost use Rattle.xm_book.specs.Ranks.{listed_order};
     ghost use Rattle.xm_book.specs.TimeList.{TimeList};
 
     ghost Value = { TimeList };
 
-    ghost view = { λ b. record { orders = map order_of (listing b.entries b.stamps.items); reserved = b.places; adds = b.adds } };
+    ghost view = { λ b. record { orders = map listed_order (listing b.entries b.stamps.items); reserved = b.places; adds = b.adds } };
 
     ghost invariant = { λ b. IsLaidOut (listing b.entries b.stamps.items) b.places b.entries b.stamps b.queues b.names b.adds };
 }
 
-// The order that lies under a key.
+/// The order that lies under a key.
 fn order_at<A: Allocator>(entries: &Slab<Entry, A>, key: usize) -> Option<&Order>
     ensures { option_copied result ≡ option_map (λ e. e.order) (get entries.now key) }
 {
@@ -82,7 +81,7 @@ fn order_at<A: Allocator>(entries: &Slab<Entry, A>, key: usize) -> Option<&Order
     }
 }
 
-// Where the order of an entry stands in its queue.
+/// Where the order of an entry stands in its queue.
 fn rank_at(key: usize, entry: &Entry) -> Rank
     ensures { result ≡ rank_of (record { key = key; time = entry.now.time; order = entry.now.order }) }
 {
@@ -94,16 +93,16 @@ fn rank_at(key: usize, entry: &Entry) -> Rank
     }
 }
 
-// The first stamp that is not before a time.
+/// The first stamp that is not before a time.
 fn first_from(stamps: &[Stamp], time: u64) -> usize
-    requires { IsPartitionedBy (is_before time) stamps.now }
+    requires { IsPartitionedBy (is_earlier time) stamps.now }
     ensures within { result ≤ length stamps.now }
-    ensures first { IsPartitionPoint (λ s. is_before time s ≡ true) (λ s. is_before time s ≡ false) stamps.now result }
+    ensures first { IsPartitionPoint (λ s. is_earlier time s ≡ true) (λ s. is_earlier time s ≡ false) stamps.now result }
 {
     stamps.partition_point(|stamp| stamp.time < time)
 }
 
-// Whether the order of another member lies under a key.
+/// Whether the order of another member lies under a key.
 fn is_of_another<A: Allocator>(entries: &Slab<Entry, A>, key: usize, member: u32) -> bool
     ensures { result ≡ is_of_another member entries.now key }
 {
@@ -113,7 +112,7 @@ fn is_of_another<A: Allocator>(entries: &Slab<Entry, A>, key: usize, member: u32
     }
 }
 
-// Keeps the stamps of the orders of other members.
+/// Keeps the stamps of the orders of other members.
 fn retain_stamps<A: Allocator>(stamps: &mut Vec<Stamp, A>, entries: &Slab<Entry, A>, member: u32)
     ensures items { stamps.new.items ≡ filter (λ s. is_of_another member entries.now s.key) stamps.old.items }
     ensures len { vec_len stamps.new ≤ vec_len stamps.old }
@@ -122,14 +121,14 @@ fn retain_stamps<A: Allocator>(stamps: &mut Vec<Stamp, A>, entries: &Slab<Entry,
     stamps.retain(|stamp| is_of_another(entries, stamp.key, member));
 }
 
-// Keeps the ranks of the orders of other members.
+/// Keeps the ranks of the orders of other members.
 fn retain_ranks<A: Allocator>(queue: &mut Queue<A>, entries: &Slab<Entry, A>, member: u32)
     ensures { queue.new ≡ record queue.old { ranks = filter (λ r. is_of_another member entries.now r.key) queue.old.ranks } }
 {
     queue.retain(|rank| is_of_another(entries, rank.key, member));
 }
 
-// Keeps the names of the orders of other members.
+/// Keeps the names of the orders of other members.
 fn retain_names<A: Allocator>(names: &mut Names<A>, member: u32)
     ensures entries { names.new.entries ≡ filter (λ e. not (e.0.0 == member)) names.old.entries }
     ensures room { spare names.old ≤ spare names.new }
@@ -137,22 +136,12 @@ fn retain_names<A: Allocator>(names: &mut Names<A>, member: u32)
     names.retain(|name, _key| name.0 != member);
 }
 
-// Keeps the entries of the orders of other members.
+/// Keeps the entries of the orders of other members.
 fn retain_entries<A: Allocator>(entries: &mut Slab<Entry, A>, member: u32)
     ensures slots { entries.new.slots ≡ map (unless_of member) entries.old.slots }
     ensures capacity { entries.new.capacity ≡ entries.old.capacity }
 {
     entries.retain(|_key, entry| entry.order.member != member);
-}
-
-// The limit of an order, where it has one.
-fn limit(kind: OrderKind) -> Option<Price>
-    ensures { result ≡ limit_of kind }
-{
-    match kind {
-        OrderKind::Market => None,
-        OrderKind::Limit(price) => Some(price),
-    }
 }
 
 impl<A: Allocator + Copy> Book<A> {
@@ -217,15 +206,6 @@ impl<A: Allocator> Book<A> {
         ensures ok { OnOk result (Reserves place.now self.old self.new) }
         ensures err { OnErr result (self.new ≡ self.old) }
     {
-        self.grow_for(place).map_err(|_| OutOfMemory)
-    }
-
-    // Stands by itself because its errors are the allocator's, so that `?` carries them.
-    fn grow_for(&mut self, place: &Place) -> Result<(), AllocError>
-        requires { length self.old.orders + length self.old.reserved < 2000000 }
-        ensures ok { OnOk result (Reserves place.now self.old self.new) }
-        ensures err { OnErr result (self.new ≡ self.old) }
-    {
         let more = self.places.len() + 1;
         self.entries.reserve(more)?;
         self.stamps.reserve(more)?;
@@ -233,7 +213,7 @@ impl<A: Allocator> Book<A> {
         self.queues.of_mut(place.side).reserve()?;
         if let Err(error) = self.places.add(place) {
             self.queues.of_mut(place.side).release();
-            return Err(error);
+            return Err(error.into());
         }
         Ok(())
     }
@@ -344,7 +324,7 @@ impl<A: Allocator> Book<A> {
     {
         let key = *self.names.get(&(order.member, order.reference))?;
         let entry = self.entries.get(key)?;
-        if entry.order.side != side || !is_active(phase, entry.order.restriction) {
+        if entry.order.side != side || !entry.order.restriction.is_active(phase) {
             return None;
         }
         let next = self.queues.of(side).next(phase, &rank_at(key, entry))?;
@@ -356,6 +336,6 @@ impl<A: Allocator> Book<A> {
         ensures { result ≡ best side (limits (active phase side self.now.orders)) }
     {
         let rank = self.queues.of(side).first_limit(phase)?;
-        limit(rank.kind)
+        rank.kind.limit()
     }
 }

@@ -1,7 +1,6 @@
 //! The book of one security: its orders in time order, found by name and by priority.
 #![tactic(auto)]
 
-mod activity;
 mod book;
 mod places;
 mod queue;

@@ -5,9 +5,7 @@ ghost use Rattle.std.specs.List.{list_any};
 ghost use Rattle.std.specs.List.Retain.{IsFiltered};
 ghost use Rattle.xm_book.specs.Ranks.{active_ranks, first_active, first_limit, first_rank, has_time, insert_rank, is_rank_ahead, next_active, precedes, restriction_number};
 ghost use Rattle.xm_book.specs.Sorted.{CutsAt, IsFirstOf, ahead_of_two, is_before, is_behind, stands_in};
-ghost use Rattle.xm_rules.specs.Priority.{is_better};
 
-use crate::activity::is_active;
 use std::alloc::{AllocError, Allocator};
 use std::marker::Model;
 use xm_rules::{OrderKind, Phase, Restriction, Side};
@@ -43,28 +41,12 @@ fn restriction_number(restriction: Restriction) -> u8
     }
 }
 
-/// Whether an order of one kind is ahead of one of another, whatever their times.
-fn is_better(side: Side, kind: OrderKind, other: OrderKind) -> bool
-    ensures { result ≡ is_better side kind other }
-{
-    match kind {
-        OrderKind::Market => matches!(other, OrderKind::Limit(_)),
-        OrderKind::Limit(limit) => match other {
-            OrderKind::Market => false,
-            OrderKind::Limit(other_limit) => match side {
-                Side::Buy => other_limit < limit,
-                Side::Sell => limit < other_limit,
-            },
-        },
-    }
-}
-
 /// Whether a rank is ahead of another in priority and time.
 fn is_ahead(side: Side, rank: &Rank, other: &Rank) -> bool
     ensures { result ≡ is_rank_ahead side rank.now other.now }
 {
-    is_better(side, rank.kind, other.kind)
-        || !is_better(side, other.kind, rank.kind) && rank.time < other.time
+    rank.kind.is_better(side, other.kind)
+        || !other.kind.is_better(side, rank.kind) && rank.time < other.time
 }
 
 /// Whether a rank stands before another in the queue.
@@ -251,7 +233,7 @@ impl<A: Allocator> Queue<A> {
     fn first_of(&self, phase: Phase, restriction: Restriction, bound: &Behind) -> Option<Rank>
         ensures { IsFirstOf self.now.side (stands_in phase self.now.side restriction bound.now) self.now.ranks result }
     {
-        if !is_active(phase, restriction) {
+        if !restriction.is_active(phase) {
             return None;
         }
         let place = self.place_behind(restriction, bound);

@@ -2,14 +2,14 @@
 use Rattle.std.proofs.Common.{◌≡◌, ℕ, Bool, true, false, ◌&&◌, ◌||◌, not, refl, arith}
 use Rattle.std.specs.Prelude.{nat_le, nat_lt}
 use Rattle.std.proofs.lemmas.Bool.Decides.{nat_tests}
-use Rattle.xm_rules.specs.Active.{Placed}
+use Rattle.xm_rules.specs.Active.{Positioned}
 use Rattle.xm_rules.specs.Priority.{is_better, is_ahead}
 use Rattle.xm_rules.specs.declared.orders.OrderKind.{OrderKind}
 use Rattle.xm_rules.specs.declared.orders.OrderKind.TheVariants.{Market, Limit}
 use Rattle.xm_rules.specs.declared.orders.Side.{Side}
 use Rattle.xm_rules.specs.declared.orders.Side.TheVariants.{Buy, Sell}
 
--- ahead by kind and place
+-- ahead by kind and position
 abbrev pub precedes : Side → OrderKind → ℕ → OrderKind → ℕ → Bool
 precedes side k m l n = is_better side k l || (not (is_better side l k) && nat_lt m n)
 
@@ -62,20 +62,20 @@ precedes_on Buy (Limit p) m (Limit q) n (Limit r) o h i = limits_on p q r m n o 
 precedes_on Sell (Limit p) m (Limit q) n (Limit r) o h i = limits_on_sells p q r m n o h i
 
 -- two orders of a side are never ahead of each other
-pub ahead_once : (side : Side) (i j : Placed) → (is_ahead side i j && is_ahead side j i) ≡ false
-ahead_once side i j = precedes_once side i.order.kind i.place j.order.kind j.place
+pub ahead_once : (side : Side) (i j : Positioned) → (is_ahead side i j && is_ahead side j i) ≡ false
+ahead_once side i j = precedes_once side i.order.kind i.position j.order.kind j.position
 
 not_twice : (b : Bool) → (b && b) ≡ false → b ≡ false
 not_twice true e = e
 not_twice false e = refl
 
-pub not_ahead_of_itself : (side : Side) (i : Placed) → is_ahead side i i ≡ false
+pub not_ahead_of_itself : (side : Side) (i : Positioned) → is_ahead side i i ≡ false
 not_ahead_of_itself side i = not_twice (is_ahead side i i) (ahead_once side i i)
 
 -- of two at different places one is ahead
-pub ahead_one : (side : Side) (i j : Placed) → (i.place ≡ j.place → ⊥) → (is_ahead side i j || is_ahead side j i) ≡ true
-ahead_one side i j d = precedes_one side i.order.kind i.place j.order.kind j.place d
+pub ahead_one : (side : Side) (i j : Positioned) → (i.position ≡ j.position → ⊥) → (is_ahead side i j || is_ahead side j i) ≡ true
+ahead_one side i j d = precedes_one side i.order.kind i.position j.order.kind j.position d
 
 -- what is ahead of one that is ahead is ahead
-pub ahead_on : (side : Side) (i j k : Placed) → is_ahead side i j ≡ true → is_ahead side j k ≡ true → is_ahead side i k ≡ true
-ahead_on side i j k h l = precedes_on side i.order.kind i.place j.order.kind j.place k.order.kind k.place h l
+pub ahead_on : (side : Side) (i j k : Positioned) → is_ahead side i j ≡ true → is_ahead side j k ≡ true → is_ahead side i k ≡ true
+ahead_on side i j k h l = precedes_on side i.order.kind i.position j.order.kind j.position k.order.kind k.position h l

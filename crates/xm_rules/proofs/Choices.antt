@@ -18,9 +18,9 @@ pub record Ranks (t : ℕ → ℕ → Bool) : Type 0 where
 -- one of a list that is as good as each of another
 pub record Best (t : ℕ → ℕ → Bool) (xs ys : List ℕ) : Type 0 where
   pub chosen : ℕ
-  pub place : ℕ
-  pub below : place < length xs
-  pub here : get_or xs place chosen ≡ chosen
+  pub position : ℕ
+  pub below : position < length xs
+  pub here : get_or xs position chosen ≡ chosen
   pub beats : list_all (t chosen) ys ≡ true
 
 all_on : (t : ℕ → ℕ → Bool) → Ranks t → (x y : ℕ) (zs : List ℕ) → t x y ≡ true → list_all (t y) zs ≡ true → list_all (t x) zs ≡ true
@@ -36,14 +36,14 @@ itself t x (inr e) = e
 best_of_two : (t : ℕ → ℕ → Bool) → Ranks t → (x : ℕ) (ys : List ℕ) (b : Best t ys ys) → (t x b.chosen ≡ true) ⊎ (t b.chosen x ≡ true) → Best t (x ∷ ys) (x ∷ ys)
 best_of_two t r x ys b (inl e) = record {
   chosen = x;
-  place = 0;
+  position = 0;
   below = omega arith;
   here = refl;
   beats = and_from (t x x) (list_all (t x) ys) (itself t x (r.one x x)) (all_on t r x b.chosen ys e b.beats);
 }
 best_of_two t r x ys b (inr e) = record {
   chosen = b.chosen;
-  place = suc b.place;
+  position = suc b.position;
   below = let h = b.below in omega arith;
   here = b.here;
   beats = and_from (t b.chosen x) (list_all (t b.chosen) ys) e b.beats;
@@ -52,7 +52,7 @@ best_of_two t r x ys b (inr e) = record {
 pub best_of : (t : ℕ → ℕ → Bool) → Ranks t → (x : ℕ) (xs : List ℕ) → Best t (x ∷ xs) (x ∷ xs)
 best_of t r x [] = record {
   chosen = x;
-  place = 0;
+  position = 0;
   below = omega arith;
   here = refl;
   beats = and_from (t x x) true (itself t x (r.one x x)) refl;
@@ -94,13 +94,13 @@ pub greatest_exists : (f : ℕ → ℕ) (xs : List ℕ) → 0 < length xs → 0 
 greatest_exists f [] h = absurd (omega arith)
 greatest_exists f (x ∷ xs) h =
     let b = best_of (λ x y. nat_le (f y) (f x)) (ranks_up f) x xs in
-    filter_has (λ z. list_all (λ y. nat_le (f y) (f z)) (x ∷ xs)) (x ∷ xs) b.chosen b.place b.below b.here b.beats
+    filter_has (λ z. list_all (λ y. nat_le (f y) (f z)) (x ∷ xs)) (x ∷ xs) b.chosen b.position b.below b.here b.beats
 
 pub least_exists : (f : ℕ → ℕ) (xs : List ℕ) → 0 < length xs → 0 < length (where_least f xs)
 least_exists f [] h = absurd (omega arith)
 least_exists f (x ∷ xs) h =
     let b = best_of (λ x y. nat_le (f x) (f y)) (ranks_down f) x xs in
-    filter_has (λ z. list_all (λ y. nat_le (f z) (f y)) (x ∷ xs)) (x ∷ xs) b.chosen b.place b.below b.here b.beats
+    filter_has (λ z. list_all (λ y. nat_le (f z) (f y)) (x ∷ xs)) (x ∷ xs) b.chosen b.position b.below b.here b.beats
 
 module _ (P : ℕ → Type 0) where
   either : (b : Bool) (x y : ℕ) → P x → P y → P (if b then x else y)

@@ -5,7 +5,7 @@ use Rattle.std.specs.Prelude.{nat_le}
 use Rattle.std.proofs.lemmas.Bool.Decides.{nat_tests}
 use Rattle.std.proofs.lemmas.List.Elements.{All-nil, All-cons, All-weaker, All-contains, Contains-append_left, Contains-append_right, filter_map-append}
 use Rattle.std.proofs.lemmas.List.Sums.{sum_by-le-sum_by, AllPass-from_list_all}
-use Rattle.xm_rules.specs.Active.{Placed, active, limits}
+use Rattle.xm_rules.specs.Active.{Positioned, active, limits}
 use Rattle.xm_rules.specs.Auction.{accepting, volume, candidates}
 use Rattle.xm_rules.specs.Orders.{accepts, limit_of}
 use Rattle.xm_rules.specs.declared.orders.Order.{Order}
@@ -34,12 +34,12 @@ sells_rise (Limit p) x y l e = le_up p x y e l
 
 pub demand_falls : (phase : Phase) (orders : List Order) (x y : ℕ) → x ≤ y → accepting phase orders Buy y ≤ accepting phase orders Buy x
 demand_falls phase orders x y l =
-    sum_by-le-sum_by (λ (i : Placed). if accepts Buy i.order.kind y then units i else 0) (λ (i : Placed). if accepts Buy i.order.kind x then units i else 0) (active phase Buy orders)
+    sum_by-le-sum_by (λ (i : Positioned). if accepts Buy i.order.kind y then units i else 0) (λ (i : Positioned). if accepts Buy i.order.kind x then units i else 0) (active phase Buy orders)
     (λ i. if_le (accepts Buy i.order.kind y) (accepts Buy i.order.kind x) (units i) (buys_fall i.order.kind x y l))
 
 pub supply_rises : (phase : Phase) (orders : List Order) (x y : ℕ) → x ≤ y → accepting phase orders Sell x ≤ accepting phase orders Sell y
 supply_rises phase orders x y l =
-    sum_by-le-sum_by (λ (i : Placed). if accepts Sell i.order.kind x then units i else 0) (λ (i : Placed). if accepts Sell i.order.kind y then units i else 0) (active phase Sell orders)
+    sum_by-le-sum_by (λ (i : Positioned). if accepts Sell i.order.kind x then units i else 0) (λ (i : Positioned). if accepts Sell i.order.kind y then units i else 0) (active phase Sell orders)
     (λ i. if_le (accepts Sell i.order.kind x) (accepts Sell i.order.kind y) (units i) (sells_rise i.order.kind x y l))
 
 -- between two prices the volume is no less than the lesser of theirs
@@ -48,7 +48,7 @@ volume_between phase orders n low high x l m below above =
     omega (arith, demand_falls phase orders x high (omega arith), supply_rises phase orders low x (omega arith))
 
 -- the limit of an order, where it has one, is in a list
-abbrev pub HasLimit : List ℕ → Placed → Type 0
+abbrev pub HasLimit : List ℕ → Positioned → Type 0
 HasLimit ps i = (p : ℕ) → limit_of i.order.kind ≡ Some p → Contains ps p
 
 contains_first : (o : Option ℕ) (p : ℕ) (ps : List ℕ) → o ≡ Some p → Contains (cons_option o ps) p
@@ -59,14 +59,14 @@ contains_later : (o : Option ℕ) (p : ℕ) (ps : List ℕ) → Contains ps p �
 contains_later None p ps at = at
 contains_later (Some q) p ps at = (suc at.0, (let l = at.1 in omega arith), at.2)
 
-limits_have : (queue : List Placed) → All (HasLimit (limits queue)) queue
+limits_have : (queue : List Positioned) → All (HasLimit (limits queue)) queue
 limits_have [] = λ k d l. absurd (omega arith)
 limits_have (i ∷ is) =
     All-cons (HasLimit (limits (i ∷ is))) i is (λ p e. contains_first (limit_of i.order.kind) p (limits is) e)
     (All-weaker (HasLimit (limits is)) (HasLimit (limits (i ∷ is))) (λ x h p e. contains_later (limit_of i.order.kind) p (limits is) (h p e)) is (limits_have is))
 
 candidates_are : (phase : Phase) (orders : List Order) → candidates phase orders ≡ limits (active phase Buy orders) ++ limits (active phase Sell orders)
-candidates_are phase orders = filter_map-append (λ (i : Placed). limit_of i.order.kind) (active phase Buy orders) (active phase Sell orders)
+candidates_are phase orders = filter_map-append (λ (i : Positioned). limit_of i.order.kind) (active phase Buy orders) (active phase Sell orders)
 
 -- each limit of an active order is a candidate
 candidates_have : (phase : Phase) (orders : List Order) (side : Side) → All (HasLimit (candidates phase orders)) (active phase side orders)
@@ -99,8 +99,8 @@ nearest_accepted Sell (Limit p) x c near e = sells_keep x c p (near p refl) e
 accepting_grows : (phase : Phase) (orders : List Order) (side : Side) (x c : ℕ) → All (λ p. nat_le (distance x c) (distance x p) ≡ true) (candidates phase orders)
     → accepting phase orders side x ≤ accepting phase orders side c
 accepting_grows phase orders side x c near =
-    sum-le (λ (i : Placed). if accepts side i.order.kind x then units i else 0) (λ (i : Placed). if accepts side i.order.kind c then units i else 0) (active phase side orders)
-    (All-weaker (HasLimit (candidates phase orders)) (λ (i : Placed). (if accepts side i.order.kind x then units i else 0) ≤ (if accepts side i.order.kind c then units i else 0))
+    sum-le (λ (i : Positioned). if accepts side i.order.kind x then units i else 0) (λ (i : Positioned). if accepts side i.order.kind c then units i else 0) (active phase side orders)
+    (All-weaker (HasLimit (candidates phase orders)) (λ (i : Positioned). (if accepts side i.order.kind x then units i else 0) ≤ (if accepts side i.order.kind c then units i else 0))
     (λ i h. if_le (accepts side i.order.kind x) (accepts side i.order.kind c) (units i)
     (nearest_accepted side i.order.kind x c (λ p e. All-contains (λ q. nat_le (distance x c) (distance x q) ≡ true) (candidates phase orders) p near (h p e))))
     (active phase side orders) (candidates_have phase orders side))
@@ -115,7 +115,7 @@ volume_anywhere phase orders n c cs e all x =
     let b = best_of t (ranks_down (distance x)) c cs in
     let near : All (λ p. nat_le (distance x b.chosen) (distance x p) ≡ true) (candidates phase orders) =
     subst (λ (ps : List ℕ). All (λ p. nat_le (distance x b.chosen) (distance x p) ≡ true) ps) (sym e) (AllPass-from_list_all (t b.chosen) (c ∷ cs) b.beats) in
-    let here : volume phase orders b.chosen ≤ n = All-contains (λ y. volume phase orders y ≤ n) (c ∷ cs) b.chosen all (b.place, b.below, b.here) in
+    let here : volume phase orders b.chosen ≤ n = All-contains (λ y. volume phase orders y ≤ n) (c ∷ cs) b.chosen all (b.position, b.below, b.here) in
     omega (arith, volume_grows phase orders x b.chosen near)
 
 -- where there is no candidate, all prices have the same volume

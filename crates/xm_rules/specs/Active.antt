@@ -20,22 +20,23 @@ is_active (Call Closing stage) ClosingOnly = true
 is_active Continuous Free = true
 is_active _ _ = false
 
--- an order with its place in the time list
-pub record Placed : Type 0 where
-  pub place : ℕ
+-- an order with its position in the time list, counted from 0
+pub record Positioned : Type 0 where
+  pub position : ℕ
   pub order : Order
 
-abbrev pub placed_from : ℕ → List Order → List Placed
-placed_from place [] = []
-placed_from place (o ∷ os) = record { place = place; order = o } ∷ placed_from (place + 1) os
+abbrev pub positioned_from : ℕ → List Order → List Positioned
+positioned_from position [] = []
+positioned_from position (o ∷ os) = record { position = position; order = o } ∷ positioned_from (position + 1) os
 
-abbrev pub stands : Phase → Side → Placed → Bool
-stands phase side i = is_active phase i.order.restriction && same_side side i.order.side
+-- an order of this side that is active in the phase
+abbrev pub is_active_on : Phase → Side → Positioned → Bool
+is_active_on phase side i = is_active phase i.order.restriction && same_side side i.order.side
 
 -- the active orders of a side, in time order
-abbrev pub active : Phase → Side → List Order → List Placed
-active phase side orders = filter (stands phase side) (placed_from 0 orders)
+abbrev pub active : Phase → Side → List Order → List Positioned
+active phase side orders = filter (is_active_on phase side) (positioned_from 0 orders)
 
 -- the limits of those that have one
-abbrev pub limits : List Placed → List ℕ
-limits queue = filter_map (λ (i : Placed). limit_of i.order.kind) queue
+abbrev pub limits : List Positioned → List ℕ
+limits queue = filter_map (λ (i : Positioned). limit_of i.order.kind) queue

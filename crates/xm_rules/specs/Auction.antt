@@ -1,7 +1,7 @@
 -- The price of a call.
 use Rattle.std.specs.Prelude.{ℕ, ◌+◌, ◌-◌, ◌==◌, if◌then◌else◌, nat_lt, nat_le, min, List, [], ◌∷◌, ◌++◌, filter, sum_by, Option, Some, None, unwrap_or}
 use Rattle.std.specs.List.{list_all}
-use Rattle.xm_rules.specs.Active.{Placed, active, limits}
+use Rattle.xm_rules.specs.Active.{Positioned, active, limits}
 use Rattle.xm_rules.specs.Orders.{accepts}
 use Rattle.xm_rules.specs.Sides.{best, opposite}
 use Rattle.xm_rules.specs.declared.orders.Order.{Order}
@@ -11,7 +11,7 @@ use Rattle.xm_rules.specs.declared.phases.Phase.{Phase}
 
 -- the units of a side's active orders that accept a price: of buys the demand, of sells the supply
 abbrev pub accepting : Phase → List Order → Side → ℕ → ℕ
-accepting phase orders side x = sum_by (λ (i : Placed). if accepts side i.order.kind x then i.order.rest else 0) (active phase side orders)
+accepting phase orders side x = sum_by (λ (i : Positioned). if accepts side i.order.kind x then i.order.rest else 0) (active phase side orders)
 
 -- the units that can be executed at a price
 abbrev pub volume : Phase → List Order → ℕ → ℕ
@@ -45,33 +45,33 @@ lowest xs = unwrap_or (best Sell xs) 0
 abbrev pub best_candidates : Phase → List Order → List ℕ
 best_candidates phase orders = where_least (absolute_surplus phase orders) (where_greatest (volume phase orders) (candidates phase orders))
 
--- the reference price, kept between two prices
+-- the last price, kept between two prices
 abbrev pub kept_between : ℕ → ℕ → ℕ → ℕ
-kept_between low high reference = if nat_le reference low then low else (if nat_le high reference then high else reference)
+kept_between low high last = if nat_le last low then low else (if nat_le high last then high else last)
 
 -- the price among the best candidates, of which the second list has a surplus of buys and the third one of sells:
--- where only one side has a surplus, the highest or the lowest; else the reference, kept between the lowest and the
+-- where only one side has a surplus, the highest or the lowest; else the last price, kept between the lowest and the
 -- highest where there is no surplus, and between the highest of the buys' and the lowest of the sells' where there are both
 abbrev pub price_among : ℕ → List ℕ → List ℕ → List ℕ → ℕ
-price_among reference xs [] [] = kept_between (lowest xs) (highest xs) reference
-price_among reference xs (b ∷ bs) [] = highest xs
-price_among reference xs [] (s ∷ ss) = lowest xs
-price_among reference xs (b ∷ bs) (s ∷ ss) = kept_between (highest (b ∷ bs)) (lowest (s ∷ ss)) reference
+price_among last xs [] [] = kept_between (lowest xs) (highest xs) last
+price_among last xs (b ∷ bs) [] = highest xs
+price_among last xs [] (s ∷ ss) = lowest xs
+price_among last xs (b ∷ bs) (s ∷ ss) = kept_between (highest (b ∷ bs)) (lowest (s ∷ ss)) last
 
 abbrev pub chosen_price : Phase → List Order → ℕ → ℕ
-chosen_price phase orders reference =
+chosen_price phase orders last =
     let xs = best_candidates phase orders in
-    price_among reference xs (filter (λ x. nat_lt 0 (surplus phase orders Buy x)) xs) (filter (λ x. nat_lt 0 (surplus phase orders Sell x)) xs)
+    price_among last xs (filter (λ x. nat_lt 0 (surplus phase orders Buy x)) xs) (filter (λ x. nat_lt 0 (surplus phase orders Sell x)) xs)
 
 abbrev pub with_volume : Phase → List Order → ℕ → Option (ℕ × ℕ)
 with_volume phase orders price = Some (price, volume phase orders price)
 
--- where no order has a limit, the price is the reference; where nothing can be executed at it, or at any limit, there is none
+-- where no order has a limit, the price is the last price; where nothing can be executed at it, or at any limit, there is none
 abbrev pub price_from : Phase → List Order → ℕ → List ℕ → Option (ℕ × ℕ)
-price_from phase orders reference [] = if volume phase orders reference == 0 then None else with_volume phase orders reference
-price_from phase orders reference (c ∷ cs) =
-    if list_all (λ x. volume phase orders x == 0) (c ∷ cs) then None else with_volume phase orders (chosen_price phase orders reference)
+price_from phase orders last [] = if volume phase orders last == 0 then None else with_volume phase orders last
+price_from phase orders last (c ∷ cs) =
+    if list_all (λ x. volume phase orders x == 0) (c ∷ cs) then None else with_volume phase orders (chosen_price phase orders last)
 
--- the price and the volume of a call; the reference is the last price
+-- the price and the volume of a call, where there is a price
 abbrev pub auction_price : Phase → List Order → ℕ → Option (ℕ × ℕ)
-auction_price phase orders reference = price_from phase orders reference (candidates phase orders)
+auction_price phase orders last = price_from phase orders last (candidates phase orders)

@@ -7,6 +7,7 @@ use Rattle.xm_rules.specs.declared.commands.Condition.{Condition}
 use Rattle.xm_rules.specs.declared.commands.Condition.TheVariants.{Plain}
 use Rattle.xm_rules.specs.declared.commands.Kind.{Kind}
 use Rattle.xm_rules.specs.declared.commands.Kind.TheVariants as kind
+use Rattle.xm_rules.specs.declared.commands.TheConstants.{LARGEST_NUMBER}
 use Rattle.xm_rules.specs.declared.orders.OrderKind.{OrderKind}
 use Rattle.xm_rules.specs.declared.orders.OrderKind.TheVariants.{Market, Limit}
 use Rattle.xm_rules.specs.declared.orders.Restriction.{Restriction}
@@ -23,7 +24,7 @@ member_of _ = None
 
 -- 1 to 1,000,000, of units or of ticks
 abbrev pub is_in_range : ℕ → Bool
-is_in_range n = nat_le 1 n && nat_le n 1000000
+is_in_range n = nat_le 1 n && nat_le n LARGEST_NUMBER
 
 -- the trigger of a stop
 abbrev pub trigger_of : Kind → Option ℕ
@@ -56,7 +57,7 @@ outlasts today Day = false
 outlasts today (TillDate date) = nat_lt today date
 outlasts today TillCancelled = true
 
--- executed at once or not at all
+-- immediate-or-cancel, or fill-or-kill: of such an order nothing joins the book
 abbrev pub is_immediate : Condition → Bool
 is_immediate Plain = false
 is_immediate _ = true

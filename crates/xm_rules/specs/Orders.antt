@@ -1,5 +1,5 @@
 -- Orders: their names, their limits, and the trades between them.
-use Rattle.std.specs.Prelude.{ℕ, Bool, true, ◌&&◌, ◌==◌, if◌then◌else◌, List, map, Option, Some, None}
+use Rattle.std.specs.Prelude.{ℕ, Bool, true, ◌&&◌, ◌==◌, not, if◌then◌else◌, List, filter, map, Option, Some, None}
 use Rattle.xm_rules.specs.Sides.{reaches}
 use Rattle.xm_rules.specs.declared.orders.Order.{Order}
 use Rattle.xm_rules.specs.declared.orders.OrderKind.{OrderKind}
@@ -10,16 +10,30 @@ use Rattle.xm_rules.specs.declared.orders.Stop.{Stop}
 use Rattle.xm_rules.specs.declared.orders.Trade.{Trade}
 use Rattle.xm_rules.specs.declared.orders.TradeKind.{TradeKind}
 
--- an order or a stop is named by its member and the member's reference
+-- an order or a stop is named by its member and the member's own reference
 abbrev pub is_named : ℕ → ℕ → Order → Bool
 is_named member reference o = (o.member == member) && (o.reference == reference)
 
--- a time list in which the order of this name has another rest, and keeps its place
+abbrev pub is_stop_named : ℕ → ℕ → Stop → Bool
+is_stop_named member reference s = (s.member == member) && (s.reference == reference)
+
+-- a time list in which the order of this name has another rest, and keeps its position
 abbrev pub with_rest : ℕ → ℕ → ℕ → List Order → List Order
 with_rest member reference rest orders = map (λ (o : Order). if is_named member reference o then record o { rest = rest } else o) orders
 
-abbrev pub is_stop_named : ℕ → ℕ → Stop → Bool
-is_stop_named member reference s = (s.member == member) && (s.reference == reference)
+-- without the order, or the stop, of this name
+abbrev pub removed : ℕ → ℕ → List Order → List Order
+removed member reference orders = filter (λ (o : Order). not (is_named member reference o)) orders
+
+abbrev pub removed_stop : ℕ → ℕ → List Stop → List Stop
+removed_stop member reference stops = filter (λ (s : Stop). not (is_stop_named member reference s)) stops
+
+-- without the orders, or the stops, of a member
+abbrev pub without_member : ℕ → List Order → List Order
+without_member member orders = filter (λ (o : Order). not (o.member == member)) orders
+
+abbrev pub without_stops_of : ℕ → List Stop → List Stop
+without_stops_of member stops = filter (λ (s : Stop). not (s.member == member)) stops
 
 abbrev pub limit_of : OrderKind → Option ℕ
 limit_of Market = None

@@ -1,6 +1,6 @@
 -- Priority: which of two active orders of a side is ahead, and how many units are ahead of one.
 use Rattle.std.specs.Prelude.{ℕ, ◌-◌, Bool, true, false, ◌&&◌, ◌||◌, not, if◌then◌else◌, nat_le, nat_lt, List, [], ◌∷◌, filter, map, sum_by}
-use Rattle.xm_rules.specs.Active.{Placed, placed_from}
+use Rattle.xm_rules.specs.Active.{Positioned, positioned_from}
 use Rattle.xm_rules.specs.Sides.{reaches}
 use Rattle.xm_rules.specs.declared.orders.Order.{Order}
 use Rattle.xm_rules.specs.declared.orders.OrderKind.{OrderKind}
@@ -15,17 +15,17 @@ is_better side (Limit p) Market = false
 is_better side (Limit p) (Limit q) = not (reaches side q p)
 
 -- then the earlier in the time list
-abbrev pub is_ahead : Side → Placed → Placed → Bool
-is_ahead side i j = is_better side i.order.kind j.order.kind || (not (is_better side j.order.kind i.order.kind) && nat_lt i.place j.place)
+abbrev pub is_ahead : Side → Positioned → Positioned → Bool
+is_ahead side i j = is_better side i.order.kind j.order.kind || (not (is_better side j.order.kind i.order.kind) && nat_lt i.position j.position)
 
 -- the units that rest ahead of an order of a side
-abbrev pub before : Side → List Placed → Placed → ℕ
-before side queue j = sum_by (λ (i : Placed). if is_ahead side i j then i.order.rest else 0) queue
+abbrev pub before : Side → List Positioned → Positioned → ℕ
+before side queue j = sum_by (λ (i : Positioned). if is_ahead side i j then i.order.rest else 0) queue
 
 -- a time list after these units were taken from its orders; an order that has none left is gone
-abbrev pub less : (Placed → ℕ) → List Order → List Order
-less taken orders =
-    filter (λ (o : Order). nat_lt 0 o.rest) (map (λ (i : Placed). let o = i.order in record o { rest = o.rest - taken i }) (placed_from 0 orders))
+abbrev pub without_units : (Positioned → ℕ) → List Order → List Order
+without_units taken orders =
+    filter (λ (o : Order). nat_lt 0 o.rest) (map (λ (i : Positioned). let o = i.order in record o { rest = o.rest - taken i }) (positioned_from 0 orders))
 
 module _ {A : Type 0} where
   abbrev pub insert_in_order : ℕ × A → List (ℕ × A) → List (ℕ × A)

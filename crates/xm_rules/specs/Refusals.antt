@@ -6,6 +6,7 @@ use Rattle.xm_rules.specs.Orders.{is_named, is_stop_named}
 use Rattle.xm_rules.specs.Settling.{is_continuous}
 use Rattle.xm_rules.specs.Sides.{reaches}
 use Rattle.xm_rules.specs.State.{State, ref1}
+use Rattle.xm_rules.specs.declared.settings.TheConstants.{PHASE_COMMANDS_MORE}
 use Rattle.xm_rules.specs.declared.commands.Command.{Command}
 use Rattle.xm_rules.specs.declared.commands.Command.TheVariants.{Enter, Change, Cancel, CancelAll, StartOpening, StartIntraday, StartClosing, Uncross, EndDay}
 use Rattle.xm_rules.specs.declared.orders.Order.{Order}
@@ -75,9 +76,9 @@ is_allowed (phase.Call auction stage) Uncross = true
 is_allowed phase.PostTrading EndDay = true
 is_allowed _ _ = false
 
--- the journal takes commands of members up to its limit, and 64 commands of the phases more
+-- the journal takes commands of members up to its limit, and those of the phases up to 64 more
 abbrev pub entries_more : Option ℕ → ℕ
-entries_more None = 64
+entries_more None = PHASE_COMMANDS_MORE
 entries_more (Some member) = 0
 
 abbrev pub is_full : State → Option ℕ → Bool

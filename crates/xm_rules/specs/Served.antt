@@ -1,4 +1,4 @@
--- The commands that a desk serves today.
+-- The commands that a desk serves today, and what they leave as it is.
 use Rattle.std.specs.Prelude.{◌≡◌, Bool, true, false, ◌&&◌, not, []}
 use Rattle.xm_rules.specs.Commands.{is_stop, trigger_of}
 use Rattle.xm_rules.specs.Settling.{is_continuous}
@@ -16,8 +16,11 @@ is_served phase (CancelAll member) = true
 is_served phase StartOpening = true
 is_served phase _ = false
 
--- before trading: nothing was traded, no stop is held, and continuous trading hasn't begun
-pub record IsUntraded (s : State) : Type 0 where
-  pub trades : s.trades ≡ []
-  pub stops : s.stops ≡ []
-  pub before : is_continuous s.phase ≡ false
+abbrev pub HasNoTrades : State → Type 0
+HasNoTrades s = s.trades ≡ []
+
+abbrev pub HoldsNoStops : State → Type 0
+HoldsNoStops s = s.stops ≡ []
+
+abbrev pub IsOutsideContinuousTrading : State → Type 0
+IsOutsideContinuousTrading s = is_continuous s.phase ≡ false

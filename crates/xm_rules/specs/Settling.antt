@@ -2,7 +2,7 @@
 use Rattle.std.specs.Prelude.{ℕ, ◌+◌, ◌==◌, suc, zero, Bool, true, false, ◌&&◌, not, if◌then◌else◌, List, [], ◌∷◌, ◌++◌, length, filter}
 use Rattle.xm_rules.specs.Sides.{reaches}
 use Rattle.xm_rules.specs.State.{State, ref1, ranges}
-use Rattle.xm_rules.specs.Sweep.{Sweep, is_interrupted, rest_after, sweep_trades, orders_after}
+use Rattle.xm_rules.specs.Sweep.{Sweep, is_interrupted, rest_after, sweep_trades, orders_after_sweep}
 use Rattle.xm_rules.specs.declared.orders.Order.{Order}
 use Rattle.xm_rules.specs.declared.orders.Restriction.{Restriction}
 use Rattle.xm_rules.specs.declared.orders.Restriction.TheVariants.{Free}
@@ -29,7 +29,7 @@ swept s o =
     let w = sweep_of s o in
     record s {
       phase = if is_interrupted w then Call Interruption Interrupted else s.phase;
-      orders = orders_after w;
+      orders = orders_after_sweep w;
       trades = s.trades ++ sweep_trades (s.sweeps + 1) w;
       sweeps = s.sweeps + 1;
     }
@@ -47,7 +47,7 @@ come s o =
 
 -- the last price is at or above the trigger of a buy stop, at or below that of a sell stop
 abbrev pub is_reached : ℕ → Stop → Bool
-is_reached reference stop = reaches stop.side reference stop.trigger
+is_reached last stop = reaches stop.side last stop.trigger
 
 abbrev pub reached : State → List Stop
 reached s = filter (is_reached (ref1 s)) s.stops
@@ -57,14 +57,14 @@ abbrev pub released : State → State
 released s = record s { stops = filter (λ stop. not (is_reached (ref1 s) stop)) s.stops }
 
 -- the free order that a stop becomes
-abbrev pub order_of : Stop → Order
-order_of stop =
+abbrev pub order_of_stop : Stop → Order
+order_of_stop stop =
     record { member = stop.member; reference = stop.reference; side = stop.side; kind = stop.becomes; rest = stop.quantity; validity = stop.validity; restriction = Free }
 
 -- the first of the pending stops comes in, and what follows goes on from there
 abbrev pub take_pending : (State → List Stop → State) → State → List Stop → State
 take_pending more s [] = s
-take_pending more s (stop ∷ stops) = more (come s (order_of stop)) stops
+take_pending more s (stop ∷ stops) = more (come s (order_of_stop stop)) stops
 
 -- each turn takes one stop, so as many turns as there are stops, held and pending, suffice:
 -- the reached stops leave the held ones and go to the end of the pending ones; then the first of these comes in

@@ -12,7 +12,8 @@ same_side Buy Buy = true
 same_side Sell Sell = true
 same_side _ _ = false
 
--- the first price is as good for priority as the second: as high on the buy side, as low on the sell side
+-- a price is as high as another on the buy side, as low on the sell side: so a limit reaches a price that its order accepts, and the
+-- last price reaches the trigger of a stop
 abbrev pub reaches : Side → ℕ → ℕ → Bool
 reaches Buy p q = nat_le q p
 reaches Sell p q = nat_le p q

@@ -37,12 +37,17 @@ abbrev pub is_auction : TradeKind → Bool
 is_auction made.Continuous = false
 is_auction (made.Auction auction stage) = true
 
--- the price of the last trade, and that of the last auction trade; before the first, the last price of a previous day
+-- the price of the last auction trade of a list, or another price where there is none
+abbrev pub last_auction_price : ℕ → List Trade → ℕ
+last_auction_price price trades = last_price price (filter (λ (t : Trade). is_auction t.kind) trades)
+
+-- the reference prices: the price of the last trade, and that of the last auction trade; before the first, the opening reference,
+-- which is the last price of a previous day
 abbrev pub ref1 : State → ℕ
 ref1 s = last_price s.settings.reference s.trades
 
 abbrev pub ref2 : State → ℕ
-ref2 s = last_price s.settings.reference (filter (λ (t : Trade). is_auction t.kind) s.trades)
+ref2 s = last_auction_price s.settings.reference s.trades
 
 -- the reference prices of a moment, and the widths of the ranges around them
 pub record Ranges : Type 0 where

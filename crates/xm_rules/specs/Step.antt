@@ -1,9 +1,9 @@
 -- The step of a state by an accepted command, with its reply; lawful journals, and the replay of a journal.
-use Rattle.std.specs.Prelude.{ℕ, ◌+◌, ◌==◌, Bool, true, false, ◌&&◌, not, if◌then◌else◌, nat_le, List, [], ◌∷◌, ◌++◌, length, filter, map, drop, find, is_none, Option, Some, None}
-use Rattle.xm_rules.specs.Allotment.{Uncrossing, auction_trades, orders_after}
+use Rattle.std.specs.Prelude.{ℕ, ◌+◌, ◌==◌, Bool, true, false, ◌&&◌, if◌then◌else◌, nat_le, List, [], ◌∷◌, ◌++◌, length, filter, map, drop, find, is_none, Option, Some, None}
+use Rattle.xm_rules.specs.Allotment.{Uncrossing, auction_trades, orders_after_call}
 use Rattle.xm_rules.specs.Auction.{auction_price}
 use Rattle.xm_rules.specs.Commands.{order_kind, trigger_of, outlasts}
-use Rattle.xm_rules.specs.Orders.{is_named, is_stop_named, with_rest}
+use Rattle.xm_rules.specs.Orders.{is_named, removed, removed_stop, with_rest, without_member, without_stops_of}
 use Rattle.xm_rules.specs.Refusals.{refusal_of}
 use Rattle.xm_rules.specs.Settling.{come, swept, sweep_of, settle}
 use Rattle.xm_rules.specs.State.{State, opening, ref1, ranges, inside_both, inside_wide}
@@ -13,10 +13,14 @@ use Rattle.xm_rules.specs.declared.commands.Command.{Command}
 use Rattle.xm_rules.specs.declared.commands.Command.TheVariants.{Enter, Change, Cancel, CancelAll, StartOpening, StartIntraday, StartClosing, Uncross, EndDay}
 use Rattle.xm_rules.specs.declared.commands.Condition.{Condition}
 use Rattle.xm_rules.specs.declared.commands.Condition.TheVariants.{Plain, Ioc, Fok}
+use Rattle.xm_rules.specs.declared.commands.Kind.{Kind}
 use Rattle.xm_rules.specs.declared.orders.Order.{Order}
 use Rattle.xm_rules.specs.declared.orders.OrderKind.{OrderKind}
 use Rattle.xm_rules.specs.declared.orders.OrderKind.TheVariants.{Market, Limit}
+use Rattle.xm_rules.specs.declared.orders.Restriction.{Restriction}
+use Rattle.xm_rules.specs.declared.orders.Side.{Side}
 use Rattle.xm_rules.specs.declared.orders.Stop.{Stop}
+use Rattle.xm_rules.specs.declared.orders.Validity.{Validity}
 use Rattle.xm_rules.specs.declared.phases.Auction.{Auction}
 use Rattle.xm_rules.specs.declared.phases.Auction.TheVariants.{Opening, Intraday, Closing}
 use Rattle.xm_rules.specs.declared.phases.CallStage.{CallStage}
@@ -26,15 +30,17 @@ use Rattle.xm_rules.specs.declared.phases.Phase.TheVariants.{Call, Continuous, P
 use Rattle.xm_rules.specs.declared.replies.Reply.{Reply}
 use Rattle.xm_rules.specs.declared.settings.DeskSettings.{DeskSettings}
 
--- what is kept after a test of orders and one of stops
-abbrev pub kept : (Order → Bool) → (Stop → Bool) → State → State
-kept keeps_order keeps_stop s = record s { orders = filter keeps_order s.orders; stops = filter keeps_stop s.stops }
+-- an immediate-or-cancel order is swept, as the checks let it come only free and in continuous trading, and its rest is deleted;
+-- a fill-or-kill order comes in only where it can be executed whole
+abbrev pub come_under : Condition → State → Order → State
+come_under Plain s o = come s o
+come_under Ioc s o = swept s o
+come_under Fok s o = if is_fillable (sweep_of s o) then come s o else s
 
--- an immediate-or-cancel order's rest is deleted; a fill-or-kill order comes in only where it can be executed whole
-abbrev pub come_on : Condition → State → Order → State
-come_on Plain s o = come s o
-come_on Ioc s o = swept s o
-come_on Fok s o = if is_fillable (sweep_of s o) then come s o else s
+-- the order of an entry, or the one that its stop becomes
+abbrev pub entered_order : ℕ → ℕ → Side → Kind → ℕ → Validity → Restriction → Order
+entered_order member reference side kind quantity validity restriction =
+    record { member = member; reference = reference; side = side; kind = order_kind kind; rest = quantity; validity = validity; restriction = restriction }
 
 abbrev pub stop_of : ℕ → Order → Stop
 stop_of trigger o =
@@ -42,7 +48,7 @@ stop_of trigger o =
 
 -- a stop joins the held ones last; an order comes in on its condition
 abbrev pub entered : State → Condition → Option ℕ → Order → State
-entered s condition None o = come_on condition s o
+entered s condition None o = come_under condition s o
 entered s condition (Some trigger) o = record s { stops = s.stops ++ stop_of trigger o ∷ [] }
 
 abbrev pub same_limit : Option ℕ → OrderKind → Bool
@@ -54,16 +60,32 @@ abbrev pub changed_kind : Option ℕ → OrderKind → OrderKind
 changed_kind None kind = kind
 changed_kind (Some p) kind = Limit p
 
-abbrev pub without : State → ℕ → ℕ → State
-without s member reference = kept (λ o. not (is_named member reference o)) (λ stop. not (is_stop_named member reference stop)) s
+-- the order, or the stop, of this name is deleted
+abbrev pub cancelled : State → ℕ → ℕ → State
+cancelled s member reference = record s { orders = removed member reference s.orders; stops = removed_stop member reference s.stops }
 
--- with the same limit and no higher quantity an order keeps its place; else it leaves the list and comes in again
+-- all orders and stops of the member are
+abbrev pub all_cancelled : State → ℕ → State
+all_cancelled s member = record s { orders = without_member member s.orders; stops = without_stops_of member s.stops }
+
+-- with the same limit and no higher quantity a changed order keeps its position in the time list, and so its priority
+abbrev pub keeps_priority : ℕ → Option ℕ → Order → Bool
+keeps_priority quantity limit o = same_limit limit o.kind && nat_le quantity o.rest
+
+abbrev pub reduced : State → ℕ → Order → State
+reduced s quantity o = record s { orders = with_rest o.member o.reference quantity s.orders }
+
+-- else it leaves the list and comes in again, with its validity and its restriction
+abbrev pub changed_order : ℕ → Option ℕ → Order → Order
+changed_order quantity limit o = record o { kind = changed_kind limit o.kind; rest = quantity }
+
+abbrev pub replaced : State → Order → Order → State
+replaced s o again = come (cancelled s o.member o.reference) again
+
+-- an order takes a new quantity, and a new limit where one is given
 abbrev pub changed : State → ℕ → Option ℕ → Option Order → State
 changed s quantity limit None = s
-changed s quantity limit (Some o) =
-    if same_limit limit o.kind && nat_le quantity o.rest
-    then record s { orders = with_rest o.member o.reference quantity s.orders }
-    else come (without s o.member o.reference) (record o { kind = changed_kind limit o.kind; rest = quantity })
+changed s quantity limit (Some o) = if keeps_priority quantity limit o then reduced s quantity o else replaced s o (changed_order quantity limit o)
 
 -- after a call comes post-trading, if it was the closing call, and else continuous trading
 abbrev pub next_phase : Auction → Phase
@@ -73,10 +95,10 @@ next_phase _ = Continuous
 -- the trades of a price determination, which takes the next number
 abbrev pub traded : State → Uncrossing → State
 traded s u =
-    record s { phase = next_phase u.auction; orders = orders_after u; trades = s.trades ++ auction_trades (s.sweeps + 1) u; sweeps = s.sweeps + 1 }
+    record s { phase = next_phase u.auction; orders = orders_after_call u; trades = s.trades ++ auction_trades (s.sweeps + 1) u; sweeps = s.sweeps + 1 }
 
--- a potential price outside a range that its stage asks leads to the next stage: an ordinary call asks the dynamic and the
--- static range, an interrupted one the wide range, an extended one none
+-- a call without a price ends without a trade, whatever its stage; a price outside a range that its stage asks leads to the next
+-- stage: an ordinary call asks the dynamic and the static range, an interrupted one the wide range, an extended one none
 abbrev pub uncrossed_at : State → Auction → CallStage → Option (ℕ × ℕ) → State
 uncrossed_at s auction stage None = record s { phase = next_phase auction }
 uncrossed_at s auction stage (Some priced) = determined stage where
@@ -92,18 +114,24 @@ abbrev pub uncrossed : State → Phase → State
 uncrossed s (Call auction stage) = uncrossed_at s auction stage (auction_price (Call auction stage) s.orders (ref1 s))
 uncrossed s _ = s
 
+-- at the end of the day orders and stops are deleted that are not valid beyond it
+abbrev pub day_ended : State → State
+day_ended s =
+    let today = s.settings.today in
+    record s { phase = Ended; orders = filter (λ (o : Order). outlasts today o.validity) s.orders; stops = filter (λ (stop : Stop). outlasts today stop.validity) s.stops }
+
 -- what a command does, before the stops that it reached are settled
 abbrev pub act : State → Command → State
 act s (Enter member reference side kind quantity validity restriction condition) =
-    entered s condition (trigger_of kind) (record { member = member; reference = reference; side = side; kind = order_kind kind; rest = quantity; validity = validity; restriction = restriction })
+    entered s condition (trigger_of kind) (entered_order member reference side kind quantity validity restriction)
 act s (Change member reference quantity limit) = changed s quantity limit (find (is_named member reference) s.orders)
-act s (Cancel member reference) = without s member reference
-act s (CancelAll member) = kept (λ (o : Order). not (o.member == member)) (λ (stop : Stop). not (stop.member == member)) s
+act s (Cancel member reference) = cancelled s member reference
+act s (CancelAll member) = all_cancelled s member
 act s StartOpening = record s { phase = Call Opening Ordinary }
 act s StartIntraday = record s { phase = Call Intraday Ordinary }
 act s StartClosing = record s { phase = Call Closing Ordinary }
 act s Uncross = uncrossed s s.phase
-act s EndDay = kept (λ (o : Order). outlasts s.settings.today o.validity) (λ (stop : Stop). outlasts s.settings.today stop.validity) (record s { phase = Ended })
+act s EndDay = day_ended s
 
 -- the state after an accepted command
 unfoldable pub step : State → Command → State

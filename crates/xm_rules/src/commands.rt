@@ -1,10 +1,32 @@
 //! The commands of a trading day. Their numbers are raw: a refusal says which is out of range.
-ghost use Rattle.std.specs.Prelude.{◌≡◌};
-ghost use Rattle.xm_rules.specs.Commands.{is_stop, member_of, trigger_of};
+ghost use Rattle.std.specs.Prelude.{◌≡◌, IsTrue};
+ghost use Rattle.xm_rules.specs.Commands.{has_prices_in_range, is_bad_combination, is_immediate, is_in_range, is_stop, member_of, order_kind, trigger_of};
+ghost use Rattle.xm_rules.specs.Refusals.{is_allowed, is_given_in_range};
 ghost use Rattle.xm_rules.specs.Served.{is_served};
 
-use crate::orders::{Restriction, Side, Validity};
+use crate::orders::{OrderKind, Restriction, Side, Validity};
 use crate::phases::Phase;
+use xm_ticks::Price;
+
+/// The most units of a quantity, and the most ticks of a price.
+pub const LARGEST_NUMBER: u32 = 1_000_000;
+
+/// Whether a quantity in units, or a price in ticks, is in its range, which begins at 1.
+pub fn is_in_range(number: u32) -> bool
+    ensures { result ≡ is_in_range number }
+{
+    1 <= number && number <= LARGEST_NUMBER
+}
+
+/// Whether the limit that a change gives, if it gives one, is in range.
+pub fn is_given_in_range(limit: Option<u32>) -> bool
+    ensures { result ≡ is_given_in_range limit }
+{
+    match limit {
+        None => true,
+        Some(price) => is_in_range(price),
+    }
+}
 
 /// The kind of an order or a stop that is entered, with prices in ticks.
 #[derive(Clone, Copy, PartialEq, Eq, Hash, Debug)]
@@ -27,6 +49,40 @@ impl Kind {
             Kind::StopMarket(_) | Kind::StopLimit { .. } => true,
         }
     }
+
+    /// The trigger of a stop, in ticks.
+    pub fn trigger_of(self) -> Option<u32>
+        ensures { result ≡ trigger_of self }
+    {
+        match self {
+            Kind::Market | Kind::Limit(_) => None,
+            Kind::StopMarket(trigger) | Kind::StopLimit { trigger, limit: _ } => Some(trigger),
+        }
+    }
+
+    /// Whether each price that it gives is in range.
+    pub fn has_prices_in_range(self) -> bool
+        ensures { result ≡ has_prices_in_range self }
+    {
+        match self {
+            Kind::Market => true,
+            Kind::Limit(price) | Kind::StopMarket(price) => is_in_range(price),
+            Kind::StopLimit { trigger, limit } => is_in_range(trigger) && is_in_range(limit),
+        }
+    }
+
+    /// The kind of the order that is entered, or that a stop becomes. Its prices are in range.
+    pub fn order_kind(self) -> OrderKind
+        requires { IsTrue (has_prices_in_range self) }
+        ensures { result ≡ order_kind self }
+    {
+        match self {
+            Kind::Market | Kind::StopMarket(_) => OrderKind::Market,
+            Kind::Limit(limit) | Kind::StopLimit { trigger: _, limit } => {
+                OrderKind::Limit(Price::new(limit).unwrap())
+            }
+        }
+    }
 }
 
 /// What becomes of the part of an order that isn't executed at once.
@@ -38,6 +94,30 @@ pub enum Condition {
     Ioc,
     /// Fill or kill: the order is executed whole or not at all.
     Fok,
+}
+
+impl Condition {
+    /// Whether nothing of the order joins the book: immediate-or-cancel, or fill-or-kill.
+    pub fn is_immediate(self) -> bool
+        ensures { result ≡ is_immediate self }
+    {
+        match self {
+            Condition::Plain => false,
+            Condition::Ioc | Condition::Fok => true,
+        }
+    }
+
+    /// Whether an entry has more than one of an immediate condition, a trigger and a restriction.
+    pub fn is_bad_combination(self, kind: Kind, restriction: Restriction) -> bool
+        ensures { result ≡ is_bad_combination self kind restriction }
+    {
+        let restricted = !restriction.is_free();
+        if self.is_immediate() {
+            restricted || kind.is_stop()
+        } else {
+            kind.is_stop() && restricted
+        }
+    }
 }
 
 /// A command of a member or of the phases. Members are named by their index, quantities are in
@@ -102,14 +182,27 @@ impl Command {
         }
     }
 
+    /// Whether a command of the phases is allowed in this one. None of a member is.
+    pub fn is_allowed(&self, phase: Phase) -> bool
+        ensures { result ≡ is_allowed phase self.now }
+    {
+        match self {
+            Command::StartOpening => phase == Phase::PreTrading,
+            Command::StartIntraday | Command::StartClosing => phase.is_continuous(),
+            Command::Uncross => matches!(phase, Phase::Call(_, _)),
+            Command::EndDay => phase == Phase::PostTrading,
+            _ => false,
+        }
+    }
+
     /// Whether a desk serves the command in this phase. Today it serves orders, but no stops, and
     /// their changes outside continuous trading, cancellations, and the start of the opening call.
     pub fn is_served(&self, phase: Phase) -> bool
         ensures { result ≡ is_served phase self.now }
     {
         match self {
-            Command::Enter { kind, .. } => phase != Phase::Continuous && !kind.is_stop(),
-            Command::Change { .. } => phase != Phase::Continuous,
+            Command::Enter { kind, .. } => !phase.is_continuous() && !kind.is_stop(),
+            Command::Change { .. } => !phase.is_continuous(),
             Command::Cancel { .. } | Command::CancelAll { .. } | Command::StartOpening => true,
             _ => false,
         }

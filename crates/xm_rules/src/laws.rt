@@ -1,13 +1,13 @@
 //! Laws of the definitions, over all inputs. Each function promises one by its contract.
 ghost use Rattle.std.specs.Prelude.{◌≡◌, ◌≢◌, ◌≤◌, ◌+◌, ◌&&◌, ◌||◌, ◌++◌, ◌∷◌, ℕ, List, Option, Some, None, Contains, sum_by, true, false};
-ghost use Rattle.xm_rules.specs.Active.{Placed, active};
+ghost use Rattle.xm_rules.specs.Active.{Positioned, active};
 ghost use Rattle.xm_rules.specs.Allotment.{Uncrossing, side_queue, allotted, auction_trades};
 ghost use Rattle.xm_rules.specs.Auction.{auction_price, volume};
 ghost use Rattle.xm_rules.specs.Priority.{is_ahead};
 ghost use Rattle.xm_rules.specs.Refusals.{refusal_of};
 ghost use Rattle.xm_rules.specs.Step.{replay, is_lawful};
 ghost use Rattle.xm_rules.specs.Sums.{total_quantity};
-ghost use Rattle.xm_rules.specs.Sweep.{Sweep, filled, rest_after, sweep_trades, orders_after};
+ghost use Rattle.xm_rules.specs.Sweep.{Sweep, filled, rest_after, sweep_trades, orders_after_sweep};
 ghost use Rattle.xm_rules.specs.declared.commands.Command.{Command};
 ghost use Rattle.xm_rules.specs.declared.orders.Order.{Order};
 ghost use Rattle.xm_rules.specs.declared.orders.Side.{Side};
@@ -19,11 +19,11 @@ ghost use Rattle.xm_rules.specs.declared.settings.DeskSettings.{DeskSettings};
 /// Priority is a strict order of the active orders of a side: two are never ahead of each other, of two different ones one
 /// is ahead, and what is ahead of one that is ahead is ahead.
 pub fn priority_orders_the_active_orders()
-    ensures not_both { (side : Side) (i j : Placed) → (is_ahead side i j && is_ahead side j i) ≡ false }
-    ensures one { (phase : Phase) (side : Side) (orders : List Order) (i j : Placed)
+    ensures not_both { (side : Side) (i j : Positioned) → (is_ahead side i j && is_ahead side j i) ≡ false }
+    ensures one { (phase : Phase) (side : Side) (orders : List Order) (i j : Positioned)
         → Contains (active phase side orders) i → Contains (active phase side orders) j → i ≢ j
         → (is_ahead side i j || is_ahead side j i) ≡ true }
-    ensures in_turn { (side : Side) (i j k : Placed) → is_ahead side i j ≡ true → is_ahead side j k ≡ true → is_ahead side i k ≡ true }
+    ensures in_turn { (side : Side) (i j k : Positioned) → is_ahead side i j ≡ true → is_ahead side j k ≡ true → is_ahead side i k ≡ true }
 {}
 
 /// No price has more volume than the auction price, between the limits or at one; and where there is no auction price,
@@ -42,7 +42,7 @@ pub fn fills_sum_to_the_quantity_less_its_rest()
     ensures within { (w : Sweep) → filled w ≤ w.incoming.rest }
     ensures rest { (w : Sweep) → filled w + rest_after w ≡ w.incoming.rest }
     ensures trades { (number : ℕ) (w : Sweep) → total_quantity (sweep_trades number w) ≡ filled w }
-    ensures resting { (w : Sweep) → sum_by (λ (o : Order). o.rest) (orders_after w) + filled w ≡ sum_by (λ (o : Order). o.rest) w.orders }
+    ensures resting { (w : Sweep) → sum_by (λ (o : Order). o.rest) (orders_after_sweep w) + filled w ≡ sum_by (λ (o : Order). o.rest) w.orders }
 {}
 
 /// The trades of an allotment sum to its volume, where its price and volume are those of the call, and so does what the

@@ -1,16 +1,16 @@
 //! The rules of a trading day: the types of the market model, and in `specs/` its definitions.
 #![tactic(auto)]
 
-pub mod commands;
+mod commands;
 pub mod laws;
-pub mod orders;
-pub mod phases;
-pub mod replies;
+mod orders;
+mod phases;
+mod replies;
 pub mod rows;
-pub mod settings;
+mod settings;
 
-pub use commands::{Command, Condition, Kind};
+pub use commands::{Command, Condition, Kind, LARGEST_NUMBER, is_given_in_range, is_in_range};
 pub use orders::{Order, OrderKind, Restriction, Side, Stop, Trade, TradeKind, Validity};
 pub use phases::{Auction, CallStage, Phase};
 pub use replies::{OutOfMemory, Quote, Refusal, Reply, Totals};
-pub use settings::{DeskSettings, Widths};
+pub use settings::{DeskSettings, PHASE_COMMANDS_MORE, Widths};

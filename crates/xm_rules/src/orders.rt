@@ -1,5 +1,15 @@
 //! Orders, stops and trades.
-use crate::phases::{Auction, CallStage};
+ghost use Rattle.std.specs.Prelude.{◌≡◌, ◌&&◌, IsTrue};
+ghost use Rattle.xm_rules.specs.Active.{is_active};
+ghost use Rattle.xm_rules.specs.Commands.{is_over, outlasts};
+ghost use Rattle.xm_rules.specs.Orders.{accepts, limit_of, meets};
+ghost use Rattle.xm_rules.specs.Priority.{is_better};
+ghost use Rattle.xm_rules.specs.Refusals.{is_given_in_range};
+ghost use Rattle.xm_rules.specs.Settling.{is_free, is_reached, order_of_stop};
+ghost use Rattle.xm_rules.specs.Sides.{opposite, reaches, same_side};
+ghost use Rattle.xm_rules.specs.Step.{changed_kind, changed_order, keeps_priority, same_limit};
+
+use crate::phases::{Auction, CallStage, Phase};
 use xm_ticks::Price;
 
 /// A side of the book.
@@ -9,11 +19,110 @@ pub enum Side {
     Sell,
 }
 
+impl Side {
+    /// The other side.
+    pub fn opposite(self) -> Side
+        ensures { result ≡ opposite self }
+    {
+        match self {
+            Side::Buy => Side::Sell,
+            Side::Sell => Side::Buy,
+        }
+    }
+
+    /// Whether two sides are one.
+    pub fn same_side(self, other: Side) -> bool
+        ensures { result ≡ same_side self other }
+    {
+        self == other
+    }
+
+    /// Whether a price in ticks is as high as another on the buy side, as low on the sell side.
+    pub fn reaches(self, price: u32, other: u32) -> bool
+        ensures { result ≡ reaches self price other }
+    {
+        match self {
+            Side::Buy => other <= price,
+            Side::Sell => price <= other,
+        }
+    }
+}
+
 /// Whether an order has a limit.
 #[derive(Clone, Copy, PartialEq, Eq, Hash, Debug)]
 pub enum OrderKind {
     Market,
     Limit(Price),
+}
+
+impl OrderKind {
+    /// The limit, where there is one.
+    pub fn limit(self) -> Option<Price>
+        ensures { result ≡ limit_of self }
+    {
+        match self {
+            OrderKind::Market => None,
+            OrderKind::Limit(limit) => Some(limit),
+        }
+    }
+
+    /// Whether an order of this kind on a side accepts a price.
+    pub fn accepts(self, side: Side, price: Price) -> bool
+        ensures { result ≡ accepts side self price }
+    {
+        match self {
+            OrderKind::Market => true,
+            OrderKind::Limit(limit) => side.reaches(limit.get(), price.get()),
+        }
+    }
+
+    /// Whether an order of this kind on a side meets one of another kind on the other side.
+    pub fn meets(self, side: Side, other: OrderKind) -> bool
+        ensures { result ≡ meets side self other }
+    {
+        match other {
+            OrderKind::Market => true,
+            OrderKind::Limit(limit) => self.accepts(side, limit),
+        }
+    }
+
+    /// Whether an order of this kind is ahead of one of another on the same side, whatever their
+    /// times: market orders come first, then better limits.
+    pub fn is_better(self, side: Side, other: OrderKind) -> bool
+        ensures { result ≡ is_better side self other }
+    {
+        match self {
+            OrderKind::Market => matches!(other, OrderKind::Limit(_)),
+            OrderKind::Limit(limit) => match other {
+                OrderKind::Market => false,
+                OrderKind::Limit(other_limit) => !side.reaches(other_limit.get(), limit.get()),
+            },
+        }
+    }
+
+    /// Whether a change that gives this limit, or none, leaves the limit as it is.
+    pub fn same_limit(self, given: Option<u32>) -> bool
+        ensures { result ≡ same_limit given self }
+    {
+        match given {
+            None => true,
+            Some(price) => match self {
+                OrderKind::Market => false,
+                OrderKind::Limit(limit) => price == limit.get(),
+            },
+        }
+    }
+
+    /// The kind after a change that gives this limit, which is in range, or none.
+    pub fn changed_kind(self, given: Option<u32>) -> OrderKind
+        requires { IsTrue (is_given_in_range given) }
+        ensures { result ≡ changed_kind given self }
+    {
+        match given {
+            None => self,
+            Some(price) => OrderKind::Limit(Price::new(price).unwrap()),
+        }
+    }
 }
 
 /// How long an order or a stop is valid. A date is compared as a number; no calendar is checked.
@@ -25,6 +134,29 @@ pub enum Validity {
     TillCancelled,
 }
 
+impl Validity {
+    /// Whether it ended before today.
+    pub fn is_over(self, today: u32) -> bool
+        ensures { result ≡ is_over today self }
+    {
+        match self {
+            Validity::TillDate(date) => date < today,
+            Validity::Day | Validity::TillCancelled => false,
+        }
+    }
+
+    /// Whether it goes on after the end of today.
+    pub fn outlasts(self, today: u32) -> bool
+        ensures { result ≡ outlasts today self }
+    {
+        match self {
+            Validity::Day => false,
+            Validity::TillDate(date) => today < date,
+            Validity::TillCancelled => true,
+        }
+    }
+}
+
 /// In which phases of trading an order takes part.
 #[derive(Clone, Copy, PartialEq, Eq, Hash, Debug)]
 pub enum Restriction {
@@ -32,6 +164,30 @@ pub enum Restriction {
     OpeningOnly,
     AuctionsOnly,
     ClosingOnly,
+}
+
+impl Restriction {
+    /// Whether there is none.
+    pub fn is_free(self) -> bool
+        ensures { result ≡ is_free self }
+    {
+        self == Restriction::Free
+    }
+
+    /// Whether an order of this restriction is active in a phase.
+    pub fn is_active(self, phase: Phase) -> bool
+        ensures { result ≡ is_active phase self }
+    {
+        match phase {
+            Phase::Call(auction, _) => match self {
+                Restriction::Free | Restriction::AuctionsOnly => true,
+                Restriction::OpeningOnly => auction == Auction::Opening,
+                Restriction::ClosingOnly => auction == Auction::Closing,
+            },
+            Phase::Continuous => self.is_free(),
+            Phase::PreTrading | Phase::PostTrading | Phase::Ended => false,
+        }
+    }
 }
 
 /// A live order of the book. Its name is its member and the member's own reference.
@@ -48,6 +204,28 @@ pub struct Order {
     pub restriction: Restriction,
 }
 
+impl Order {
+    /// Whether it keeps its position in time under a change to this quantity, and to this limit if
+    /// one is given: the limit stays, and the quantity doesn't rise.
+    pub fn keeps_priority(&self, quantity: u32, limit: Option<u32>) -> bool
+        ensures { result ≡ keeps_priority quantity limit self.now }
+    {
+        self.kind.same_limit(limit) && quantity <= self.rest
+    }
+
+    /// The order that comes in again after such a change, whose limit is in range.
+    pub fn changed_order(&self, quantity: u32, limit: Option<u32>) -> Order
+        requires { IsTrue (is_given_in_range limit) }
+        ensures { result ≡ changed_order quantity limit self.now }
+    {
+        Order {
+            kind: self.kind.changed_kind(limit),
+            rest: quantity,
+            ..*self
+        }
+    }
+}
+
 /// A stop that is held apart from the book until the reference price reaches its trigger.
 #[derive(Clone, Copy, PartialEq, Eq, Hash, Debug)]
 pub struct Stop {
@@ -62,6 +240,30 @@ pub struct Stop {
     /// The quantity in units.
     pub quantity: u32,
     pub validity: Validity,
+}
+
+impl Stop {
+    /// Whether the last price has reached its trigger.
+    pub fn is_reached(&self, last: Price) -> bool
+        ensures { result ≡ is_reached last self.now }
+    {
+        self.side.reaches(last.get(), self.trigger)
+    }
+
+    /// The free order that it becomes.
+    pub fn order_of_stop(&self) -> Order
+        ensures { result ≡ order_of_stop self.now }
+    {
+        Order {
+            member: self.member,
+            reference: self.reference,
+            side: self.side,
+            kind: self.becomes,
+            rest: self.quantity,
+            validity: self.validity,
+            restriction: Restriction::Free,
+        }
+    }
 }
 
 /// Where a trade was made: in continuous trading, or at the end of a call.

@@ -1,4 +1,7 @@
 //! The phases of a trading day.
+ghost use Rattle.std.specs.Prelude.{◌≡◌};
+ghost use Rattle.xm_rules.specs.Refusals.{is_ended};
+ghost use Rattle.xm_rules.specs.Settling.{is_continuous};
 
 /// An auction of the day. The one that follows an interruption of continuous trading is
 /// `Interruption`.
@@ -26,4 +29,20 @@ pub enum Phase {
     Continuous,
     PostTrading,
     Ended,
+}
+
+impl Phase {
+    /// Whether it is continuous trading.
+    pub fn is_continuous(self) -> bool
+        ensures { result ≡ is_continuous self }
+    {
+        self == Phase::Continuous
+    }
+
+    /// Whether the day has ended.
+    pub fn is_ended(self) -> bool
+        ensures { result ≡ is_ended self }
+    {
+        self == Phase::Ended
+    }
 }

@@ -1,5 +1,8 @@
 //! What a desk answers.
+ghost use Rattle.std.specs.Prelude.{◌≡◌};
+
 use crate::phases::Phase;
+use std::alloc::{AllocError, AllocFailed};
 use xm_ticks::Price;
 
 /// Why a command is refused, in the order of the checks. A refusal changes nothing.
@@ -39,6 +42,38 @@ pub enum Refusal {
 /// A growth was refused.
 #[derive(Clone, Copy, PartialEq, Eq, Hash, Debug)]
 pub struct OutOfMemory;
+
+impl From<AllocError> for OutOfMemory {
+    fn from(_error: AllocError) -> OutOfMemory {
+        OutOfMemory
+    }
+}
+
+impl<T: Drop> From<AllocFailed<T>> for OutOfMemory {
+    fn from(_error: AllocFailed<T>) -> OutOfMemory {
+        OutOfMemory
+    }
+}
+
+impl From<AllocError> for Refusal {
+    ghost use Rattle.xm_rules.specs.declared.replies.Refusal.TheVariants.{OutOfMemory};
+
+    ghost from_gives = { λ _ refusal. refusal ≡ OutOfMemory };
+
+    fn from(_error: AllocError) -> Refusal {
+        Refusal::OutOfMemory
+    }
+}
+
+impl From<OutOfMemory> for Refusal {
+    ghost use Rattle.xm_rules.specs.declared.replies.Refusal.TheVariants.{OutOfMemory};
+
+    ghost from_gives = { λ _ refusal. refusal ≡ OutOfMemory };
+
+    fn from(_error: OutOfMemory) -> Refusal {
+        Refusal::OutOfMemory
+    }
+}
 
 /// The sums over trades, each of which counts once.
 #[derive(Clone, Copy, PartialEq, Eq, Hash, Debug)]

@@ -13,6 +13,9 @@ pub struct Widths {
     pub wide: u32,
 }
 
+/// How many commands a journal takes of the phases beyond its limit, which is that of members.
+pub const PHASE_COMMANDS_MORE: u32 = 64;
+
 /// The settings that a desk is opened with.
 #[derive(Clone, Copy, PartialEq, Eq, Hash, Debug)]
 pub struct DeskSettings {
@@ -27,6 +30,6 @@ pub struct DeskSettings {
     /// The widths of the price ranges.
     pub widths: Widths,
     /// The number of commands up to which the journal takes those of members; those of the phases
-    /// it takes up to 64 more.
+    /// it takes up to `PHASE_COMMANDS_MORE` more.
     pub limit: JournalLimit,
 }

@@ -3,7 +3,7 @@
 
 ghost use Rattle.std.specs.Prelude.{◌≡◌, [], ◌∷◌, Some, None, true, false};
 ghost use Rattle.xm_rules.specs.Active.{is_active};
-ghost use Rattle.xm_rules.specs.Allotment.{auction_trades, orders_after};
+ghost use Rattle.xm_rules.specs.Allotment.{auction_trades, orders_after_call};
 ghost use Rattle.xm_rules.specs.Auction.{auction_price};
 ghost use Rattle.xm_rules.specs.Rows.{takes_part_in, crossed_orders, four_orders, queued_orders, order, buy, sell, trade, uncrossing};
 ghost use Rattle.xm_rules.specs.declared.orders.OrderKind.TheVariants.{Market, Limit};
@@ -31,7 +31,7 @@ pub fn three_trades_of_a_call()
         ≡ trade (made.Auction Opening Ordinary) 7 20 101 (0, 1) (1, 1)
         ∷ trade (made.Auction Opening Ordinary) 7 10 101 (0, 1) (1, 2)
         ∷ trade (made.Auction Opening Ordinary) 7 20 101 (0, 2) (1, 2) ∷ [] }
-    ensures left { orders_after (uncrossing four_orders 101 50) ≡ buy 2 101 20 ∷ [] }
+    ensures left { orders_after_call (uncrossing four_orders 101 50) ≡ buy 2 101 20 ∷ [] }
 {}
 
 /// At the price market orders come first, and then the earlier of equal limits; one order is executed in part.
@@ -41,7 +41,7 @@ pub fn market_orders_come_first_in_a_call()
         ≡ trade (made.Auction Opening Ordinary) 1 5 101 (0, 2) (1, 1)
         ∷ trade (made.Auction Opening Ordinary) 1 5 101 (0, 2) (1, 2)
         ∷ trade (made.Auction Opening Ordinary) 1 3 101 (0, 1) (1, 2) ∷ [] }
-    ensures left { orders_after (uncrossing queued_orders 101 13) ≡ buy 1 101 7 ∷ [] }
+    ensures left { orders_after_call (uncrossing queued_orders 101 13) ≡ buy 1 101 7 ∷ [] }
 {}
 
 /// Where the highest volume stands at several limits and only one side has a surplus, the price is the highest

@@ -4,7 +4,7 @@
 ghost use Rattle.std.specs.Prelude.{◌≡◌, [], ◌∷◌, ◌++◌, true, false};
 ghost use Rattle.xm_rules.specs.Rows.{distant_book, distant_sell, distant_sells, falling_buys, resting_buys, resting_sells, references, order, stop, enter, buy, sell, trade, settings, journal, after, opened, answer, sweep, cascade_book, full_cascade_book, cut_cascade_book, falling_sell};
 ghost use Rattle.xm_rules.specs.Step.{is_lawful};
-ghost use Rattle.xm_rules.specs.Sweep.{sweep_trades, rest_after, is_interrupted, is_fillable, orders_after};
+ghost use Rattle.xm_rules.specs.Sweep.{sweep_trades, rest_after, is_interrupted, is_fillable, orders_after_sweep};
 ghost use Rattle.xm_rules.specs.declared.commands.Command.TheVariants.{Enter, Uncross};
 ghost use Rattle.xm_rules.specs.declared.commands.Condition.TheVariants.{Ioc, Fok};
 ghost use Rattle.xm_rules.specs.declared.commands.Kind.TheVariants as kind;
@@ -25,7 +25,7 @@ pub fn market_order_is_met()
         ≡ trade made.Continuous 3 10 1010 (0, 2) (1, 1) ∷ [] }
     ensures at_best_limit { sweep_trades 3 (sweep (buy 1 1015 5 ∷ order 0 2 Buy Market 10 ∷ []) (order 1 1 Sell (Limit 990) 12))
         ≡ trade made.Continuous 3 10 1015 (0, 2) (1, 1) ∷ trade made.Continuous 3 2 1015 (0, 1) (1, 1) ∷ [] }
-    ensures left { orders_after (sweep resting_buys (order 1 1 Sell (Limit 990) 12)) ≡ buy 1 995 3 ∷ [] }
+    ensures left { orders_after_sweep (sweep resting_buys (order 1 1 Sell (Limit 990) 12)) ≡ buy 1 995 3 ∷ [] }
     ensures outside { sweep_trades 3 (sweep resting_buys (order 1 1 Sell (Limit 1030) 10)) ≡ [] }
     ensures interrupted { is_interrupted (sweep resting_buys (order 1 1 Sell (Limit 1030) 10)) ≡ true }
 {}
@@ -116,7 +116,7 @@ pub fn nothing_past_the_first_one_outside()
 pub fn earlier_order_first()
     ensures trades { sweep_trades 3 (sweep (sell 1 1000 5 ∷ sell 2 999 1 ∷ sell 3 1000 5 ∷ []) (buy 1 1000 8))
         ≡ trade made.Continuous 3 1 999 (0, 1) (1, 2) ∷ trade made.Continuous 3 5 1000 (0, 1) (1, 1) ∷ trade made.Continuous 3 2 1000 (0, 1) (1, 3) ∷ [] }
-    ensures left { orders_after (sweep (sell 1 1000 5 ∷ sell 2 999 1 ∷ sell 3 1000 5 ∷ []) (buy 1 1000 8)) ≡ sell 3 1000 3 ∷ [] }
+    ensures left { orders_after_sweep (sweep (sell 1 1000 5 ∷ sell 2 999 1 ∷ sell 3 1000 5 ∷ []) (buy 1 1000 8)) ≡ sell 3 1000 3 ∷ [] }
 {}
 
 /// The static range is asked in a sweep too: at a last price of 1040 and a last auction price of 1000, 1055 is outside.
@@ -138,7 +138,7 @@ pub fn first_sweep_of_the_cascade()
     ensures trades { sweep_trades 4 (sweep falling_buys (sell 3 990 30))
         ≡ trade made.Continuous 4 10 1000 (0, 1) (1, 3) ∷ trade made.Continuous 4 20 990 (0, 2) (1, 3) ∷ [] }
     ensures rest { rest_after (sweep falling_buys (sell 3 990 30)) ≡ 0 }
-    ensures left { orders_after (sweep falling_buys (sell 3 990 30)) ≡ buy 3 985 30 ∷ [] }
+    ensures left { orders_after_sweep (sweep falling_buys (sell 3 990 30)) ≡ buy 3 985 30 ∷ [] }
     ensures not_interrupted { is_interrupted (sweep falling_buys (sell 3 990 30)) ≡ false }
 {}
 

@@ -3,7 +3,7 @@ use Rattle.std.specs.List.{list_any}
 use Rattle.std.proofs.lemmas.List.{map-append}
 use Rattle.xm_book.specs.Layout.{listing, with_queue}
 use Rattle.xm_book.specs.Places.{place_of}
-use Rattle.xm_book.specs.Ranks.{Listed, QueueView, has_time, insert_rank, order_of}
+use Rattle.xm_book.specs.Ranks.{Listed, QueueView, has_time, insert_rank, listed_order}
 use Rattle.xm_book.specs.TimeList.{is_known, is_reserved}
 use Rattle.xm_book.proofs.Counted.{Gains-same}
 use Rattle.xm_book.proofs.Layouts.{added, laid_out, listing-of, queue_reserved}
@@ -60,7 +60,7 @@ returns-clause-orders g c =
     c.push_reserved.new.self p.items p.len p.capacity c.add.new.self q c.insert.new.self put.0 c.insert.ensures.spare in
     let x : Listed = record { key = key; time = b.adds; order = o } in
     let same = listing-of (xs ++ x ∷ []) qs c.insert_reserved-key.new.self c.push_reserved.new.self (with_queue o.side b.queues c.add.new.self) c.insert.new.self (b.adds + 1) h in
-    rw (← c.self.view_is) (ap (map order_of) same ∙ map-append order_of xs (x ∷ []))
+    rw (← c.self.view_is) (ap (map listed_order) same ∙ map-append listed_order xs (x ∷ []))
 
 pub returns-clause-used : goal.returns-clause-used
 returns-clause-used g c = rw (← c.self.view_is, ← c.of.ensures) (Gains-same c.of.result c.release.new.self c.self.inside.places c.release.ensures)

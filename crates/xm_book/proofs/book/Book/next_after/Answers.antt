@@ -1,8 +1,8 @@
 use Rattle.std.proofs.Common.{◌≡◌, Bool, true, false, ◌&&◌, Option, Some, None, map, ap, sym, ◌∙◌}
 use Rattle.slab.specs.Slab.{get}
-use Rattle.xm_book.specs.Layout.{entry_of, listing}
+use Rattle.xm_book.specs.Layout.{listed_entry, listing}
 use Rattle.xm_book.specs.Queues.{next_order}
-use Rattle.xm_book.specs.Ranks.{next_active, order_of, rank_of}
+use Rattle.xm_book.specs.Ranks.{next_active, listed_order, rank_of}
 use Rattle.xm_book.specs.declared.queue.Rank.{Rank}
 use Rattle.xm_book.proofs.Changes.{some_none}
 use Rattle.xm_book.proofs.Layouts.{entry-is, named_at}
@@ -24,7 +24,7 @@ returns-in_err-entry g c =
     let xs = listing b.entries b.stamps.items in
     let key = c.in_ok-key.field-0.now in
     let n = named_at xs b.places b.entries b.stamps b.queues b.names b.adds c.self.invariant c.args.order.now.member c.args.order.now.reference key c.in_ok-key.ensures.value in
-    absurd (some_none (get b.entries key) (entry_of n.listed) n.lies (sym c.in_err-entry.ensures))
+    absurd (some_none (get b.entries key) (listed_entry n.listed) n.lies (sym c.in_err-entry.ensures))
 
 pub returns-then-ne : goal.returns-then-ne
 returns-then-ne g c =
@@ -72,4 +72,4 @@ returns g c =
     let next = λ (o : Option Rank) (was : o ≡ next_active c.args.phase c.of.result.now.side c.rank_at.result c.of.result.now.ranks).
     was ∙ (λ i. next_active c.args.phase (c.of.ensures i).side ((c.rank_at.ensures ∙ (λ j. rank_of (record { key = key; time = (e j).time; order = (e j).order }))) i) (c.of.ensures i).ranks) in
     let is = next_at xs b.places b.entries b.stamps b.queues b.names b.adds c.self.invariant c.args.phase c.args.side c.args.order.now.member c.args.order.now.reference key n active (Some c.in_ok-next.next) (next (Some c.in_ok-next.next) c.in_ok-next.ensures) in
-    rw (← c.self.view_is) (c.order_at.ensures ∙ order-under xs b.places b.entries b.stamps b.queues b.names b.adds c.self.invariant c.args.phase c.args.side c.in_ok-next.next (next_order c.args.phase c.args.side c.args.order.now.member c.args.order.now.reference (map order_of xs)) is)
+    rw (← c.self.view_is) (c.order_at.ensures ∙ order-under xs b.places b.entries b.stamps b.queues b.names b.adds c.self.invariant c.args.phase c.args.side c.in_ok-next.next (next_order c.args.phase c.args.side c.args.order.now.member c.args.order.now.reference (map listed_order xs)) is)

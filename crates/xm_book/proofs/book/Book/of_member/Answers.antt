@@ -2,7 +2,7 @@ use Rattle.std.proofs.Common.{◌≡◌, ◌==◌, get_or, option_copied, map, i
 use Rattle.std.proofs.lemmas.Bool.{eq-eqb, ne_eqb}
 use Rattle.std.proofs.lemmas.List.{take_all}
 use Rattle.xm_book.specs.Layout.{listing}
-use Rattle.xm_book.specs.Ranks.{order_of}
+use Rattle.xm_book.specs.Ranks.{listed_order}
 use Rattle.xm_book.specs.TimeList.{references_of}
 use Rattle.xm_book.proofs.Listings.{only-none, orders_to, order_under, orders-more, references-push}
 use Rattle.xm_book.proofs.book.Book.of_member.Goals as goal
@@ -34,4 +34,4 @@ loop-stamp-preserved g c =
 pub returns : goal.returns
 returns g c =
     let all = take_all c.loop-stamp.stamp-index c.deref-stamp-items.result.now c.loop-stamp-test.false in
-    c.loop-stamp.invariant ∙ ap (λ ss. references_of c.args.member (map order_of (listing c.self.inside.entries ss))) (all ∙ c.deref-stamp-items.ensures.value) ∙ ap (λ l. references_of c.args.member l.orders) c.self.view_is
+    c.loop-stamp.invariant ∙ ap (λ ss. references_of c.args.member (map listed_order (listing c.self.inside.entries ss))) (all ∙ c.deref-stamp-items.ensures.value) ∙ ap (λ l. references_of c.args.member l.orders) c.self.view_is

@@ -1,7 +1,7 @@
 use Rattle.std.proofs.Common.{◌≡◌, get_or, option_copied, map, is_ok, true, not, None, append-nil, sym, ap, ◌∙◌}
 use Rattle.std.proofs.lemmas.List.{take_all}
 use Rattle.xm_book.specs.Layout.{listing}
-use Rattle.xm_book.specs.Ranks.{order_of}
+use Rattle.xm_book.specs.Ranks.{listed_order}
 use Rattle.xm_book.proofs.Listings.{only-none, order_under, orders-more}
 use Rattle.xm_book.proofs.book.Book.orders.Goals as goal
 use Rattle.xm_book.proofs.book.Book.orders.Goals.{in-Some+else-is_err, in_default}
@@ -24,4 +24,4 @@ loop-stamp-preserved g c =
 pub returns : goal.returns
 returns g c =
     let all = take_all c.loop-stamp.stamp-index c.deref-stamp-items.result.now c.loop-stamp-test.false in
-    c.loop-stamp.invariant ∙ ap (λ ss. map order_of (listing c.self.inside.entries ss)) (all ∙ c.deref-stamp-items.ensures.value) ∙ ap (λ l. l.orders) c.self.view_is
+    c.loop-stamp.invariant ∙ ap (λ ss. map listed_order (listing c.self.inside.entries ss)) (all ∙ c.deref-stamp-items.ensures.value) ∙ ap (λ l. l.orders) c.self.view_is

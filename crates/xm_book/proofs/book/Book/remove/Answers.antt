@@ -1,7 +1,7 @@
 use Rattle.std.proofs.Common.{◌≡◌, true, false, Some, filter, map, not, ap, arith, refl, subst, sym, ◌∙◌}
 use Rattle.std.specs.List.Sorted.{IsPartitionPoint}
-use Rattle.xm_book.specs.Layout.{is_before, listing, queue_of, with_queue}
-use Rattle.xm_book.specs.Ranks.{QueueView, has_time, order_of}
+use Rattle.xm_book.specs.Layout.{is_earlier, listing, queue_of, with_queue}
+use Rattle.xm_book.specs.Ranks.{QueueView, has_time, listed_order}
 use Rattle.xm_book.specs.TimeList.{TimeList}
 use Rattle.xm_book.specs.declared.book.Entry.{Entry}
 use Rattle.xm_book.specs.declared.queue.Rank.{Rank}
@@ -34,8 +34,8 @@ remove-requires g c =
     let e = entry-is xs b.places b.entries b.stamps b.queues b.names b.adds c.self.invariant c.args.member c.args.reference c.in-Some.key n c.remove-entry.result c.remove-entry.ensures.value in
     let there = ap (λ (y : Entry). y.time) e in
     let slice = c.as_slice.ensures.value in
-    let point = subst (λ ss. IsPartitionPoint (λ s. is_before n.listed.time s ≡ true) (λ s. is_before n.listed.time s ≡ false) ss c.first_from-index.result) slice
-    (subst (λ t. IsPartitionPoint (λ s. is_before t s ≡ true) (λ s. is_before t s ≡ false) c.as_slice.result.now c.first_from-index.result) there c.first_from-index.ensures.first) in
+    let point = subst (λ ss. IsPartitionPoint (λ s. is_earlier n.listed.time s ≡ true) (λ s. is_earlier n.listed.time s ≡ false) ss c.first_from-index.result) slice
+    (subst (λ t. IsPartitionPoint (λ s. is_earlier t s ≡ true) (λ s. is_earlier t s ≡ false) c.as_slice.result.now c.first_from-index.result) there c.first_from-index.ensures.first) in
     let within = stamp-within xs b.places b.entries b.stamps b.queues b.names b.adds c.self.invariant c.args.member c.args.reference c.in-Some.key n c.first_from-index.result point in
     omega (arith, b.stamps.ok.0)
 
@@ -55,8 +55,8 @@ invariant_of-self-in-Some g c =
     let e = entry-is xs b.places b.entries b.stamps b.queues b.names b.adds c.self.invariant c.args.member c.args.reference c.in-Some.key n c.remove-entry.result c.remove-entry.ensures.value in
     let there = ap (λ (y : Entry). y.time) e in
     let slice = c.as_slice.ensures.value in
-    let point = subst (λ ss. IsPartitionPoint (λ s. is_before n.listed.time s ≡ true) (λ s. is_before n.listed.time s ≡ false) ss c.first_from-index.result) slice
-    (subst (λ t. IsPartitionPoint (λ s. is_before t s ≡ true) (λ s. is_before t s ≡ false) c.as_slice.result.now c.first_from-index.result) there c.first_from-index.ensures.first) in
+    let point = subst (λ ss. IsPartitionPoint (λ s. is_earlier n.listed.time s ≡ true) (λ s. is_earlier n.listed.time s ≡ false) ss c.first_from-index.result) slice
+    (subst (λ t. IsPartitionPoint (λ s. is_earlier t s ≡ true) (λ s. is_earlier t s ≡ false) c.as_slice.result.now c.first_from-index.result) there c.first_from-index.ensures.first) in
     let m = c.of_mut.ensures.value ∙ ap (λ (y : Entry). queue_of y.order.side b.queues) e in
     let time = ap (λ (r : Rank). r.time) c.rank_at.ensures ∙ there in
     let q = c.remove-in-Some.ensures ∙ (λ i. let v : QueueView = record { side = (m i).side; ranks = filter (λ (r : Rank). not (has_time (time i) r)) (m i).ranks; reserved = (m i).reserved } in v) in
@@ -76,8 +76,8 @@ pub returns-in-None-clause-left : goal.returns-in-None-clause-left
 returns-in-None-clause-left g c =
     let b = c.self.inside in
     let xs = listing b.entries b.stamps.items in
-    let none = none_known c.args.member c.args.reference (map order_of xs) (not_named xs b.places b.entries b.stamps b.queues b.names b.adds c.self.invariant c.args.member c.args.reference c.in-None.ensures.value) in
-    rw (← c.self.view_is) (sym (ap (λ os. let t : TimeList = record { orders = os; reserved = b.places; adds = b.adds } in t) (nothing-removed c.args.member c.args.reference (map order_of xs) none)))
+    let none = none_known c.args.member c.args.reference (map listed_order xs) (not_named xs b.places b.entries b.stamps b.queues b.names b.adds c.self.invariant c.args.member c.args.reference c.in-None.ensures.value) in
+    rw (← c.self.view_is) (sym (ap (λ os. let t : TimeList = record { orders = os; reserved = b.places; adds = b.adds } in t) (nothing-removed c.args.member c.args.reference (map listed_order xs) none)))
 
 pub returns-in-Some-clause-found : goal.returns-in-Some-clause-found
 returns-in-Some-clause-found g c =
@@ -95,8 +95,8 @@ returns-in-Some-clause-left g c =
     let e = entry-is xs b.places b.entries b.stamps b.queues b.names b.adds c.self.invariant c.args.member c.args.reference c.in-Some.key n c.remove-entry.result c.remove-entry.ensures.value in
     let there = ap (λ (y : Entry). y.time) e in
     let slice = c.as_slice.ensures.value in
-    let point = subst (λ ss. IsPartitionPoint (λ s. is_before n.listed.time s ≡ true) (λ s. is_before n.listed.time s ≡ false) ss c.first_from-index.result) slice
-    (subst (λ t. IsPartitionPoint (λ s. is_before t s ≡ true) (λ s. is_before t s ≡ false) c.as_slice.result.now c.first_from-index.result) there c.first_from-index.ensures.first) in
+    let point = subst (λ ss. IsPartitionPoint (λ s. is_earlier n.listed.time s ≡ true) (λ s. is_earlier n.listed.time s ≡ false) ss c.first_from-index.result) slice
+    (subst (λ t. IsPartitionPoint (λ s. is_earlier t s ≡ true) (λ s. is_earlier t s ≡ false) c.as_slice.result.now c.first_from-index.result) there c.first_from-index.ensures.first) in
     let m = c.of_mut.ensures.value ∙ ap (λ (y : Entry). queue_of y.order.side b.queues) e in
     let time = ap (λ (r : Rank). r.time) c.rank_at.ensures ∙ there in
     let q = c.remove-in-Some.ensures ∙ (λ i. let v : QueueView = record { side = (m i).side; ranks = filter (λ (r : Rank). not (has_time (time i) r)) (m i).ranks; reserved = (m i).reserved } in v) in
@@ -106,4 +106,4 @@ returns-in-Some-clause-left g c =
     c.remove-in-Some.new.self q c.swap_remove.new.self c.swap_remove.ensures.updates.0 c.swap_remove.ensures.room.0 in
     let ys = filter (others c.args.member c.args.reference) xs in
     let same = listing-of ys b.places c.remove-entry.new.self c.remove.new.self (with_queue n.listed.order.side b.queues c.remove-in-Some.new.self) c.swap_remove.new.self b.adds h in
-    rw (← c.self.view_is) (ap (λ os. let t : TimeList = record { orders = os; reserved = b.places; adds = b.adds } in t) (ap (map order_of) same ∙ orders-kept (λ (o : Order). not (is_named c.args.member c.args.reference o)) xs))
+    rw (← c.self.view_is) (ap (λ os. let t : TimeList = record { orders = os; reserved = b.places; adds = b.adds } in t) (ap (map listed_order) same ∙ orders-kept (λ (o : Order). not (is_named c.args.member c.args.reference o)) xs))

@@ -1,6 +1,6 @@
 use Rattle.std.proofs.Common.{◌==◌, filter, map, not, ap, ◌∙◌}
 use Rattle.xm_book.specs.Layout.{listing}
-use Rattle.xm_book.specs.Ranks.{order_of}
+use Rattle.xm_book.specs.Ranks.{listed_order}
 use Rattle.xm_book.specs.TimeList.{TimeList}
 use Rattle.xm_book.proofs.Changes.{of_others, orders-kept}
 use Rattle.xm_book.proofs.Layouts.{all_taken_out, laid_out, listing-of, retained}
@@ -37,4 +37,4 @@ returns g c =
     let h = all_taken_out xs b.places b.entries b.stamps b.queues b.names b.adds c.self.invariant member c.retain_entries.new.entries entries.slots entries.capacity
     c.retain_stamps.new.stamps stamps.items stamps.len stamps.capacity queues buys sells c.retain_names.new.names names.entries names.room in
     let same = listing-of (filter (of_others member) xs) b.places c.retain_entries.new.entries c.retain_stamps.new.stamps queues c.retain_names.new.names b.adds h in
-    rw (← c.self.view_is) (ap (λ os. let t : TimeList = record { orders = os; reserved = b.places; adds = b.adds } in t) (ap (map order_of) same ∙ orders-kept (λ (o : Order). not (o.member == member)) xs))
+    rw (← c.self.view_is) (ap (λ os. let t : TimeList = record { orders = os; reserved = b.places; adds = b.adds } in t) (ap (map listed_order) same ∙ orders-kept (λ (o : Order). not (o.member == member)) xs))

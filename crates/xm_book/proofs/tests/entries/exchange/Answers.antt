@@ -2,8 +2,8 @@ use Rattle.std.proofs.Common.{◌≡◌, ◌∙◌, rules, ap, Bool, true, false
 use Rattle.std.specs.List.{list_any}
 use Rattle.xm_book.proofs.Reserving.{reserved-there}
 use Rattle.xm_book.specs.Places.{place_of}
-use Rattle.xm_book.specs.TimeList.{Reserves, TimeList, removed}
-use Rattle.xm_rules.specs.Orders.{is_named}
+use Rattle.xm_book.specs.TimeList.{Reserves, TimeList}
+use Rattle.xm_rules.specs.Orders.{is_named, removed}
 use Rattle.xm_rules.specs.declared.orders.Order.{Order}
 use Rattle.xm_book.proofs.tests.entries.exchange.Goals as goal
 

@@ -1,11 +1,11 @@
 use Rattle.std.proofs.Common.{◌≡◌, ◌+◌, ◌-◌, map, ap, ◌∙◌, arith}
 use Rattle.std.proofs.lemmas.List.{length-map}
 use Rattle.xm_book.specs.Layout.{listing, queue_of, with_queue}
-use Rattle.xm_book.specs.Ranks.{QueueView, order_of}
+use Rattle.xm_book.specs.Ranks.{QueueView, listed_order}
 use Rattle.xm_book.specs.TimeList.{TimeList}
 use Rattle.xm_book.proofs.Counted.{Gains-same}
 use Rattle.xm_book.proofs.Layouts.{grown, grown-entries, grown-stamps, laid_out, listing-of, queue_of-with, queue_within, queued-reserved, queued-same, reserved, taken_back, with_queue-twice}
-use Rattle.xm_book.proofs.book.Book.grow_for.Goals as goal
+use Rattle.xm_book.proofs.book.Book.reserve_for.Goals as goal
 
 pub invariant_of-self : goal.invariant_of-self
 invariant_of-self g c =
@@ -36,7 +36,7 @@ reserve-requires-4 g c =
     let b = c.self.inside in
     let xs = listing b.entries b.stamps.items in
     rw (c.of_mut.ensures.value) (queue_within xs b.places b.entries b.stamps b.queues b.names b.adds c.self.invariant c.args.place.now.side
-    (let few = rw (← c.self.view_is) at c.requires in omega (arith, length-map xs order_of)))
+    (let few = rw (← c.self.view_is) at c.requires in omega (arith, length-map xs listed_order)))
 
 pub invariant_of-self-in_err-reserve-4 : goal.invariant_of-self-in_err-reserve-4
 invariant_of-self-in_err-reserve-4 g c =
@@ -80,7 +80,7 @@ invariant_of-self-in_default g c =
     let gain = c.in_default.ensures.ok in
     let queued = queued-reserved xs b.places c.reserve.new.self c.reserve-2.new.self b.queues c.reserve-3.new.self b.adds h p c.add.new.self gain in
     laid_out xs c.add.new.self c.reserve.new.self c.reserve-2.new.self (with_queue side b.queues c.reserve-4.new.self) c.reserve-3.new.self b.adds
-    (rw room (reserved xs b.places c.reserve.new.self c.reserve-2.new.self b.queues c.reserve-3.new.self b.adds h p c.add.new.self _ gain (omega (arith, length-map xs order_of))
+    (rw room (reserved xs b.places c.reserve.new.self c.reserve-2.new.self b.queues c.reserve-3.new.self b.adds h p c.add.new.self _ gain (omega (arith, length-map xs listed_order))
     (rw (← c.len-more.ensures) slots) (rw (← c.len-more.ensures) stamps) (rw (← c.len-more.ensures) names) queued))
 
 pub returns-clause-ok : goal.returns-clause-ok
@@ -91,6 +91,6 @@ returns-clause-ok g c =
     c.reserve-2.new.self c.reserve-2.ensures.items c.reserve-2.ensures.len c.reserve-2.ensures.capacity c.reserve-3.new.self c.reserve-3.ensures.entries c.reserve-3.ensures.room.0 in
     let same = listing-of xs b.places c.reserve.new.self c.reserve-2.new.self b.queues c.reserve-3.new.self b.adds h in
     rw (← c.self.view_is) (record {
-      rest = ap (λ l. let t : TimeList = record { orders = map order_of l; reserved = c.add.new.self; adds = b.adds } in t) same;
+      rest = ap (λ l. let t : TimeList = record { orders = map listed_order l; reserved = c.add.new.self; adds = b.adds } in t) same;
       places = Gains-same c.args.place.now b.places c.add.new.self c.in_default.ensures.ok;
     })
