@@ -1,5 +1,6 @@
-pub mod Changed
-pub mod Lengths
-pub mod Named
-pub mod Passes
-pub mod Steps
+mod Changing
+mod Entering
+mod Hands
+mod Named
+mod Stepping
+mod Tapes

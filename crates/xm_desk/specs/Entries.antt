@@ -1,8 +1,20 @@
--- The commands that enter an order or a stop.
-use Rattle.std.specs.Prelude.{Bool, true, false}
+-- The entry that a command is.
+use Rattle.std.specs.Prelude.{Option, Some, None}
+use Rattle.xm_desk.specs.declared.entries.Entry.{Entry}
+use Rattle.xm_rules.specs.Step.{entered_order}
 use Rattle.xm_rules.specs.declared.commands.Command.{Command}
 use Rattle.xm_rules.specs.declared.commands.Command.TheVariants.{Enter}
+use Rattle.xm_rules.specs.declared.orders.Order.{Order}
 
-abbrev pub is_entry : Command → Bool
-is_entry (Enter member reference side kind quantity validity restriction condition) = true
-is_entry _ = false
+-- the entry of an order or of a stop, where the command is one
+abbrev pub entry_in : Command → Option Entry
+entry_in (Enter member reference side kind quantity validity restriction condition) =
+    Some (record { member = member; reference = reference; side = side; kind = kind; quantity = quantity; validity = validity; restriction = restriction; condition = condition })
+entry_in _ = None
+
+abbrev pub command_of : Entry → Command
+command_of e = Enter e.member e.reference e.side e.kind e.quantity e.validity e.restriction e.condition
+
+-- the order of an entry, or the one that its stop becomes
+abbrev pub order_in : Entry → Order
+order_in e = entered_order e.member e.reference e.side e.kind e.quantity e.validity e.restriction

@@ -1,3 +1,5 @@
-pub mod Changes
 pub mod Entries
+pub mod Growth
 pub mod Opening
+pub mod Settled
+pub mod Tape

@@ -2,7 +2,7 @@
 ghost use Rattle.std.specs.Prelude.{◌≡◌, ◌≢◌, ◌++◌, ◌∷◌, [], IsTrue, None, Some, Err, IfOk, IfErr, OnErr, OnOk};
 ghost use Rattle.xm_desk.specs.Opening.{open_fault};
 ghost use Rattle.xm_rules.specs.Refusals.{refusal_of};
-ghost use Rattle.xm_rules.specs.Served.{is_served};
+ghost use Rattle.xm_rules.specs.Served.{HasNoTrades, HoldsNoStops, IsOutsideContinuousTrading, is_served};
 ghost use Rattle.xm_rules.specs.State.{ref1, ref2};
 ghost use Rattle.xm_rules.specs.Step.{is_lawful, replay, reply};
 
@@ -10,7 +10,6 @@ use crate::market::Market;
 use crate::opening::{OpenFault, open_fault};
 use std::alloc::Allocator;
 use std::marker::Model;
-use xm_book::Book;
 use xm_rules::{Command, DeskSettings, Order, OutOfMemory, Phase, Refusal, Reply};
 use xm_ticks::Price;
 
@@ -24,17 +23,21 @@ pub struct Desk<A: Allocator> {
 
 impl<A: Allocator> Model for Desk<A> {
     ghost use Rattle.std.specs.Prelude.{◌≡◌, true};
-    ghost use Rattle.xm_rules.specs.Served.{IsUntraded};
+    ghost use Rattle.xm_desk.specs.declared.unsettled.Hand.TheVariants.{Empty};
+    ghost use Rattle.xm_rules.specs.Served.{HasNoTrades, HoldsNoStops, IsOutsideContinuousTrading};
     ghost use Rattle.xm_rules.specs.Step.{Journal, is_lawful, replay};
 
     ghost Value = { Journal };
 
-    ghost view = { λ d. record { settings = d.market.settings; commands = d.journal.items } };
+    ghost view = { λ d. record { settings = d.market.state.settings; commands = d.journal.items } };
 
     ghost invariant = { λ d. record {
-      replayed : d.market ≡ replay (record { settings = d.market.settings; commands = d.journal.items });
-      lawful : is_lawful (record { settings = d.market.settings; commands = d.journal.items }) ≡ true;
-      untraded : IsUntraded d.market;
+      replayed : d.market.state ≡ replay (record { settings = d.market.state.settings; commands = d.journal.items });
+      lawful : is_lawful (record { settings = d.market.state.settings; commands = d.journal.items }) ≡ true;
+      hand : d.market.hand ≡ Empty;
+      no_trades : HasNoTrades d.market.state;
+      no_stops : HoldsNoStops d.market.state;
+      outside : IsOutsideContinuousTrading d.market.state;
     } };
 }
 
@@ -53,12 +56,7 @@ impl<A: Allocator + Copy> Desk<A> {
             return Err(fault);
         }
         Ok(Desk {
-            market: Market {
-                settings,
-                accepted: 0,
-                phase: Phase::PreTrading,
-                book: Book::new(alloc),
-            },
+            market: Market::new(alloc, settings),
             journal: Vec::new(alloc),
         })
     }
@@ -67,7 +65,7 @@ impl<A: Allocator + Copy> Desk<A> {
     pub fn orders(&self) -> Result<Vec<Order, A>, OutOfMemory>
         ensures { IfOk result (λ orders. orders.items ≡ (replay self.now).orders) }
     {
-        self.market.book.orders()
+        self.market.orders()
     }
 }
 
@@ -88,16 +86,11 @@ impl<A: Allocator> Desk<A> {
         if let Some(refusal) = self.market.refusal_of(&command) {
             return Err(refusal);
         }
-        if self.journal.reserve(1).is_err() {
-            return Err(Refusal::OutOfMemory);
-        }
-        match self.market.take(&command) {
-            Ok(reply) => {
-                self.journal.push_reserved(command);
-                Ok(reply)
-            }
-            Err(_) => Err(Refusal::OutOfMemory),
-        }
+        self.journal.reserve(1)?;
+        self.market.reserve_for(&command)?;
+        let reply = self.market.step(&command);
+        self.journal.push_reserved(command);
+        Ok(reply)
     }
 
     /// The settings that the desk was opened with.
@@ -105,14 +98,18 @@ impl<A: Allocator> Desk<A> {
         ensures opened { result ≡ self.now.settings }
         ensures kept { result ≡ (replay self.now).settings }
     {
-        self.market.settings
+        self.market.settings()
     }
 
-    /// The phase of the security.
+    /// The phase of the security. No command that is served today trades, holds a stop, or leads to
+    /// continuous trading.
     pub fn phase(&self) -> Phase
-        ensures { result ≡ (replay self.now).phase }
+        ensures phase { result ≡ (replay self.now).phase }
+        ensures no_trades { HasNoTrades (replay self.now) }
+        ensures no_stops { HoldsNoStops (replay self.now) }
+        ensures outside { IsOutsideContinuousTrading (replay self.now) }
     {
-        self.market.phase
+        self.market.phase()
     }
 
     /// The price of the last trade, or the opening reference.
@@ -137,10 +134,8 @@ impl<A: Allocator> Desk<A> {
         self.journal.as_slice()
     }
 
-    /// Why a command would be refused, memory aside: the first of its checks that fails. The
-    /// command must be served in the desk's phase, see `Command::is_served`.
+    /// Why a command would be refused, memory aside: the first of its checks that fails.
     pub fn refusal_of(&self, command: &Command) -> Option<Refusal>
-        requires { IsTrue (is_served (replay self.now).phase command.now) }
         ensures { result ≡ refusal_of (replay self.now) command.now }
     {
         self.market.refusal_of(command)

@@ -1,13 +1,20 @@
 //! One security: its state is the replay of the commands that it accepted.
 #![tactic(auto)]
 
+mod calls;
 mod changes;
-mod checks;
 mod desk;
+mod entries;
+mod growth;
+mod incoming;
 mod market;
-pub mod opening;
+mod opening;
+mod refusals;
+mod settling;
+mod tape;
 #[cfg(test)]
 mod tests;
+mod unsettled;
 
 pub use crate::desk::Desk;
-pub use crate::opening::{OpenFault, are_widths};
+pub use crate::opening::{MOST_MEMBERS, OpenFault, WIDEST, are_widths};

@@ -4,6 +4,12 @@ ghost use Rattle.xm_desk.specs.Opening.{are_widths, is_width, open_fault};
 
 use xm_rules::{DeskSettings, Widths};
 
+/// The most members of a segment.
+pub const MOST_MEMBERS: u32 = 1_000;
+
+/// The widest price range, in thousandths of its reference price.
+pub const WIDEST: u32 = 999;
+
 /// Why a desk or a segment is not opened, in the order of the checks.
 #[derive(Clone, Copy, PartialEq, Eq, Debug, thiserror::Error)]
 pub enum OpenFault {
@@ -25,7 +31,7 @@ pub enum OpenFault {
 pub fn open_fault(settings: &DeskSettings) -> Option<OpenFault>
     ensures { result ≡ open_fault settings.now }
 {
-    if settings.members > 1000 {
+    if settings.members > MOST_MEMBERS {
         Some(OpenFault::TooMany)
     } else if !are_widths(&settings.widths) {
         Some(OpenFault::BadWidths)
@@ -44,8 +50,9 @@ pub fn are_widths(widths: &Widths) -> bool
         && widths.dynamic < widths.wide
 }
 
+/// Whether a width is 1 to 999 thousandths.
 fn is_width(width: u32) -> bool
     ensures { result ≡ is_width width }
 {
-    1 <= width && width <= 999
+    1 <= width && width <= WIDEST
 }

@@ -59,6 +59,11 @@ entry-joins s member reference side k quantity v r condition served h =
 pub replaced-joins : (s : State) (o again : Order) → IsOutsideContinuousTrading s → replaced s o again ≡ joined (cancelled s o.member o.reference) again
 replaced-joins s o again outside = come-joins (cancelled s o.member o.reference) again outside
 
+pub entry-outside : (s : State) (member reference : ℕ) (side : Side) (k : Kind) (quantity : ℕ) (v : Validity) (r : Restriction) (condition : Condition)
+    → is_served s.phase (Enter member reference side k quantity v r condition) ≡ true → IsOutsideContinuousTrading s
+entry-outside s member reference side k quantity v r condition served =
+    not_true (is_continuous s.phase) (and_parts (not (is_continuous s.phase)) (not (is_stop (trigger_of k))) served).0
+
 pub change-outside : (s : State) (member reference quantity : ℕ) (limit : Option ℕ) → is_served s.phase (Change member reference quantity limit) ≡ true → IsOutsideContinuousTrading s
 change-outside s member reference quantity limit served = not_true (is_continuous s.phase) served
 

@@ -7,6 +7,7 @@ ghost use Rattle.xm_rules.specs.Priority.{is_better};
 ghost use Rattle.xm_rules.specs.Refusals.{is_given_in_range};
 ghost use Rattle.xm_rules.specs.Settling.{is_free, is_reached, order_of_stop};
 ghost use Rattle.xm_rules.specs.Sides.{opposite, reaches, same_side};
+ghost use Rattle.xm_rules.specs.State.{is_auction};
 ghost use Rattle.xm_rules.specs.Step.{changed_kind, changed_order, keeps_priority, same_limit};
 
 use crate::phases::{Auction, CallStage, Phase};
@@ -271,6 +272,18 @@ impl Stop {
 pub enum TradeKind {
     Continuous,
     Auction(Auction, CallStage),
+}
+
+impl TradeKind {
+    /// Whether the trade was made at the end of a call.
+    pub fn is_auction(self) -> bool
+        ensures { result ≡ is_auction self }
+    {
+        match self {
+            TradeKind::Continuous => false,
+            TradeKind::Auction(_, _) => true,
+        }
+    }
 }
 
 /// A trade between a buy order and a sell order, each named by its member and reference.

@@ -1,10 +1,14 @@
 use Rattle.std.proofs.Common.{◌≡◌, ◌∙◌, List, Some, None, [], ◌∷◌, ◌++◌, ap, sym, subst, rules, true}
+use Rattle.xm_desk.specs.Growth.{hand_for}
+use Rattle.xm_desk.specs.Settled.{Settled}
+use Rattle.xm_desk.specs.declared.unsettled.Hand.TheVariants.{Empty}
 use Rattle.xm_rules.proofs.Journals.{is_lawful-push, journal_of, replay-push}
-use Rattle.xm_rules.proofs.KeptSettings.{step-settings}
+use Rattle.xm_rules.proofs.Kept.{step-settings}
 use Rattle.xm_rules.proofs.Memory.{refusal-not_memory}
-use Rattle.xm_rules.proofs.Untraded.{step-untraded}
+use Rattle.xm_rules.proofs.Served.{step-no_stops, step-outside, step-trades}
 use Rattle.xm_rules.specs.Refusals.{refusal_of}
-use Rattle.xm_rules.specs.Served.{IsUntraded, is_served}
+use Rattle.xm_rules.specs.Served.{is_served}
+use Rattle.xm_rules.specs.Settling.{is_continuous}
 use Rattle.xm_rules.specs.State.{State}
 use Rattle.xm_rules.specs.Step.{Journal, is_lawful, replay, reply, step}
 use Rattle.xm_rules.specs.declared.commands.Command.{Command}
@@ -19,47 +23,46 @@ returns-in-Some-clause-memory g c =
     let same : c.in-Some.refusal ≡ OutOfMemory = cc in
     absurd (refusal-not_memory (replay c.args.self.now) c.args.command (refused ∙ ap Some same))
 
-pub invariant_of-self-in-Ok : goal.invariant_of-self-in-Ok
-invariant_of-self-in-Ok g c =
-    let s = c.self.inside.market in
+pub invariant_of-self-2 : goal.invariant_of-self-2
+invariant_of-self-2 g c =
+    let s = c.self.inside.market.state in
     let command = c.args.command in
+    let i = c.self.invariant in
     let j = journal_of s.settings c.self.inside.journal.items in
     let more = j.commands ++ command ∷ [] in
-    let took : c.take.new.self ≡ step s command = search rules in
+    let took : c.step-reply.new.self.state ≡ step s command = search rules in
     let items : c.push_reserved.new.self.items ≡ more = cc in
     let passed : refusal_of s command ≡ None = search rules in
     let asked : is_served (replay c.args.self.now).phase command ≡ true = search rules in
-    let before : s ≡ replay c.args.self.now = c.self.invariant.replayed ∙ ap replay c.self.view_is in
-    let serves : State → Type 0 = λ t. is_served t.phase command ≡ true in
-    let served = subst serves (sym before) asked in
-    let stepped = took ∙ ap (λ (t : State). step t command) c.self.invariant.replayed ∙ sym (replay-push j command) in
-    let same : c.take.new.self.settings ≡ s.settings = ap (λ (t : State). t.settings) took ∙ step-settings s command in
-    let journal = ap (λ (settings : DeskSettings). journal_of settings more) (sym same) ∙ ap (λ (cs : List Command). journal_of c.take.new.self.settings cs) (sym items) in
-    let refuses : State → Type 0 = λ t. refusal_of t command ≡ None in
-    let keeps : Journal → Type 0 = λ k. is_lawful k ≡ true in
-    let Untraded : State → Type 0 = λ t. IsUntraded t in
+    let before : s ≡ replay c.args.self.now = i.replayed ∙ ap replay c.self.view_is in
+    let served = subst (λ (t : State). is_served t.phase command ≡ true) (sym before) asked in
+    let same : c.step-reply.new.self.state.settings ≡ s.settings = ap (λ (t : State). t.settings) took ∙ step-settings s command in
+    let journal = ap (λ (settings : DeskSettings). journal_of settings more) (sym same) ∙ ap (λ (cs : List Command). journal_of c.step-reply.new.self.state.settings cs) (sym items) in
     record {
-      replayed = stepped ∙ ap replay journal;
-      lawful = subst keeps journal (is_lawful-push j command c.self.invariant.lawful (subst refuses c.self.invariant.replayed passed));
-      untraded = subst Untraded (sym took) (step-untraded s command served passed c.self.invariant.untraded);
+      replayed = took ∙ ap (λ (t : State). step t command) i.replayed ∙ sym (replay-push j command) ∙ ap replay journal;
+      lawful = subst (λ (k : Journal). is_lawful k ≡ true) journal (is_lawful-push j command i.lawful (subst (λ (t : State). refusal_of t command ≡ None) i.replayed passed));
+      hand = search rules;
+      no_trades = ap (λ (t : State). t.trades) took ∙ step-trades s command served passed i.no_stops ∙ i.no_trades;
+      no_stops = ap (λ (t : State). t.stops) took ∙ step-no_stops s command served passed i.no_stops;
+      outside = ap (λ (t : State). is_continuous t.phase) took ∙ step-outside s command served passed i.no_stops i.outside;
     }
 
-pub returns-in-Ok-clause-journal : goal.returns-in-Ok-clause-journal
-returns-in-Ok-clause-journal g c =
-    let s = c.self.inside.market in
+pub returns-clause-journal : goal.returns-clause-journal
+returns-clause-journal g c =
+    let s = c.self.inside.market.state in
     let commands = c.self.inside.journal.items in
-    let took : c.take.new.self ≡ step s c.args.command = search rules in
+    let took : c.step-reply.new.self.state ≡ step s c.args.command = search rules in
     let items : c.push_reserved.new.self.items ≡ commands ++ c.args.command ∷ [] = cc in
     let same = ap (λ (t : State). t.settings) took ∙ step-settings s c.args.command in
     ap (λ (settings : DeskSettings). journal_of settings c.push_reserved.new.self.items) same
     ∙ ap (λ (cs : List Command). journal_of s.settings cs) items
     ∙ ap (λ (j : Journal). journal_of j.settings (j.commands ++ c.args.command ∷ [])) c.self.view_is
 
-pub returns-in-Ok-clause-reply : goal.returns-in-Ok-clause-reply
-returns-in-Ok-clause-reply g c =
-    let s = c.self.inside.market in
-    let took : c.take.new.self ≡ step s c.args.command = search rules in
-    let answer : c.in-Ok.reply ≡ reply s (step s c.args.command) = search rules in
+pub returns-clause-reply : goal.returns-clause-reply
+returns-clause-reply g c =
+    let s = c.self.inside.market.state in
+    let took : c.step-reply.new.self.state ≡ step s c.args.command = search rules in
+    let answer : c.step-reply.result ≡ reply s (step s c.args.command) = search rules in
     let before : s ≡ replay c.args.self.now = c.self.invariant.replayed ∙ ap replay c.self.view_is in
-    let after = sym took ∙ (invariant_of-self-in-Ok g c).replayed in
+    let after = sym took ∙ (invariant_of-self-2 g c).replayed in
     answer ∙ ap (λ (t : State). reply t (step s c.args.command)) before ∙ ap (λ (t : State). reply (replay c.args.self.now) t) after

@@ -1,24 +1,20 @@
-use Rattle.std.proofs.Common.{◌≡◌, ◌∙◌, List, ap, sym, subst, true}
-use Rattle.xm_book.specs.TimeList.{TimeList}
+use Rattle.std.proofs.Common.{◌≡◌, ◌∙◌, List, [], ap, sym, subst, true, refl}
+use Rattle.xm_desk.specs.Settled.{Settled}
 use Rattle.xm_rules.proofs.Journals.{is_lawful-opening, journal_of, replay-opening}
-use Rattle.xm_rules.proofs.Untraded.{opening-untraded}
-use Rattle.xm_rules.specs.Served.{IsUntraded}
-use Rattle.xm_rules.specs.State.{State, opening}
-use Rattle.xm_rules.specs.Step.{is_lawful, replay}
-use Rattle.xm_rules.specs.declared.commands.Command.{Command}
-use Rattle.xm_rules.specs.declared.orders.Order.{Order}
+use Rattle.xm_rules.specs.Settling.{is_continuous}
+use Rattle.xm_rules.specs.Step.{Journal, is_lawful, replay}
 use Rattle.xm_desk.proofs.desk.Desk.open.Goals as goal
 
-pub invariant_of-result-2 : goal.invariant_of-result-2
-invariant_of-result-2 g c =
+pub invariant_of-result : goal.invariant_of-result
+invariant_of-result g c =
     let settings = c.args.settings in
-    let with_orders : List Order → State = λ os. record (opening settings) { orders = os } in
-    let fresh : with_orders c.new.result.orders ≡ opening settings = ap (λ (l : TimeList). with_orders l.orders) c.new.ensures in
-    let commands = sym c.new-2.ensures.items in
-    let keeps : List Command → Type 0 = λ cs. is_lawful (journal_of settings cs) ≡ true in
-    let Untraded : State → Type 0 = λ s. IsUntraded s in
+    let fresh = c.new.ensures in
+    let journal : journal_of c.new.result.state.settings c.new-2.result.items ≡ journal_of settings [] = rw (fresh, c.new-2.ensures.items) refl in
     record {
-      replayed = fresh ∙ sym (replay-opening settings) ∙ ap (λ (cs : List Command). replay (journal_of settings cs)) commands;
-      lawful = subst keeps commands (is_lawful-opening settings);
-      untraded = subst Untraded (sym fresh) (opening-untraded settings);
+      replayed = ap (λ (m : Settled). m.state) fresh ∙ sym (replay-opening settings) ∙ ap replay (sym journal);
+      lawful = ap is_lawful journal ∙ is_lawful-opening settings;
+      hand = ap (λ (m : Settled). m.hand) fresh;
+      no_trades = ap (λ (m : Settled). m.state.trades) fresh;
+      no_stops = ap (λ (m : Settled). m.state.stops) fresh;
+      outside = ap (λ (m : Settled). is_continuous m.state.phase) fresh;
     }

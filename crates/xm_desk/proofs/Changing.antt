@@ -1,0 +1,90 @@
+-- The change of an order, where no stop is held: its checks, and what it leaves.
+use Rattle.std.proofs.Common.{◌≡◌, ◌∙◌, ℕ, Bool, true, false, ◌||◌, ◌&&◌, not, if◌then◌else◌, List, [], find, Option, Some, None, refl, ap, sym}
+use Rattle.std.specs.Prelude.{is_some}
+use Rattle.std.specs.List.{list_any}
+use Rattle.xm_desk.proofs.Named.{any-find, find-named}
+use Rattle.xm_rules.proofs.Accepted.{ChangePasses, change-accepted}
+use Rattle.xm_rules.specs.Commands.{is_in_range}
+use Rattle.xm_rules.specs.Orders.{is_named}
+use Rattle.xm_rules.specs.Refusals.{first_failing, has_order, has_stop, is_given_in_range, is_limit_for_market, own_checks, refusal_of}
+use Rattle.xm_rules.specs.Served.{HoldsNoStops}
+use Rattle.xm_rules.specs.State.{State}
+use Rattle.std.proofs.Common.{Bor, option_copied}
+use Rattle.std.specs.Option.{IsSome}
+use Rattle.xm_book.specs.Places.{place_of}
+use Rattle.xm_desk.specs.Growth.{keeping, place_of_change}
+use Rattle.xm_desk.specs.Settled.{Unsettled, played}
+use Rattle.xm_desk.specs.declared.unsettled.Hand.TheVariants.{Empty, Joined, Kept}
+use Rattle.xm_rules.specs.Orders.{removed, with_rest}
+use Rattle.xm_rules.specs.Settling.{come}
+use Rattle.xm_rules.specs.Step.{changed, changed_order, keeps_priority}
+use Rattle.xm_rules.specs.declared.commands.Command.TheVariants.{Change}
+use Rattle.xm_rules.specs.declared.orders.Order.{Order}
+use Rattle.xm_rules.specs.declared.replies.Refusal.{Refusal}
+use Rattle.xm_rules.specs.declared.replies.Refusal.TheVariants.{BadQuantity, BadPrice, UnknownOrder, NotChangeable}
+
+-- the checks of a change, by the order that is found
+abbrev pub checks_of : ℕ → Option ℕ → Option Order → Option Refusal
+checks_of quantity limit None = Some UnknownOrder
+checks_of quantity limit (Some o) =
+    if is_limit_for_market limit (Some o) then Some NotChangeable
+    else (if not (is_in_range quantity) then Some BadQuantity
+    else (if not (is_given_in_range limit) then Some BadPrice else None))
+
+checked_if : (quantity : ℕ) (limit : Option ℕ) (any : Bool) (found : Option Order) → any ≡ is_some found
+    → checks_of quantity limit found ≡ (if not (any || false) then Some UnknownOrder else (if is_limit_for_market limit found then Some NotChangeable else (if not (is_in_range quantity) then Some BadQuantity else (if not (is_given_in_range limit) then Some BadPrice else None))))
+checked_if quantity limit any None e = rw e refl
+checked_if quantity limit any (Some o) e = rw e refl
+
+pub change-checks : (s : State) (member reference quantity : ℕ) (limit : Option ℕ) → HoldsNoStops s
+    → checks_of quantity limit (find (is_named member reference) s.orders) ≡ first_failing (own_checks s (Change member reference quantity limit))
+change-checks s member reference quantity limit none =
+    rw none (checked_if quantity limit (list_any (is_named member reference) s.orders) (find (is_named member reference) s.orders) (any-find (is_named member reference) s.orders))
+
+-- a change that isn't refused finds its order
+either_known : (a b : Bool) → (a || b) ≡ true → b ≡ false → a ≡ true
+either_known true b h n = refl
+either_known false b h n = cc
+
+pub change-finds : (s : State) (member reference quantity : ℕ) (limit : Option ℕ) → refusal_of s (Change member reference quantity limit) ≡ None
+    → is_some (find (is_named member reference) s.orders) ≡ true
+change-finds s member reference quantity limit h =
+    let passes = change-accepted s member reference quantity limit h in
+    sym (any-find (is_named member reference) s.orders) ∙ either_known (has_order s member reference) (has_stop s member reference) passes.known passes.no_stop
+
+-- an order that keeps its priority
+pub kept-change : (v : Unsettled) (member reference quantity : ℕ) (limit : Option ℕ) (o : Order)
+    → find (is_named member reference) v.state.orders ≡ Some o → keeps_priority quantity limit o ≡ true
+    → v.hand ≡ keeping (place_of_change quantity limit (find (is_named member reference) v.state.orders))
+    → record v { state = record v.state { orders = with_rest member reference quantity v.state.orders } }
+    ≡ record v { state = changed v.state quantity limit (find (is_named member reference) v.state.orders); hand = played v.hand }
+kept-change v member reference quantity limit o found keeps hand =
+    let name = find-named member reference v.state.orders o found in
+    let none : keeping (place_of_change quantity limit (find (is_named member reference) v.state.orders)) ≡ Empty = rw (found, keeps) refl in
+    let empty = hand ∙ none in
+    rw (found, keeps, name.member, name.reference, empty) refl
+
+-- one that comes in again
+pub replaced-change : (v : Unsettled) (member reference quantity : ℕ) (limit : Option ℕ) (o : Order)
+    → find (is_named member reference) v.state.orders ≡ Some o → keeps_priority quantity limit o ≡ false
+    → v.hand ≡ keeping (place_of_change quantity limit (find (is_named member reference) v.state.orders)) → HoldsNoStops v.state
+    → record v { state = come (record v.state { orders = removed member reference v.state.orders }) (changed_order quantity limit o); hand = Joined }
+    ≡ record v { state = changed v.state quantity limit (find (is_named member reference) v.state.orders); hand = played v.hand }
+replaced-change v member reference quantity limit o found joins hand none =
+    let name = find-named member reference v.state.orders o found in
+    let kept : keeping (place_of_change quantity limit (find (is_named member reference) v.state.orders)) ≡ Kept (place_of (changed_order quantity limit o)) = rw (found, joins) refl in
+    let holds = hand ∙ kept in
+    rw (found, joins, name.member, name.reference, holds, none) refl
+
+-- the place that is then kept
+pub replaced-hand : (v : Unsettled) (member reference quantity : ℕ) (limit : Option ℕ) (o : Order)
+    → find (is_named member reference) v.state.orders ≡ Some o → keeps_priority quantity limit o ≡ false
+    → v.hand ≡ keeping (place_of_change quantity limit (find (is_named member reference) v.state.orders)) → v.hand ≡ Kept (place_of (changed_order quantity limit o))
+replaced-hand v member reference quantity limit o found joins hand =
+    let kept : keeping (place_of_change quantity limit (find (is_named member reference) v.state.orders)) ≡ Kept (place_of (changed_order quantity limit o)) = rw (found, joins) refl in
+    hand ∙ kept
+
+-- a reference to what is found
+pub copied-some : (r : Option (Bor Order)) (o : Option Order) → option_copied r ≡ o → is_some o ≡ true → IsSome r
+copied-some None o e h = let none : is_some o ≡ false = ap is_some (sym e) in cc
+copied-some (Some x) o e h = refl

@@ -1,0 +1,103 @@
+use Rattle.std.proofs.Common.{◌≡◌, ◌∙◌, ◌&&◌, ◌≤◌, true, false, List, [], Option, Some, None, find, rules, ap, sym, arith, length, not}
+use Rattle.std.specs.Prelude.{nat_le}
+use Rattle.std.proofs.lemmas.Bool.{and_parts}
+use Rattle.std.proofs.lemmas.Bool.Decides.{nat_tests}
+use Rattle.xm_book.specs.TimeList.{TimeList}
+use Rattle.xm_desk.proofs.Changing.{change-finds, copied-some, kept-change, replaced-change}
+use Rattle.xm_desk.proofs.Hands.{filter-shorter}
+use Rattle.xm_desk.proofs.Named.{any-left_out, find-named}
+use Rattle.xm_desk.specs.Settled.{Unsettled}
+use Rattle.xm_desk.specs.declared.unsettled.Hand.TheVariants.{Joined}
+use Rattle.xm_rules.proofs.Accepted.{accepted-below, change-accepted}
+use Rattle.xm_rules.specs.Orders.{is_named, removed, with_rest}
+use Rattle.xm_rules.specs.Settling.{come}
+use Rattle.xm_rules.specs.Step.{changed_order, keeps_priority, same_limit}
+use Rattle.xm_rules.specs.declared.commands.Command.TheVariants.{Change}
+use Rattle.xm_rules.specs.declared.orders.Order.{Order}
+use Rattle.xm_desk.proofs.unsettled.Unsettled.change.Goals as goal
+
+pub unwrap-requires : goal.unwrap-requires
+unwrap-requires g c =
+    let s = c.args.self.now.state in
+    let known = change-finds s c.args.member c.args.reference c.args.quantity c.args.limit c.requires.lawful in
+    copied-some c.find.result (find (is_named c.args.member c.args.reference) c.self.inside.book.orders) c.find.ensures (rw (← c.self.view_is) at known)
+
+pub reduce-requires : goal.reduce-requires
+reduce-requires g c =
+    let s = c.args.self.now.state in
+    let o = c.unwrap.result.now in
+    let found : find (is_named c.args.member c.args.reference) c.self.inside.book.orders ≡ Some o = search rules in
+    let keeps : keeps_priority c.args.quantity c.args.limit o ≡ true = search rules in
+    let within : nat_le c.args.quantity o.rest ≡ true = (and_parts (same_limit c.args.limit o.kind) (nat_le c.args.quantity o.rest) keeps).1 in
+    let ranged = (change-accepted s c.args.member c.args.reference c.args.quantity c.args.limit c.requires.lawful).quantity in
+    rw found (grind (arith, nat_tests), grind (arith, nat_tests))
+
+pub invariant_of-self-else-keeps_priority : goal.invariant_of-self-else-keeps_priority
+invariant_of-self-else-keeps_priority g c =
+    let u = c.self.inside in
+    let left = c.remove.ensures.left in
+    let fewer = filter-shorter (λ (o : Order). not (is_named c.args.member c.args.reference o)) u.book.orders in
+    record {
+      opening = c.self.invariant.opening;
+      reserved = rw (ap (λ (l : TimeList). l.reserved) left) c.self.invariant.reserved;
+      adds = omega (arith, ap (λ (l : TimeList). l.adds) left, c.self.invariant.adds);
+      few = omega (arith, ap (λ (l : TimeList). length l.orders) left, fewer, c.self.invariant.few);
+    }
+
+pub come-requires-clause-name : goal.come-requires-clause-name
+come-requires-clause-name g c =
+    let orders = c.self.inside.book.orders in
+    let o = c.unwrap.result.now in
+    let found : find (is_named c.args.member c.args.reference) orders ≡ Some o = search rules in
+    let name = find-named c.args.member c.args.reference orders o found in
+    let left = ap (λ (l : TimeList). l.orders) c.remove.ensures.left in
+    let again : c.changed_order.result ≡ changed_order c.args.quantity c.args.limit o = search rules in
+    rw (again, name.member, name.reference, left) (any-left_out (is_named c.args.member c.args.reference) orders)
+
+pub come-requires-clause-rest : goal.come-requires-clause-rest
+come-requires-clause-rest g c =
+    let ranged = (change-accepted c.args.self.now.state c.args.member c.args.reference c.args.quantity c.args.limit c.requires.lawful).quantity in
+    let again : c.changed_order.result ≡ changed_order c.args.quantity c.args.limit c.unwrap.result.now = search rules in
+    rw again (search (rules, ranged))
+
+pub come-requires-clause-room : goal.come-requires-clause-room
+come-requires-clause-room g c =
+    let below = accepted-below c.args.self.now.state (Change c.args.member c.args.reference c.args.quantity c.args.limit) c.requires.lawful in
+    rw (← c.self.view_is) at below
+
+pub returns-then-keeps_priority : goal.returns-then-keeps_priority
+returns-then-keeps_priority g c =
+    let v = c.args.self.now in
+    let u = c.self.inside in
+    let o = c.unwrap.result.now in
+    let found : find (is_named c.args.member c.args.reference) v.state.orders ≡ Some o = search rules in
+    let keeps : keeps_priority c.args.quantity c.args.limit o ≡ true = search rules in
+    let reduced : Unsettled → Unsettled = λ w. record w { state = record w.state { orders = with_rest c.args.member c.args.reference c.args.quantity w.state.orders } } in
+    ap (λ (l : TimeList). let w : Unsettled = record {
+      state = record { settings = u.settings; accepted = u.accepted; phase = u.phase; orders = l.orders; stops = []; trades = u.tape.trades; sweeps = 0 };
+      pending = [];
+      hand = u.hand;
+    } in w) c.reduce.ensures.reduced
+    ∙ ap reduced c.self.view_is
+    ∙ kept-change v c.args.member c.args.reference c.args.quantity c.args.limit o found keeps c.requires.hand
+
+pub returns-else-keeps_priority : goal.returns-else-keeps_priority
+returns-else-keeps_priority g c =
+    let v = c.args.self.now in
+    let u = c.self.inside in
+    let o = c.unwrap.result.now in
+    let found : find (is_named c.args.member c.args.reference) v.state.orders ≡ Some o = search rules in
+    let joins : keeps_priority c.args.quantity c.args.limit o ≡ false = search rules in
+    let again : c.changed_order.result ≡ changed_order c.args.quantity c.args.limit o = search rules in
+    let none = sym (ap (λ (w : Unsettled). w.state.stops) c.self.view_is) in
+    let comes : List Order → Order → Unsettled = λ orders x. record {
+      state = come (record { settings = u.settings; accepted = u.accepted; phase = u.phase; orders = orders; stops = []; trades = u.tape.trades; sweeps = 0 }) x;
+      pending = [];
+      hand = Joined;
+    } in
+    let replaces : Unsettled → Unsettled = λ w. record w { state = come (record w.state { orders = removed c.args.member c.args.reference w.state.orders }) (changed_order c.args.quantity c.args.limit o); hand = Joined } in
+    c.come.ensures
+    ∙ ap (λ (l : TimeList). comes l.orders c.changed_order.result) c.remove.ensures.left
+    ∙ ap (λ (x : Order). comes (removed c.args.member c.args.reference u.book.orders) x) again
+    ∙ ap replaces c.self.view_is
+    ∙ replaced-change v c.args.member c.args.reference c.args.quantity c.args.limit o found joins c.requires.hand none

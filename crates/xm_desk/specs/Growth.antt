@@ -1,0 +1,33 @@
+-- What a command may need, beside its entry in the journal.
+use Rattle.std.specs.Prelude.{ℕ, if◌then◌else◌, find, Option, Some, None}
+use Rattle.xm_book.specs.Places.{place_of}
+use Rattle.xm_book.specs.declared.places.Place.{Place}
+use Rattle.xm_desk.specs.declared.unsettled.Hand.{Hand}
+use Rattle.xm_desk.specs.declared.unsettled.Hand.TheVariants.{Empty, Kept}
+use Rattle.xm_rules.specs.Orders.{is_named}
+use Rattle.xm_rules.specs.State.{State}
+use Rattle.xm_rules.specs.Step.{changed_order, entered_order, keeps_priority}
+use Rattle.xm_rules.specs.declared.commands.Command.{Command}
+use Rattle.xm_rules.specs.declared.commands.Command.TheVariants.{Enter, Change}
+use Rattle.xm_rules.specs.declared.orders.Order.{Order}
+
+-- a changed order needs a place where it comes in again
+abbrev pub place_of_change : ℕ → Option ℕ → Option Order → Option Place
+place_of_change quantity limit None = None
+place_of_change quantity limit (Some o) = if keeps_priority quantity limit o then None else Some (place_of (changed_order quantity limit o))
+
+-- the place in the book that a command may need: that of an entered order, or of the order that a stop becomes, and that of a changed one
+abbrev pub place_for : State → Command → Option Place
+place_for s (Enter member reference side kind quantity validity restriction condition) =
+    Some (place_of (entered_order member reference side kind quantity validity restriction))
+place_for s (Change member reference quantity limit) = place_of_change quantity limit (find (is_named member reference) s.orders)
+place_for s _ = None
+
+-- the hand that keeps a place, where there is one
+abbrev pub keeping : Option Place → Hand
+keeping None = Empty
+keeping (Some place) = Kept place
+
+-- the hand that a command is taken with
+abbrev pub hand_for : State → Command → Hand
+hand_for s command = keeping (place_for s command)

@@ -1,0 +1,71 @@
+//! The growth that a command may need. It comes before the first change, and it alone can be refused.
+ghost use Rattle.std.specs.Prelude.{◌≡◌, IsTrue, None, OnErr, OnOk, find};
+ghost use Rattle.xm_desk.specs.Growth.{hand_for, place_for, place_of_change};
+ghost use Rattle.xm_desk.specs.declared.unsettled.Hand.TheVariants.{Empty};
+ghost use Rattle.xm_rules.specs.Orders.{is_named};
+ghost use Rattle.xm_rules.specs.Refusals.{is_given_in_range, refusal_of};
+
+use crate::entries::Entry;
+use crate::unsettled::{Hand, Unsettled};
+use std::alloc::Allocator;
+use xm_book::Place;
+use xm_rules::{Command, OutOfMemory};
+
+impl<A: Allocator> Unsettled<A> {
+    /// Reserves all that an accepted command may need in the book. The state is unchanged.
+    pub fn reserve_for(&mut self, command: &Command) -> Result<(), OutOfMemory>
+        requires hand { self.old.hand ≡ Empty }
+        requires lawful { refusal_of self.old.state command.now ≡ None }
+        ensures ok { OnOk result (self.new ≡ record self.old { hand = hand_for self.old.state command.now }) }
+        ensures err { OnErr result (self.new ≡ self.old) }
+    {
+        if let Some(place) = self.place_for(command) {
+            self.book.reserve_for(&place)?;
+            self.hand = Hand::Kept(place);
+        }
+        Ok(())
+    }
+
+    /// The place in the book that an accepted command may need.
+    fn place_for(&self, command: &Command) -> Option<Place>
+        requires { refusal_of self.now.state command.now ≡ None }
+        ensures { result ≡ place_for self.now.state command.now }
+    {
+        if let Some(entry) = Entry::of(command) {
+            return Some(Place::of(&entry.order()));
+        }
+        match command {
+            Command::Change {
+                member,
+                reference,
+                quantity,
+                limit,
+            } => self.place_of_change(*member, *reference, *quantity, *limit),
+            _ => None,
+        }
+    }
+
+    /// The place that a changed order needs, which comes in again; one that keeps its priority
+    /// needs none.
+    fn place_of_change(
+        &self,
+        member: u32,
+        reference: u32,
+        quantity: u32,
+        limit: Option<u32>,
+    ) -> Option<Place>
+        requires { IsTrue (is_given_in_range limit) }
+        ensures { result ≡ place_of_change quantity limit (find (is_named member reference) self.now.state.orders) }
+    {
+        match self.book.find(member, reference) {
+            None => None,
+            Some(order) => {
+                if order.keeps_priority(quantity, limit) {
+                    None
+                } else {
+                    Some(Place::of(&order.changed_order(quantity, limit)))
+                }
+            }
+        }
+    }
+}
