@@ -2,11 +2,11 @@
 #![tactic(auto)]
 
 pub mod commands;
+pub mod examples;
 pub mod laws;
 pub mod orders;
 pub mod phases;
 pub mod replies;
-pub mod rows;
 pub mod settings;
 
 pub use commands::{Command, Condition, Kind};

@@ -3,7 +3,7 @@
 
 ghost use Rattle.std.specs.Prelude.{◌≡◌, [], ◌∷◌, Some, None};
 ghost use Rattle.xm_rules.specs.Refusals.{refusal_of};
-ghost use Rattle.xm_rules.specs.Rows.{enter, standing, in_call, ended, with_accepted};
+ghost use Rattle.xm_rules.specs.Examples.{enter, standing, in_call, ended, with_accepted};
 ghost use Rattle.xm_rules.specs.declared.commands.Command.TheVariants.{Enter, Change, Cancel, CancelAll, StartOpening, StartIntraday, StartClosing, Uncross, EndDay};
 ghost use Rattle.xm_rules.specs.declared.commands.Condition.TheVariants.{Plain, Ioc, Fok};
 ghost use Rattle.xm_rules.specs.declared.commands.Kind.TheVariants as kind;

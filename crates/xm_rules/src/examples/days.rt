@@ -4,7 +4,7 @@
 ghost use Rattle.std.specs.Prelude.{◌≡◌, [], ◌∷◌, ◌++◌, true, Some, None};
 ghost use Rattle.xm_rules.specs.Quote.{quote};
 ghost use Rattle.xm_rules.specs.Refusals.{refusal_of};
-ghost use Rattle.xm_rules.specs.Rows.{cascade_book, falling_sell, held_stops, one_stop, references, order, stop, enter, trade, settings, journal, after, opened, answer, two_buys, three_changes, closing_day, eight_orders};
+ghost use Rattle.xm_rules.specs.Examples.{cascade_book, falling_sell, held_stops, one_stop, references, order, stop, enter, trade, settings, journal, after, opened, answer, two_buys, three_changes, closing_day, eight_orders};
 ghost use Rattle.xm_rules.specs.Step.{step, replay, is_lawful};
 ghost use Rattle.xm_rules.specs.Sums.{bought, sold, paid, received, total_quantity, total_money};
 ghost use Rattle.xm_rules.specs.declared.commands.Command.TheVariants.{Enter, Change, Cancel, CancelAll, StartOpening, StartClosing, Uncross, EndDay};

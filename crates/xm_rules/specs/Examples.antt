@@ -1,4 +1,4 @@
--- The orders, commands and settings of the worked rows.
+-- The orders, commands and settings of the worked examples.
 use Rattle.std.specs.Prelude.{ℕ, Bool, map, List, [], ◌∷◌, ◌++◌, Some, None}
 use Rattle.xm_rules.specs.Active.{is_active}
 use Rattle.xm_rules.specs.Allotment.{Uncrossing}

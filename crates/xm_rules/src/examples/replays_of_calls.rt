@@ -2,7 +2,7 @@
 #![tactic(auto, unfolding(crate::specs::Refusals::refusal_of, crate::specs::Step::step, crate::specs::Step::reply, crate::specs::Step::replay, crate::specs::Step::is_lawful))]
 
 ghost use Rattle.std.specs.Prelude.{◌≡◌, [], ◌∷◌, ◌++◌, true};
-ghost use Rattle.xm_rules.specs.Rows.{open_spread, references, order, enter, trade, settings, journal, after, answer, distant_call, drifted_call, waiting_order};
+ghost use Rattle.xm_rules.specs.Examples.{open_spread, references, order, enter, trade, settings, journal, after, answer, distant_call, drifted_call, waiting_order};
 ghost use Rattle.xm_rules.specs.Step.{is_lawful};
 ghost use Rattle.xm_rules.specs.declared.commands.Command.TheVariants.{StartOpening, StartIntraday, StartClosing, Uncross};
 ghost use Rattle.xm_rules.specs.declared.commands.Kind.TheVariants as kind;
