@@ -17,4 +17,4 @@ mod tests;
 mod unsettled;
 
 pub use crate::desk::Desk;
-pub use crate::opening::{MOST_MEMBERS, OpenFault, WIDEST, are_widths};
+pub use crate::opening::{MAX_MEMBERS, OpenFault, MAX_WIDTH, are_widths};

@@ -5,10 +5,10 @@ ghost use Rattle.xm_desk.specs.Opening.{are_widths, is_width, open_fault};
 use xm_rules::{DeskSettings, Widths};
 
 /// The most members of a segment.
-pub const MOST_MEMBERS: u32 = 1_000;
+pub const MAX_MEMBERS: u32 = 1_000;
 
 /// The widest price range, in thousandths of its reference price.
-pub const WIDEST: u32 = 999;
+pub const MAX_WIDTH: u32 = 999;
 
 /// Why a desk or a segment is not opened, in the order of the checks.
 #[derive(Clone, Copy, PartialEq, Eq, Debug, thiserror::Error)]
@@ -31,7 +31,7 @@ pub enum OpenFault {
 pub fn open_fault(settings: &DeskSettings) -> Option<OpenFault>
     ensures { result ≡ open_fault settings.now }
 {
-    if settings.members > MOST_MEMBERS {
+    if settings.members > MAX_MEMBERS {
         Some(OpenFault::TooMany)
     } else if !are_widths(&settings.widths) {
         Some(OpenFault::BadWidths)
@@ -54,5 +54,5 @@ pub fn are_widths(widths: &Widths) -> bool
 fn is_width(width: u32) -> bool
     ensures { result ≡ is_width width }
 {
-    1 <= width && width <= WIDEST
+    1 <= width && width <= MAX_WIDTH
 }

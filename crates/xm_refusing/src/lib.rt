@@ -61,7 +61,7 @@ impl<B: Allocator> Refusing<B> {
     }
 }
 
-// Counts a request, and answers whether it is the one to refuse. A count of 0 stays 0, so that it never wraps.
+/// Counts a request, and answers whether it is the one to refuse. A count of 0 stays 0, so that it never wraps.
 fn count_request(left: &AtomicU64) -> bool {
     left.fetch_update(
         Ordering::SeqCst,
@@ -116,14 +116,13 @@ mod tests {
     }
 
     #[test]
-    fn zero_refuses_none(rt: HostRuntime) -> Result<(), Fail> {
-        let alloc = Refusing::new(rt.alloc(), 0);
-        let mut numbers = Vec::new(&alloc);
+    fn a_collection_owns_one_that_refuses_none(rt: HostRuntime) -> Result<(), Fail> {
+        let mut numbers = Vec::new(Refusing::new(rt.alloc(), 0));
         for number in 0..100u64 {
             numbers.push(number)?;
         }
-        assert_eq!(rt; alloc.requests_left(), 0);
-        assert!(rt; !alloc.has_refused());
+        assert_eq!(rt; numbers.allocator().requests_left(), 0);
+        assert!(rt; !numbers.allocator().has_refused());
         Ok(())
     }
 
@@ -148,17 +147,7 @@ mod tests {
         Ok(())
     }
 
-    #[test]
-    fn a_collection_owns_one(rt: HostRuntime) -> Result<(), Fail> {
-        let mut numbers = Vec::new(Refusing::new(rt.alloc(), 1));
-        assert!(rt; numbers.push(1u64).is_err());
-        numbers.push(2)?;
-        assert_eq!(rt; numbers.as_slice(), [2].as_slice());
-        assert!(rt; numbers.allocator().has_refused());
-        Ok(())
-    }
-
-    // Pushes a hundred numbers, and answers how many of the pushes were refused.
+    /// Pushes a hundred numbers, and answers how many of the pushes were refused.
     fn refusals(rt: &impl Wait, shared: &Mutex<Vec<u64, &Refusing<Global>>>) -> u64 {
         let mut refused = 0u64;
         for number in 0..100u64 {

@@ -7,7 +7,7 @@ use Rattle.xm_rules.specs.declared.commands.Condition.{Condition}
 use Rattle.xm_rules.specs.declared.commands.Condition.TheVariants.{Plain}
 use Rattle.xm_rules.specs.declared.commands.Kind.{Kind}
 use Rattle.xm_rules.specs.declared.commands.Kind.TheVariants as kind
-use Rattle.xm_rules.specs.declared.commands.TheConstants.{LARGEST_NUMBER}
+use Rattle.xm_rules.specs.declared.commands.TheConstants.{MAX_NUMBER}
 use Rattle.xm_rules.specs.declared.orders.OrderKind.{OrderKind}
 use Rattle.xm_rules.specs.declared.orders.OrderKind.TheVariants.{Market, Limit}
 use Rattle.xm_rules.specs.declared.orders.Restriction.{Restriction}
@@ -24,7 +24,7 @@ member_of _ = None
 
 -- 1 to 1,000,000, of units or of ticks
 abbrev pub is_in_range : ℕ → Bool
-is_in_range n = nat_le 1 n && nat_le n LARGEST_NUMBER
+is_in_range n = nat_le 1 n && nat_le n MAX_NUMBER
 
 -- the trigger of a stop
 abbrev pub trigger_of : Kind → Option ℕ

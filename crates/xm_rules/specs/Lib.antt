@@ -2,11 +2,11 @@ pub mod Active
 pub mod Allotment
 pub mod Auction
 pub mod Commands
+pub mod Examples
 pub mod Orders
 pub mod Priority
 pub mod Quote
 pub mod Refusals
-pub mod Rows
 pub mod Served
 pub mod Settling
 pub mod Sides

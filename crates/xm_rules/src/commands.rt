@@ -9,13 +9,13 @@ use crate::phases::Phase;
 use xm_ticks::Price;
 
 /// The most units of a quantity, and the most ticks of a price.
-pub const LARGEST_NUMBER: u32 = 1_000_000;
+pub const MAX_NUMBER: u32 = 1_000_000;
 
-/// Whether a quantity in units, or a price in ticks, is in its range, which begins at 1.
+/// Whether a quantity in units, or a price in ticks, is in its range, 1 to `MAX_NUMBER`.
 pub fn is_in_range(number: u32) -> bool
     ensures { result ≡ is_in_range number }
 {
-    1 <= number && number <= LARGEST_NUMBER
+    1 <= number && number <= MAX_NUMBER
 }
 
 /// Whether the limit that a change gives, if it gives one, is in range.

@@ -2,14 +2,14 @@
 #![tactic(auto)]
 
 mod commands;
+pub mod examples;
 pub mod laws;
 mod orders;
 mod phases;
 mod replies;
-pub mod rows;
 mod settings;
 
-pub use commands::{Command, Condition, Kind, LARGEST_NUMBER, is_given_in_range, is_in_range};
+pub use commands::{Command, Condition, Kind, MAX_NUMBER, is_given_in_range, is_in_range};
 pub use orders::{Order, OrderKind, Restriction, Side, Stop, Trade, TradeKind, Validity};
 pub use phases::{Auction, CallStage, Phase};
 pub use replies::{OutOfMemory, Quote, Refusal, Reply, Totals};

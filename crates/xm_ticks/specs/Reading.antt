@@ -1,8 +1,10 @@
 -- The price of a text: its value in ten-thousandths of a euro divided by the tick size, or the first fault.
 use Rattle.std.specs.Prelude.{ℕ, ◌+◌, ◌-◌, ◌*◌, ◌/◌, ◌%◌, ◌^◌, Bool, ◌&&◌, if◌then◌else◌, nat_lt, nat_le, ◌==◌, List, length, fold, take, drop, Option, Some, None, Result, Ok, Err}
 use Rattle.std.specs.List.{list_all, position_from}
+use Rattle.xm_ticks.specs.declared.numbers.TheConstants.{MAX_PRICE}
 use Rattle.xm_ticks.specs.declared.reading.PriceFault.{PriceFault}
 use Rattle.xm_ticks.specs.declared.reading.PriceFault.TheVariants.{NotANumber, TooManyDecimals, OffTick, OutOfRange}
+use Rattle.xm_ticks.specs.declared.reading.TheConstants.{MAX_NUMBER_LENGTH}
 
 -- the characters `0` to `9`
 abbrev pub is_digit : ℕ → Bool
@@ -19,7 +21,7 @@ point_of bytes = position_from (λ byte. byte == 46) 0 bytes
 -- the price of an amount in ten-thousandths of a euro
 abbrev pub price_of_amount : ℕ → ℕ → Result ℕ PriceFault
 price_of_amount amount tick =
-    if amount % tick == 0 then (if nat_le 1 (amount / tick) && nat_le (amount / tick) 1000000 then Ok (amount / tick) else Err OutOfRange)
+    if amount % tick == 0 then (if nat_le 1 (amount / tick) && nat_le (amount / tick) MAX_PRICE then Ok (amount / tick) else Err OutOfRange)
     else Err OffTick
 
 -- the price of the numbers before and after the point, the second of so many digits
@@ -33,6 +35,6 @@ abbrev pub price_at_point : List ℕ → ℕ → Option ℕ → Result ℕ Price
 price_at_point bytes tick None = price_of_parts (number_of bytes) (Some 0) 0 tick
 price_at_point bytes tick (Some i) = price_of_parts (number_of (take i bytes)) (number_of (drop (i + 1) bytes)) (length bytes - (i + 1)) tick
 
--- the price of a text, which has at most 16 bytes
+-- the price of a text, which has at most so many bytes
 abbrev pub price_of : List ℕ → ℕ → Result ℕ PriceFault
-price_of bytes tick = if nat_le (length bytes) 16 then price_at_point bytes tick (point_of bytes) else Err NotANumber
+price_of bytes tick = if nat_le (length bytes) MAX_NUMBER_LENGTH then price_at_point bytes tick (point_of bytes) else Err NotANumber

@@ -1,6 +1,7 @@
 //! Prices, quantities and tick sizes, and the texts of prices and money.
 #![tactic(auto)]
 
+pub mod examples;
 pub mod numbers;
 pub mod ranges;
 pub mod reading;
@@ -8,7 +9,10 @@ pub mod reading;
 mod tests;
 pub mod writing;
 
-pub use numbers::{JournalLimit, Price, Quantity, TickSize};
+pub use numbers::{
+    JournalLimit, MAX_JOURNAL_LIMIT, MAX_PRICE, MAX_QUANTITY, MAX_TICK_SIZE, Price, Quantity,
+    TickSize,
+};
 pub use ranges::inside;
-pub use reading::{PriceFault, read_number, read_price};
+pub use reading::{MAX_NUMBER_LENGTH, PriceFault, read_number, read_price};
 pub use writing::{write_money, write_price, write_whole};

@@ -1,9 +1,22 @@
 //! The numbers of the market model that have a range. A clause sees each as its number.
 ghost use Rattle.std.specs.Prelude.{◌≡◌, ℕ, ◌≤◌, SomeIff};
+ghost use Rattle.xm_ticks.specs.declared.numbers.TheConstants.{MAX_PRICE, MAX_QUANTITY, MAX_TICK_SIZE, MAX_JOURNAL_LIMIT};
 
 use std::marker::Model;
 
-/// A price, 1 to 1,000,000 ticks of its security.
+/// The highest price, in ticks.
+pub const MAX_PRICE: u32 = 1_000_000;
+
+/// The highest quantity, in units.
+pub const MAX_QUANTITY: u32 = 1_000_000;
+
+/// The largest tick, in ten-thousandths of a euro.
+pub const MAX_TICK_SIZE: u32 = 10_000;
+
+/// The most commands of members that a journal takes.
+pub const MAX_JOURNAL_LIMIT: u32 = 1_000_000;
+
+/// A price, 1 to `MAX_PRICE` ticks of its security.
 #[derive(Clone, Copy, PartialEq, Eq, PartialOrd, Ord, Hash, Debug)]
 pub struct Price {
     ticks: u32,
@@ -14,7 +27,7 @@ impl Model for Price {
 
     ghost view = { λ p. p.ticks };
 
-    ghost invariant = { λ p. (1 ≤ p.ticks) × (p.ticks ≤ 1000000) };
+    ghost invariant = { λ p. (1 ≤ p.ticks) × (p.ticks ≤ MAX_PRICE) };
 
     ghost inverse = { λ n. record { ticks = n } };
 }
@@ -22,9 +35,9 @@ impl Model for Price {
 impl Price {
     /// The price of this many ticks, if they are in range.
     pub fn new(ticks: u32) -> Option<Price>
-        ensures { SomeIff result ((1 ≤ ticks) × (ticks ≤ 1000000)) ticks }
+        ensures { SomeIff result ((1 ≤ ticks) × (ticks ≤ MAX_PRICE)) ticks }
     {
-        if (1..=1_000_000).contains(&ticks) {
+        if (1..=MAX_PRICE).contains(&ticks) {
             Some(Price { ticks })
         } else {
             None
@@ -35,13 +48,13 @@ impl Price {
     pub fn get(self) -> u32
         ensures value { result ≡ self }
         ensures low { 1 ≤ result }
-        ensures high { result ≤ 1000000 }
+        ensures high { result ≤ MAX_PRICE }
     {
         self.ticks
     }
 }
 
-/// A quantity, 1 to 1,000,000 units of its security.
+/// A quantity, 1 to `MAX_QUANTITY` units of its security.
 #[derive(Clone, Copy, PartialEq, Eq, PartialOrd, Ord, Hash, Debug)]
 pub struct Quantity {
     units: u32,
@@ -52,7 +65,7 @@ impl Model for Quantity {
 
     ghost view = { λ q. q.units };
 
-    ghost invariant = { λ q. (1 ≤ q.units) × (q.units ≤ 1000000) };
+    ghost invariant = { λ q. (1 ≤ q.units) × (q.units ≤ MAX_QUANTITY) };
 
     ghost inverse = { λ n. record { units = n } };
 }
@@ -60,9 +73,9 @@ impl Model for Quantity {
 impl Quantity {
     /// The quantity of this many units, if they are in range.
     pub fn new(units: u32) -> Option<Quantity>
-        ensures { SomeIff result ((1 ≤ units) × (units ≤ 1000000)) units }
+        ensures { SomeIff result ((1 ≤ units) × (units ≤ MAX_QUANTITY)) units }
     {
-        if (1..=1_000_000).contains(&units) {
+        if (1..=MAX_QUANTITY).contains(&units) {
             Some(Quantity { units })
         } else {
             None
@@ -73,13 +86,13 @@ impl Quantity {
     pub fn get(self) -> u32
         ensures value { result ≡ self }
         ensures low { 1 ≤ result }
-        ensures high { result ≤ 1000000 }
+        ensures high { result ≤ MAX_QUANTITY }
     {
         self.units
     }
 }
 
-/// The size of a tick, 1 to 10,000 ten-thousandths of a euro.
+/// The size of a tick, 1 to `MAX_TICK_SIZE` ten-thousandths of a euro.
 #[derive(Clone, Copy, PartialEq, Eq, PartialOrd, Ord, Hash, Debug)]
 pub struct TickSize {
     ten_thousandths: u32,
@@ -90,7 +103,7 @@ impl Model for TickSize {
 
     ghost view = { λ t. t.ten_thousandths };
 
-    ghost invariant = { λ t. (1 ≤ t.ten_thousandths) × (t.ten_thousandths ≤ 10000) };
+    ghost invariant = { λ t. (1 ≤ t.ten_thousandths) × (t.ten_thousandths ≤ MAX_TICK_SIZE) };
 
     ghost inverse = { λ n. record { ten_thousandths = n } };
 }
@@ -101,9 +114,9 @@ impl TickSize {
 
     /// The tick size of this many ten-thousandths of a euro, if they are in range.
     pub fn new(ten_thousandths: u32) -> Option<TickSize>
-        ensures { SomeIff result ((1 ≤ ten_thousandths) × (ten_thousandths ≤ 10000)) ten_thousandths }
+        ensures { SomeIff result ((1 ≤ ten_thousandths) × (ten_thousandths ≤ MAX_TICK_SIZE)) ten_thousandths }
     {
-        if (1..=10_000).contains(&ten_thousandths) {
+        if (1..=MAX_TICK_SIZE).contains(&ten_thousandths) {
             Some(TickSize { ten_thousandths })
         } else {
             None
@@ -114,13 +127,13 @@ impl TickSize {
     pub fn get(self) -> u32
         ensures value { result ≡ self }
         ensures low { 1 ≤ result }
-        ensures high { result ≤ 10000 }
+        ensures high { result ≤ MAX_TICK_SIZE }
     {
         self.ten_thousandths
     }
 }
 
-/// How many commands of members a journal takes, 1 to 1,000,000.
+/// How many commands of members a journal takes, 1 to `MAX_JOURNAL_LIMIT`.
 #[derive(Clone, Copy, PartialEq, Eq, PartialOrd, Ord, Hash, Debug)]
 pub struct JournalLimit {
     commands: u32,
@@ -131,7 +144,7 @@ impl Model for JournalLimit {
 
     ghost view = { λ l. l.commands };
 
-    ghost invariant = { λ l. (1 ≤ l.commands) × (l.commands ≤ 1000000) };
+    ghost invariant = { λ l. (1 ≤ l.commands) × (l.commands ≤ MAX_JOURNAL_LIMIT) };
 
     ghost inverse = { λ n. record { commands = n } };
 }
@@ -139,9 +152,9 @@ impl Model for JournalLimit {
 impl JournalLimit {
     /// The limit of this many commands, if they are in range.
     pub fn new(commands: u32) -> Option<JournalLimit>
-        ensures { SomeIff result ((1 ≤ commands) × (commands ≤ 1000000)) commands }
+        ensures { SomeIff result ((1 ≤ commands) × (commands ≤ MAX_JOURNAL_LIMIT)) commands }
     {
-        if (1..=1_000_000).contains(&commands) {
+        if (1..=MAX_JOURNAL_LIMIT).contains(&commands) {
             Some(JournalLimit { commands })
         } else {
             None
@@ -152,7 +165,7 @@ impl JournalLimit {
     pub fn get(self) -> u32
         ensures value { result ≡ self }
         ensures low { 1 ≤ result }
-        ensures high { result ≤ 1000000 }
+        ensures high { result ≤ MAX_JOURNAL_LIMIT }
     {
         self.commands
     }

@@ -5,26 +5,29 @@ ghost use Rattle.xm_ticks.specs.Reading.{number_of, point_of, price_of, price_of
 
 use crate::numbers::{Price, TickSize};
 
+/// The most bytes that the text of a number or a price has.
+pub const MAX_NUMBER_LENGTH: usize = 16;
+
 /// Why a text is no price, in the order of the checks.
 #[derive(Clone, Copy, PartialEq, Eq, Debug)]
 pub enum PriceFault {
-    /// It isn't at most 16 bytes of digits, with or without a point between digits.
+    /// It isn't at most `MAX_NUMBER_LENGTH` bytes of digits, with or without a point between digits.
     NotANumber,
     /// It has more than four decimals.
     TooManyDecimals,
     /// It is no multiple of the tick size.
     OffTick,
-    /// It is not 1 to 1,000,000 ticks.
+    /// It is not 1 to `MAX_PRICE` ticks.
     OutOfRange,
 }
 
 /// Reads a price in euros, as `12.345`.
 ///
-/// A price text has at most 16 bytes: digits, then optionally a point and digits.
+/// A price text has at most `MAX_NUMBER_LENGTH` bytes: digits, then optionally a point and digits.
 pub fn read_price(text: &[u8], tick: TickSize) -> Result<Price, PriceFault>
     ensures { result ≡ price_of text.now tick }
 {
-    if text.len() > 16 {
+    if text.len() > MAX_NUMBER_LENGTH {
         return Err(PriceFault::NotANumber);
     }
     match point(text) {
@@ -46,11 +49,11 @@ fn point(text: &[u8]) -> Option<usize>
     text.iter().position(|byte| *byte == b'.')
 }
 
-/// The number that up to 16 digits write, if there is a digit and nothing else.
+/// The number that up to `MAX_NUMBER_LENGTH` digits write, if there is a digit and nothing else.
 pub fn read_number(text: &[u8]) -> Option<u64>
-    requires { length text.now ≤ 16 }
+    requires { length text.now ≤ MAX_NUMBER_LENGTH }
     ensures value { result ≡ number_of text.now }
-    ensures small { IfSome result (λ n. n < 10 ^ 16) }
+    ensures small { IfSome result (λ n. n < 10 ^ MAX_NUMBER_LENGTH) }
 {
     if text.is_empty() {
         return None;
@@ -72,7 +75,7 @@ fn price_of_parts(
     places: usize,
     tick: TickSize,
 ) -> Result<Price, PriceFault>
-    requires { ForSome decimals (λ n. n < 10 ^ 16) }
+    requires { ForSome decimals (λ n. n < 10 ^ MAX_NUMBER_LENGTH) }
     ensures { result ≡ price_of_parts whole decimals places tick }
 {
     match whole {

@@ -1,12 +1,14 @@
--- The orders, commands and settings of the worked rows.
-use Rattle.std.specs.Prelude.{ℕ, Bool, map, List, [], ◌∷◌, ◌++◌, Some, None}
+-- The orders, commands and settings of the worked examples.
+use Rattle.std.specs.Prelude.{ℕ, Bool, map, List, [], ◌∷◌, ◌++◌, Option, Some, None}
 use Rattle.xm_rules.specs.Active.{is_active}
 use Rattle.xm_rules.specs.Allotment.{Uncrossing}
+use Rattle.xm_rules.specs.Auction.{auction_price}
+use Rattle.xm_rules.specs.Refusals.{refusal_of}
 use Rattle.xm_rules.specs.State.{State, ref1, ref2}
 use Rattle.xm_rules.specs.Step.{step, reply, replay, Journal}
 use Rattle.xm_rules.specs.Sweep.{Sweep}
 use Rattle.xm_rules.specs.declared.commands.Command.{Command}
-use Rattle.xm_rules.specs.declared.commands.Command.TheVariants.{Enter, Change, StartOpening, StartIntraday, StartClosing, Uncross}
+use Rattle.xm_rules.specs.declared.commands.Command.TheVariants.{Enter, Change, StartOpening, StartIntraday, StartClosing, Uncross, EndDay}
 use Rattle.xm_rules.specs.declared.commands.Condition.TheVariants.{Plain}
 use Rattle.xm_rules.specs.declared.commands.Kind.{Kind}
 use Rattle.xm_rules.specs.declared.commands.Kind.TheVariants as kind
@@ -25,6 +27,8 @@ use Rattle.xm_rules.specs.declared.phases.Auction.TheVariants.{Opening, Intraday
 use Rattle.xm_rules.specs.declared.phases.CallStage.TheVariants.{Ordinary, Interrupted}
 use Rattle.xm_rules.specs.declared.phases.Phase.{Phase}
 use Rattle.xm_rules.specs.declared.phases.Phase.TheVariants.{PreTrading, Call, Continuous, PostTrading, Ended}
+use Rattle.xm_rules.specs.declared.replies.Refusal.{Refusal}
+use Rattle.xm_rules.specs.declared.replies.Refusal.TheVariants.{WrongPhase}
 use Rattle.xm_rules.specs.declared.replies.Reply.{Reply}
 use Rattle.xm_rules.specs.declared.settings.DeskSettings.{DeskSettings}
 
@@ -70,6 +74,10 @@ standing phase orders stops = record { settings = settings; accepted = 2; phase 
 -- the price of the last trade, and that of the last auction trade
 abbrev pub references : State → ℕ × ℕ
 references s = (ref1 s, ref2 s)
+
+-- the price and the volume at which the call of a state would end now
+abbrev pub call_price : State → Option (ℕ × ℕ)
+call_price s = auction_price s.phase s.orders (ref1 s)
 
 -- an order coming into a time list in continuous trading, with reference prices of 1000
 abbrev pub sweep : List Order → Order → Sweep
@@ -170,6 +178,14 @@ two_buys = StartOpening ∷ enter 0 1 Buy (kind.Limit 1000) 10 ∷ enter 1 1 Buy
 abbrev pub three_changes : List Command
 three_changes = two_buys ++ Change 0 1 6 None ∷ Change 0 1 6 (Some 1000) ∷ Change 0 1 9 None ∷ []
 
+-- two market buys in an opening call
+abbrev pub two_market_buys : List Command
+two_market_buys = StartOpening ∷ enter 0 1 Buy kind.Market 10 ∷ enter 1 1 Buy kind.Market 10 ∷ []
+
+-- a buy for auctions that stays till cancelled, and one behind it
+abbrev pub lasting_buy : List Command
+lasting_buy = StartOpening ∷ Enter 0 1 Buy (kind.Limit 1000) 10 TillCancelled AuctionsOnly Plain ∷ enter 1 1 Buy (kind.Limit 1000) 10 ∷ []
+
 -- a stop that stays till cancelled, and a closing call that reaches it
 abbrev pub closing_day : List Command
 closing_day =
@@ -209,3 +225,14 @@ ended = record in_call { phase = Ended }
 -- the same after so many accepted commands
 abbrev pub with_accepted : ℕ → State
 with_accepted accepted = record in_call { accepted = accepted }
+
+-- what the commands of the phases get: to start the opening, an intraday and the closing call, to end a call, to end the day
+abbrev pub refusals_in : Phase → List (Option Refusal)
+refusals_in phase = map (refusal_of (record in_call { phase = phase })) (StartOpening ∷ StartIntraday ∷ StartClosing ∷ Uncross ∷ EndDay ∷ [])
+
+abbrev pub wrong : Option Refusal
+wrong = Some WrongPhase
+
+-- the phase after a call without an order
+abbrev pub after_empty : Phase → Phase
+after_empty phase = (step (standing phase [] []) Uncross).phase

@@ -3,15 +3,15 @@
 
 ghost use Rattle.std.specs.Prelude.{◌≡◌, [], ◌∷◌, Some, None};
 ghost use Rattle.xm_rules.specs.Refusals.{refusal_of};
-ghost use Rattle.xm_rules.specs.Rows.{enter, standing, in_call, ended, with_accepted};
+ghost use Rattle.xm_rules.specs.Examples.{enter, standing, in_call, ended, with_accepted, refusals_in, wrong};
 ghost use Rattle.xm_rules.specs.declared.commands.Command.TheVariants.{Enter, Change, Cancel, CancelAll, StartOpening, StartIntraday, StartClosing, Uncross, EndDay};
 ghost use Rattle.xm_rules.specs.declared.commands.Condition.TheVariants.{Plain, Ioc, Fok};
 ghost use Rattle.xm_rules.specs.declared.commands.Kind.TheVariants as kind;
 ghost use Rattle.xm_rules.specs.declared.orders.Restriction.TheVariants.{Free, OpeningOnly, AuctionsOnly, ClosingOnly};
 ghost use Rattle.xm_rules.specs.declared.orders.Side.TheVariants.{Buy, Sell};
 ghost use Rattle.xm_rules.specs.declared.orders.Validity.TheVariants.{Day, TillDate, TillCancelled};
-ghost use Rattle.xm_rules.specs.declared.phases.Auction.TheVariants.{Opening};
-ghost use Rattle.xm_rules.specs.declared.phases.CallStage.TheVariants.{Ordinary};
+ghost use Rattle.xm_rules.specs.declared.phases.Auction.TheVariants.{Opening, Intraday, Closing, Interruption};
+ghost use Rattle.xm_rules.specs.declared.phases.CallStage.TheVariants.{Ordinary, Interrupted, Extended};
 ghost use Rattle.xm_rules.specs.declared.phases.Phase.TheVariants.{PreTrading, Call, Continuous, PostTrading, Ended};
 ghost use Rattle.xm_rules.specs.declared.replies.Refusal.TheVariants.{UnknownMember, DayEnded, BadQuantity, BadPrice, BadValidity, BadCombination, WrongPhase, DuplicateReference, UnknownOrder, NotChangeable, TriggerReached, JournalFull};
 
@@ -71,20 +71,29 @@ pub fn refusals_of_changes_and_cancellations()
     ensures cancel_all_at_the_journals_end { refusal_of (with_accepted 1000) (CancelAll 0) ≡ Some JournalFull }
 {}
 
-/// The refusals of the commands of the phases: each is allowed in its phase alone, and has 64 entries more in the journal.
-pub fn refusals_of_phase_commands()
-    ensures opening { refusal_of (standing PreTrading [] []) StartOpening ≡ None }
-    ensures opening_twice { refusal_of in_call StartOpening ≡ Some WrongPhase }
-    ensures intraday { refusal_of (standing Continuous [] []) StartIntraday ≡ None }
-    ensures intraday_in_a_call { refusal_of in_call StartIntraday ≡ Some WrongPhase }
-    ensures closing { refusal_of (standing Continuous [] []) StartClosing ≡ None }
-    ensures closing_in_a_call { refusal_of in_call StartClosing ≡ Some WrongPhase }
-    ensures uncross { refusal_of in_call Uncross ≡ None }
-    ensures uncross_in_continuous { refusal_of (standing Continuous [] []) Uncross ≡ Some WrongPhase }
-    ensures end { refusal_of (standing PostTrading [] []) EndDay ≡ None }
-    ensures end_in_continuous { refusal_of (standing Continuous [] []) EndDay ≡ Some WrongPhase }
-    ensures after_the_day { refusal_of ended EndDay ≡ Some DayEnded }
-    ensures past_the_journals_end { refusal_of (with_accepted 1063) Uncross ≡ None }
+/// Which commands of the phases are refused in which phase: a call, of whatever auction and stage, only ends.
+pub fn phase_commands_in_each_phase()
+    ensures pre_trading { refusals_in PreTrading ≡ None ∷ wrong ∷ wrong ∷ wrong ∷ wrong ∷ [] }
+    ensures opening { refusals_in (Call Opening Ordinary) ≡ wrong ∷ wrong ∷ wrong ∷ None ∷ wrong ∷ [] }
+    ensures opening_interrupted { refusals_in (Call Opening Interrupted) ≡ wrong ∷ wrong ∷ wrong ∷ None ∷ wrong ∷ [] }
+    ensures opening_extended { refusals_in (Call Opening Extended) ≡ wrong ∷ wrong ∷ wrong ∷ None ∷ wrong ∷ [] }
+    ensures continuous { refusals_in Continuous ≡ wrong ∷ None ∷ None ∷ wrong ∷ wrong ∷ [] }
+    ensures intraday { refusals_in (Call Intraday Ordinary) ≡ wrong ∷ wrong ∷ wrong ∷ None ∷ wrong ∷ [] }
+    ensures intraday_interrupted { refusals_in (Call Intraday Interrupted) ≡ wrong ∷ wrong ∷ wrong ∷ None ∷ wrong ∷ [] }
+    ensures intraday_extended { refusals_in (Call Intraday Extended) ≡ wrong ∷ wrong ∷ wrong ∷ None ∷ wrong ∷ [] }
+    ensures interruption { refusals_in (Call Interruption Ordinary) ≡ wrong ∷ wrong ∷ wrong ∷ None ∷ wrong ∷ [] }
+    ensures interruption_interrupted { refusals_in (Call Interruption Interrupted) ≡ wrong ∷ wrong ∷ wrong ∷ None ∷ wrong ∷ [] }
+    ensures interruption_extended { refusals_in (Call Interruption Extended) ≡ wrong ∷ wrong ∷ wrong ∷ None ∷ wrong ∷ [] }
+    ensures closing { refusals_in (Call Closing Ordinary) ≡ wrong ∷ wrong ∷ wrong ∷ None ∷ wrong ∷ [] }
+    ensures closing_interrupted { refusals_in (Call Closing Interrupted) ≡ wrong ∷ wrong ∷ wrong ∷ None ∷ wrong ∷ [] }
+    ensures closing_extended { refusals_in (Call Closing Extended) ≡ wrong ∷ wrong ∷ wrong ∷ None ∷ wrong ∷ [] }
+    ensures post_trading { refusals_in PostTrading ≡ wrong ∷ wrong ∷ wrong ∷ wrong ∷ None ∷ [] }
+    ensures ended { refusals_in Ended ≡ Some DayEnded ∷ Some DayEnded ∷ Some DayEnded ∷ Some DayEnded ∷ Some DayEnded ∷ [] }
+{}
+
+/// A command of the phases has 64 entries more in the journal, and none is taken after the day.
+pub fn phase_commands_at_the_journals_end()
+    ensures past_the_end { refusal_of (with_accepted 1063) Uncross ≡ None }
     ensures at_the_last_end { refusal_of (with_accepted 1064) Uncross ≡ Some JournalFull }
 {}
 

@@ -4,7 +4,7 @@
 ghost use Rattle.std.specs.Prelude.{◌≡◌, [], ◌∷◌, ◌++◌, true, Some, None};
 ghost use Rattle.xm_rules.specs.Quote.{quote};
 ghost use Rattle.xm_rules.specs.Refusals.{refusal_of};
-ghost use Rattle.xm_rules.specs.Rows.{cascade_book, falling_sell, held_stops, one_stop, references, order, stop, enter, trade, settings, journal, after, opened, answer, two_buys, three_changes, closing_day, eight_orders};
+ghost use Rattle.xm_rules.specs.Examples.{cascade_book, falling_sell, held_stops, one_stop, references, order, stop, enter, trade, settings, journal, after, opened, answer, two_buys, two_market_buys, lasting_buy, three_changes, closing_day, eight_orders};
 ghost use Rattle.xm_rules.specs.Step.{step, replay, is_lawful};
 ghost use Rattle.xm_rules.specs.Sums.{bought, sold, paid, received, total_quantity, total_money};
 ghost use Rattle.xm_rules.specs.declared.commands.Command.TheVariants.{Enter, Change, Cancel, CancelAll, StartOpening, StartClosing, Uncross, EndDay};
@@ -35,6 +35,8 @@ pub fn change_keeps_or_loses_place()
       sweeps = 0;
     } }
     ensures other_limit { (after (two_buys ++ Change 0 1 10 (Some 999) ∷ [])).orders ≡ order 1 1 Buy (Limit 1000) 10 ∷ order 0 1 Buy (Limit 999) 10 ∷ [] }
+    ensures other_limit_lower { (after (two_buys ++ Change 0 1 6 (Some 999) ∷ [])).orders ≡ order 1 1 Buy (Limit 1000) 10 ∷ order 0 1 Buy (Limit 999) 6 ∷ [] }
+    ensures better_limit_lower { (after (two_buys ++ Change 0 1 6 (Some 1001) ∷ [])).orders ≡ order 1 1 Buy (Limit 1000) 10 ∷ order 0 1 Buy (Limit 1001) 6 ∷ [] }
     ensures taken { refusal_of (after (two_buys ++ Change 0 1 9 None ∷ [])) (enter 0 1 Buy (kind.Limit 1000) 10) ≡ Some DuplicateReference }
     ensures cancelled { (after (two_buys ++ Cancel 1 1 ∷ [])).orders ≡ order 0 1 Buy (Limit 1000) 10 ∷ [] }
     ensures cancelled_again { refusal_of (after (two_buys ++ Cancel 1 1 ∷ [])) (Cancel 1 1) ≡ Some UnknownOrder }
@@ -52,6 +54,25 @@ pub fn change_keeps_or_loses_place()
     ensures references { references (after (three_changes ++ Cancel 1 1 ∷ enter 1 1 Buy (kind.Limit 1000) 10 ∷ [])) ≡ (1000, 1000) }
     ensures reply { answer (three_changes ++ Cancel 1 1 ∷ []) (enter 1 1 Buy (kind.Limit 1000) 10)
         ≡ record { version = 8; first_trade = 0; trades = 0; quantity = 0; money = 0; phase = Call Opening Ordinary } }
+{}
+
+/// A changed market order keeps its place at a lower quantity or the same one, and loses it at a higher one.
+pub fn changed_market_order()
+    ensures lower { (after (two_market_buys ++ Change 0 1 6 None ∷ [])).orders ≡ order 0 1 Buy Market 6 ∷ order 1 1 Buy Market 10 ∷ [] }
+    ensures same { (after (two_market_buys ++ Change 0 1 10 None ∷ [])).orders ≡ order 0 1 Buy Market 10 ∷ order 1 1 Buy Market 10 ∷ [] }
+    ensures higher { (after (two_market_buys ++ Change 0 1 11 None ∷ [])).orders ≡ order 1 1 Buy Market 10 ∷ order 0 1 Buy Market 11 ∷ [] }
+{}
+
+/// A changed order keeps its validity and its restriction, whether it keeps its place or comes in again.
+pub fn changed_order_keeps_its_terms()
+    ensures lower { (after (lasting_buy ++ Change 0 1 6 None ∷ [])).orders
+        ≡ record (order 0 1 Buy (Limit 1000) 6) { validity = TillCancelled; restriction = AuctionsOnly } ∷ order 1 1 Buy (Limit 1000) 10 ∷ [] }
+    ensures higher { (after (lasting_buy ++ Change 0 1 11 None ∷ [])).orders
+        ≡ order 1 1 Buy (Limit 1000) 10 ∷ record (order 0 1 Buy (Limit 1000) 11) { validity = TillCancelled; restriction = AuctionsOnly } ∷ [] }
+    ensures other_limit { (after (lasting_buy ++ Change 0 1 10 (Some 999) ∷ [])).orders
+        ≡ order 1 1 Buy (Limit 1000) 10 ∷ record (order 0 1 Buy (Limit 999) 10) { validity = TillCancelled; restriction = AuctionsOnly } ∷ [] }
+    ensures swept { (after (opened (Enter 0 1 Buy (kind.Limit 990) 10 (TillDate 20260106) Free Plain ∷ enter 1 1 Sell (kind.Limit 1000) 4 ∷ Change 0 1 10 (Some 1000) ∷ []))).orders
+        ≡ record (order 0 1 Buy (Limit 1000) 6) { validity = TillDate 20260106 } ∷ [] }
 {}
 
 /// In continuous trading an order that is given a limit that crosses is swept; one for auctions alone joins without a sweep.

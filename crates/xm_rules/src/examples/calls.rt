@@ -5,7 +5,7 @@ ghost use Rattle.std.specs.Prelude.{◌≡◌, [], ◌∷◌, Some, None, true, 
 ghost use Rattle.xm_rules.specs.Active.{is_active};
 ghost use Rattle.xm_rules.specs.Allotment.{auction_trades, orders_after_call};
 ghost use Rattle.xm_rules.specs.Auction.{auction_price};
-ghost use Rattle.xm_rules.specs.Rows.{takes_part_in, crossed_orders, four_orders, queued_orders, order, buy, sell, trade, uncrossing};
+ghost use Rattle.xm_rules.specs.Examples.{takes_part_in, crossed_orders, four_orders, queued_orders, order, buy, sell, trade, uncrossing};
 ghost use Rattle.xm_rules.specs.declared.orders.OrderKind.TheVariants.{Market, Limit};
 ghost use Rattle.xm_rules.specs.declared.orders.Restriction.TheVariants.{Free, OpeningOnly, AuctionsOnly, ClosingOnly};
 ghost use Rattle.xm_rules.specs.declared.orders.Side.TheVariants.{Buy, Sell};

@@ -1,16 +1,16 @@
 //! Whole replays with auctions.
 #![tactic(auto, unfolding(crate::specs::Refusals::refusal_of, crate::specs::Step::step, crate::specs::Step::reply, crate::specs::Step::replay, crate::specs::Step::is_lawful))]
 
-ghost use Rattle.std.specs.Prelude.{◌≡◌, [], ◌∷◌, ◌++◌, true};
-ghost use Rattle.xm_rules.specs.Rows.{open_spread, references, order, enter, trade, settings, journal, after, answer, distant_call, drifted_call, waiting_order};
+ghost use Rattle.std.specs.Prelude.{◌≡◌, [], ◌∷◌, ◌++◌, true, Some};
+ghost use Rattle.xm_rules.specs.Examples.{open_spread, references, order, enter, trade, settings, journal, after, answer, distant_call, drifted_call, waiting_order, call_price, after_empty};
 ghost use Rattle.xm_rules.specs.Step.{is_lawful};
-ghost use Rattle.xm_rules.specs.declared.commands.Command.TheVariants.{StartOpening, StartIntraday, StartClosing, Uncross};
+ghost use Rattle.xm_rules.specs.declared.commands.Command.TheVariants.{Cancel, StartOpening, StartIntraday, StartClosing, Uncross};
 ghost use Rattle.xm_rules.specs.declared.commands.Kind.TheVariants as kind;
 ghost use Rattle.xm_rules.specs.declared.orders.OrderKind.TheVariants.{Limit};
 ghost use Rattle.xm_rules.specs.declared.orders.Restriction.TheVariants.{AuctionsOnly};
 ghost use Rattle.xm_rules.specs.declared.orders.Side.TheVariants.{Buy, Sell};
 ghost use Rattle.xm_rules.specs.declared.orders.TradeKind.TheVariants as made;
-ghost use Rattle.xm_rules.specs.declared.phases.Auction.TheVariants.{Opening, Intraday};
+ghost use Rattle.xm_rules.specs.declared.phases.Auction.TheVariants.{Opening, Intraday, Closing, Interruption};
 ghost use Rattle.xm_rules.specs.declared.phases.CallStage.TheVariants.{Ordinary, Interrupted, Extended};
 ghost use Rattle.xm_rules.specs.declared.phases.Phase.TheVariants.{Call, Continuous, PostTrading};
 
@@ -51,6 +51,41 @@ pub fn extended_auction()
       sweeps = 1;
     } }
     ensures references { references (after (distant_call ++ Uncross ∷ Uncross ∷ Uncross ∷ [])) ≡ (1100, 1100) }
+{}
+
+/// What a call would trade at doesn't depend on its stage.
+pub fn price_in_each_stage()
+    ensures ordinary { call_price (after distant_call) ≡ Some (1100, 10) }
+    ensures interrupted { call_price (after (distant_call ++ Uncross ∷ [])) ≡ Some (1100, 10) }
+    ensures extended { call_price (after (distant_call ++ Uncross ∷ Uncross ∷ [])) ≡ Some (1100, 10) }
+{}
+
+/// An interrupted or an extended call without a price ends without a trade, as an ordinary one does.
+pub fn later_stages_without_a_price()
+    ensures interrupted { after (distant_call ++ Uncross ∷ Cancel 1 1 ∷ Uncross ∷ []) ≡ record {
+      settings = settings;
+      accepted = 6;
+      phase = Continuous;
+      orders = order 0 1 Buy (Limit 1100) 10 ∷ [];
+      stops = [];
+      trades = [];
+      sweeps = 0;
+    } }
+    ensures extended { after (distant_call ++ Uncross ∷ Uncross ∷ Cancel 1 1 ∷ Uncross ∷ []) ≡ record {
+      settings = settings;
+      accepted = 7;
+      phase = Continuous;
+      orders = order 0 1 Buy (Limit 1100) 10 ∷ [];
+      stops = [];
+      trades = [];
+      sweeps = 0;
+    } }
+    ensures intraday { after_empty (Call Intraday Interrupted) ≡ Continuous }
+    ensures intraday_extended { after_empty (Call Intraday Extended) ≡ Continuous }
+    ensures interruption { after_empty (Call Interruption Interrupted) ≡ Continuous }
+    ensures interruption_extended { after_empty (Call Interruption Extended) ≡ Continuous }
+    ensures closing { after_empty (Call Closing Interrupted) ≡ PostTrading }
+    ensures closing_extended { after_empty (Call Closing Extended) ≡ PostTrading }
 {}
 
 /// A potential price inside the dynamic range and outside the static one interrupts the call; an interrupted call asks the

@@ -2,7 +2,7 @@
 #![tactic(auto, unfolding(crate::specs::Refusals::refusal_of, crate::specs::Step::step, crate::specs::Step::reply, crate::specs::Step::replay, crate::specs::Step::is_lawful))]
 
 ghost use Rattle.std.specs.Prelude.{◌≡◌, [], ◌∷◌, ◌++◌, true, false};
-ghost use Rattle.xm_rules.specs.Rows.{distant_book, distant_sell, distant_sells, falling_buys, resting_buys, resting_sells, references, order, stop, enter, buy, sell, trade, settings, journal, after, opened, answer, sweep, cascade_book, full_cascade_book, cut_cascade_book, falling_sell};
+ghost use Rattle.xm_rules.specs.Examples.{distant_book, distant_sell, distant_sells, falling_buys, resting_buys, resting_sells, references, order, stop, enter, buy, sell, trade, settings, journal, after, opened, answer, sweep, cascade_book, full_cascade_book, cut_cascade_book, falling_sell};
 ghost use Rattle.xm_rules.specs.Step.{is_lawful};
 ghost use Rattle.xm_rules.specs.Sweep.{sweep_trades, rest_after, is_interrupted, is_fillable, orders_after_sweep};
 ghost use Rattle.xm_rules.specs.declared.commands.Command.TheVariants.{Enter, Uncross};
