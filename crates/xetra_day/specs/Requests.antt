@@ -1,5 +1,5 @@
 -- How the words of a command line are answered.
-use Rattle.std.specs.Prelude.{◌≡◌, ◌==◌, ℕ, Bool, true, not, if◌then◌else◌, List, [], ◌∷◌, Option, Some, None, Result, Ok, Err, ⊤, codes}
+use Rattle.std.specs.Prelude.{◌≡◌, ◌==◌, ℕ, Bool, false, true, not, if◌then◌else◌, List, [], ◌∷◌, Option, Some, None, Result, Ok, Err, ⊤, codes}
 use Rattle.std.specs.Str.{bytes_eq}
 use Rattle.clap.specs.Values.{kind_of}
 use Rattle.clap.specs.Words.{App, Row, Rule, Text, first_of, new_app, new_rule, subcommand_of, with_rule, with_subcommand}
@@ -26,7 +26,7 @@ run_app = with_rule (with_rule (new_app (codes "run")) (path_rule (codes "SEGMEN
 
 -- `xetra-day`, with a subcommand
 abbrev pub day_app : App
-day_app = with_subcommand (on_top (λ s. record s { subcommand_required = true; arg_required_else_help = true })
+day_app = with_subcommand (on_top (λ s. record s { has_version = true; subcommand_required = true; arg_required_else_help = true })
     (new_app (codes "xetra-day"))) run_app.top
 
 -- the two paths among the values of a subcommand
@@ -80,6 +80,18 @@ answer_at error _ = Err (Words error)
 abbrev pub answer_of : Error → Result Request Failure
 answer_of error = answer_at error (kind_of error)
 
+-- an error of the command line that tells of a mistake, and not a help text, the version or want of memory
+abbrev pub is_mistake : ErrorKind → Bool
+is_mistake kind.DisplayHelp = false
+is_mistake kind.DisplayVersion = false
+is_mistake kind.OutOfMemory = false
+is_mistake _ = true
+
+-- a failure that is told as one: its words are mistaken
+abbrev pub IsTold : Failure → Type 0
+IsTold (Day fault) = ⊤
+IsTold (Words error) = is_mistake (kind_of error) ≡ true
+
 -- words that are not text are a mistake, or memory is wanting
 abbrev pub RefusesBytes : Failure → Type 0
 RefusesBytes (Day fault) = fault ≡ day.OutOfMemory
@@ -89,3 +101,8 @@ RefusesBytes (Words error) = kind_of error ≡ kind.ValueValidation
 abbrev pub failure_status : Failure → ℕ
 failure_status (Day fault) = 1
 failure_status (Words error) = 2
+
+-- the status that the program ends with: 0 where it did what it was asked for
+abbrev pub end_status : Result (Unit {0}) Failure → ℕ
+end_status (Ok done) = 0
+end_status (Err failure) = failure_status failure
