@@ -1,8 +1,8 @@
 -- How the words of a command line are answered.
-use Rattle.std.specs.Prelude.{◌≡◌, ◌==◌, ℕ, Bool, false, true, not, if◌then◌else◌, List, [], ◌∷◌, Option, Some, None, Result, Ok, Err, ⊤, codes}
+use Rattle.std.specs.Prelude.{◌≡◌, ◌==◌, ℕ, Bool, false, true, not, if◌then◌else◌, ◌⊎◌, List, [], ◌∷◌, Option, Some, None, Result, Ok, Err, ⊤, codes}
 use Rattle.std.specs.Str.{bytes_eq}
 use Rattle.clap.specs.Values.{kind_of}
-use Rattle.clap.specs.Words.{App, Row, Rule, Text, first_of, new_app, new_rule, subcommand_of, with_rule, with_subcommand}
+use Rattle.clap.specs.Words.{App, IsAmong, Kinds, Row, Rule, Text, first_of, new_app, new_rule, subcommand_of, with_rule, with_subcommand}
 use Rattle.clap.specs.Simple.{on_top}
 use Rattle.clap.specs.declared.builder.action.ArgAction.TheVariants.{Set}
 use Rattle.clap.specs.declared.error.Error.{Error}
@@ -70,7 +70,7 @@ abbrev pub IsOfPaths : Option (Text × Text) → Request → Type 0
 IsOfPaths paths (Run s o) = paths ≡ Some (s.now, o.now)
 IsOfPaths paths (Help error) = ⊤
 
-abbrev answer_at : Error → ErrorKind → Result Request Failure
+abbrev pub answer_at : Error → ErrorKind → Result Request Failure
 answer_at error kind.DisplayHelp = Ok (Help error)
 answer_at error kind.DisplayVersion = Ok (Help error)
 answer_at error kind.OutOfMemory = Err (Day day.OutOfMemory)
@@ -91,6 +91,20 @@ is_mistake _ = true
 abbrev pub IsTold : Failure → Type 0
 IsTold (Day fault) = ⊤
 IsTold (Words error) = is_mistake (kind_of error) ≡ true
+
+-- what an error of words with these faults and these paths is: want of memory, one of the faults, or that no run is asked for
+-- where there is no fault
+abbrev pub IsOfWords : Kinds → Option (Text × Text) → Error → Type 0
+IsOfWords faults paths error = (kind_of error ≡ kind.OutOfMemory) ⊎ (IsAmong (kind_of error) faults
+    ⊎ ((kind_of error ≡ kind.MissingSubcommand) × (faults ≡ []) × (paths ≡ None)))
+
+-- the answer to words with these faults and these paths: a run only where there is no fault, help or the version only where
+-- they ask for it, a mistake only for a fault of theirs, or where they ask for no run
+abbrev pub AnswersWords : Kinds → Option (Text × Text) → Result Request Failure → Type 0
+AnswersWords faults paths (Ok (Run segment orders)) = faults ≡ []
+AnswersWords faults paths (Ok (Help error)) = (is_mistake (kind_of error) ≡ false) × IsAmong (kind_of error) faults
+AnswersWords faults paths (Err (Day fault)) = fault ≡ day.OutOfMemory
+AnswersWords faults paths (Err (Words error)) = IsOfWords faults paths error
 
 -- words that are not text are a mistake, or memory is wanting
 abbrev pub RefusesBytes : Failure → Type 0

@@ -1,9 +1,9 @@
 //! What the words of the command line ask for.
-ghost use Rattle.std.specs.Prelude.{◌≡◌, List, ℕ, IfOk, IfErr, IsSome, map, option_map, string_bytes, false, true};
-ghost use Rattle.clap.specs.Words.{app_of, kind_of, subcommand_rows_of, takes};
+ghost use Rattle.std.specs.Prelude.{◌≡◌, List, [], ℕ, IfOk, IfErr, IsSome, map, option_map, string_bytes, false, true};
+ghost use Rattle.clap.specs.Words.{app_of, fault_of, kind_of, subcommand_rows_of, takes};
 ghost use Rattle.clap.specs.declared.builder.command.Command.TheViews.{out-Command as fields_of};
 ghost use Rattle.clap.specs.declared.error.kind.ErrorKind.TheVariants as kind;
-ghost use Rattle.xetra_day.specs.Requests.{AsksRun, IsOfPaths, IsRun, IsTold, answer_of, day_app, failure_status, paths_in, paths_of, run_app};
+ghost use Rattle.xetra_day.specs.Requests.{AnswersWords, AsksRun, IsOfPaths, IsOfWords, IsRun, IsTold, answer_of, day_app, failure_status, paths_in, paths_of, run_app};
 
 use clap::error::ErrorKind;
 use clap::{Arg, ArgAction, ArgMatches, Command, Error};
@@ -82,6 +82,7 @@ impl From<DayFault> for Failure {
 pub fn read_words<'a>(alloc: Global, words: &'a [String]) -> Result<Request<'a>, Failure>
     ensures paths { IfOk result (IsOfPaths (paths_of (map string_bytes words.entry.now))) }
     ensures told { IfErr result IsTold }
+    ensures answered { AnswersWords (fault_of day_app (map string_bytes words.entry.now)) (paths_of (map string_bytes words.entry.now)) result }
     ensures run { (segment orders : List ℕ) → AsksRun (map string_bytes words.entry.now) segment orders
         → IsRun result segment orders }
 {
@@ -107,6 +108,8 @@ fn read_paths<'a>(alloc: Global, words: &'a [String]) -> Result<(&'a str, &'a st
     ensures ok { IfOk result (λ p. paths_of (map string_bytes words.entry.now) ≡ Some (p.0.now, p.1.now)) }
     ensures err { IfErr result (λ e. takes day_app (map string_bytes words.entry.now) ≡ true
         → IsSome (paths_of (map string_bytes words.entry.now)) → kind_of e ≡ kind.OutOfMemory) }
+    ensures faultless { IfOk result (λ _. fault_of day_app (map string_bytes words.entry.now) ≡ []) }
+    ensures fault { IfErr result (IsOfWords (fault_of day_app (map string_bytes words.entry.now)) (paths_of (map string_bytes words.entry.now))) }
 {
     let mut command = command_line(alloc)?;
     let matches = command.try_get_matches_from_mut(words)?;
