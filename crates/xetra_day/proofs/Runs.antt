@@ -1,14 +1,15 @@
 -- The program's name, `run` and two paths are a run of these two files.
-use Rattle.std.proofs.Common.{◌≡◌, ◌==◌, List, [], ◌∷◌, Option, Some, None, Err, true, false, not, codes, refl, sym, ap, ◌∙◌, Bool, Result, Ok, IfErr, IsErrAnd}
+use Rattle.std.proofs.Common.{◌≡◌, ◌==◌, List, [], ◌∷◌, Option, Some, None, Err, true, false, not, codes, refl, sym, ap, ◌∙◌, Bool, Result, Ok, IfErr, IsErrAnd, inl, inr, ◌⊎◌}
 use Rattle.std.specs.Str.{bytes_eq}
 use Rattle.clap.specs.Lexer.{strip_byte}
-use Rattle.clap.specs.Words.{Text, kind_of, takes}
+use Rattle.clap.specs.Words.{App, HasKind, IsAmong, Kinds, Text, fault_of, is_simple_and_free, kind_of, takes}
 use Rattle.clap.specs.declared.error.Error.{Error}
+use Rattle.clap.specs.declared.error.kind.ErrorKind.{ErrorKind}
 use Rattle.clap.specs.declared.error.kind.ErrorKind.TheVariants as kind
 use Rattle.clap.proofs.OnLiterals.{clap_on_literals}
 use Rattle.xm_day.specs.declared.faults.DayFault.TheVariants as day
 use Rattle.xetra_day.specs.declared.requests.Failure.TheVariants.{Day}
-use Rattle.xetra_day.specs.Requests.{AsksRun, answer_of, day_app, is_plain, paths_of}
+use Rattle.xetra_day.specs.Requests.{AnswersWords, AsksRun, IsOfWords, answer_at, answer_of, day_app, is_plain, paths_of}
 
 false_of : (b : Bool) → not b ≡ true → b ≡ false
 false_of true h = absurd (cc)
@@ -57,6 +58,36 @@ taken words segment orders asks =
     let c = no_hyphen orders asks.orders_is_plain in
     let d = no_hyphens orders asks.orders_is_plain in
     rw asks.words_are (record { taken = takes-two asks.program segment orders a b c d; paths = paths-two asks.program segment orders a b c d })
+
+-- where there is no fault, said of the command line that a command has
+pub no_fault : (app : App) (words : List Text) → app ≡ day_app → (is_simple_and_free app ≡ true → fault_of app words ≡ []) → fault_of day_app words ≡ []
+no_fault app words e h = let k = rw e at h in k refl
+
+-- where there is one
+pub fault-met : (app : App) (words : List Text) (error : Error) → app ≡ day_app → (is_simple_and_free app ≡ true → HasKind (fault_of app words) error) → HasKind (fault_of day_app words) error
+fault-met app words error e h = let k = rw e at h in k refl
+
+pub of_words : (faults : Kinds) (paths : Option (Text × Text)) (error : Error) → HasKind faults error → IsOfWords faults paths error
+of_words faults paths error (inl memory) = inl memory
+of_words faults paths error (inr fault) = inr (inl fault)
+
+-- help or the version is among the faults of words that are answered with it
+among : (faults : Kinds) (paths : Option (Text × Text)) (error : Error) → (kind_of error ≡ kind.DisplayHelp) ⊎ (kind_of error ≡ kind.DisplayVersion) → IsOfWords faults paths error → IsAmong (kind_of error) faults
+among faults paths error is (inr (inl fault)) = fault
+among faults paths error (inl help) (inl memory) = let bad : kind.DisplayHelp ≡ kind.OutOfMemory = sym help ∙ memory in absurd (cc)
+among faults paths error (inr version) (inl memory) = let bad : kind.DisplayVersion ≡ kind.OutOfMemory = sym version ∙ memory in absurd (cc)
+among faults paths error (inl help) (inr (inr none)) = let bad : kind.DisplayHelp ≡ kind.MissingSubcommand = sym help ∙ none.0 in absurd (cc)
+among faults paths error (inr version) (inr (inr none)) = let bad : kind.DisplayVersion ≡ kind.MissingSubcommand = sym version ∙ none.0 in absurd (cc)
+
+-- what the answer to an error of the words is
+pub answered : (faults : Kinds) (paths : Option (Text × Text)) (error : Error) → IsOfWords faults paths error → AnswersWords faults paths (answer_of error)
+answered faults paths error of = go (kind_of error) refl
+  where
+    go : (k : ErrorKind) → kind_of error ≡ k → AnswersWords faults paths (answer_at error k)
+    go kind.DisplayHelp e = (rw e refl, among faults paths error (inl e) of)
+    go kind.DisplayVersion e = (rw e refl, among faults paths error (inr e) of)
+    go kind.OutOfMemory e = refl
+    go _ e = of
 
 -- what holds of the error that a result was made of
 pub err_from : {A : Type 0} (r : Result A Error) (v : Error) (P : Error → Type 0) → IsErrAnd r (λ e. e ≡ v) → P v → IfErr r P

@@ -1,8 +1,8 @@
 -- How the words of a command line are answered.
-use Rattle.std.specs.Prelude.{◌≡◌, ◌==◌, ℕ, Bool, true, not, if◌then◌else◌, List, [], ◌∷◌, Option, Some, None, Result, Ok, Err, ⊤, codes}
+use Rattle.std.specs.Prelude.{◌≡◌, ◌==◌, ℕ, Bool, false, true, not, if◌then◌else◌, ◌⊎◌, List, [], ◌∷◌, Option, Some, None, Result, Ok, Err, ⊤, codes}
 use Rattle.std.specs.Str.{bytes_eq}
 use Rattle.clap.specs.Values.{kind_of}
-use Rattle.clap.specs.Words.{App, Row, Rule, Text, first_of, new_app, new_rule, subcommand_of, with_rule, with_subcommand}
+use Rattle.clap.specs.Words.{App, IsAmong, Kinds, Row, Rule, Text, first_of, new_app, new_rule, subcommand_of, with_rule, with_subcommand}
 use Rattle.clap.specs.Simple.{on_top}
 use Rattle.clap.specs.declared.builder.action.ArgAction.TheVariants.{Set}
 use Rattle.clap.specs.declared.error.Error.{Error}
@@ -26,7 +26,7 @@ run_app = with_rule (with_rule (new_app (codes "run")) (path_rule (codes "SEGMEN
 
 -- `xetra-day`, with a subcommand
 abbrev pub day_app : App
-day_app = with_subcommand (on_top (λ s. record s { subcommand_required = true; arg_required_else_help = true })
+day_app = with_subcommand (on_top (λ s. record s { has_version = true; subcommand_required = true; arg_required_else_help = true })
     (new_app (codes "xetra-day"))) run_app.top
 
 -- the two paths among the values of a subcommand
@@ -70,7 +70,7 @@ abbrev pub IsOfPaths : Option (Text × Text) → Request → Type 0
 IsOfPaths paths (Run s o) = paths ≡ Some (s.now, o.now)
 IsOfPaths paths (Help error) = ⊤
 
-abbrev answer_at : Error → ErrorKind → Result Request Failure
+abbrev pub answer_at : Error → ErrorKind → Result Request Failure
 answer_at error kind.DisplayHelp = Ok (Help error)
 answer_at error kind.DisplayVersion = Ok (Help error)
 answer_at error kind.OutOfMemory = Err (Day day.OutOfMemory)
@@ -79,6 +79,32 @@ answer_at error _ = Err (Words error)
 -- what is answered where no run was asked for: a help text, want of memory, or a mistake in the words
 abbrev pub answer_of : Error → Result Request Failure
 answer_of error = answer_at error (kind_of error)
+
+-- an error of the command line that tells of a mistake, and not a help text, the version or want of memory
+abbrev pub is_mistake : ErrorKind → Bool
+is_mistake kind.DisplayHelp = false
+is_mistake kind.DisplayVersion = false
+is_mistake kind.OutOfMemory = false
+is_mistake _ = true
+
+-- a failure that is told as one: its words are mistaken
+abbrev pub IsTold : Failure → Type 0
+IsTold (Day fault) = ⊤
+IsTold (Words error) = is_mistake (kind_of error) ≡ true
+
+-- what an error of words with these faults and these paths is: want of memory, one of the faults, or that no run is asked for
+-- where there is no fault
+abbrev pub IsOfWords : Kinds → Option (Text × Text) → Error → Type 0
+IsOfWords faults paths error = (kind_of error ≡ kind.OutOfMemory) ⊎ (IsAmong (kind_of error) faults
+    ⊎ ((kind_of error ≡ kind.MissingSubcommand) × (faults ≡ []) × (paths ≡ None)))
+
+-- the answer to words with these faults and these paths: a run only where there is no fault, help or the version only where
+-- they ask for it, a mistake only for a fault of theirs, or where they ask for no run
+abbrev pub AnswersWords : Kinds → Option (Text × Text) → Result Request Failure → Type 0
+AnswersWords faults paths (Ok (Run segment orders)) = faults ≡ []
+AnswersWords faults paths (Ok (Help error)) = (is_mistake (kind_of error) ≡ false) × IsAmong (kind_of error) faults
+AnswersWords faults paths (Err (Day fault)) = fault ≡ day.OutOfMemory
+AnswersWords faults paths (Err (Words error)) = IsOfWords faults paths error
 
 -- words that are not text are a mistake, or memory is wanting
 abbrev pub RefusesBytes : Failure → Type 0
@@ -89,3 +115,8 @@ RefusesBytes (Words error) = kind_of error ≡ kind.ValueValidation
 abbrev pub failure_status : Failure → ℕ
 failure_status (Day fault) = 1
 failure_status (Words error) = 2
+
+-- the status that the program ends with: 0 where it did what it was asked for
+abbrev pub end_status : Result (Unit {0}) Failure → ℕ
+end_status (Ok done) = 0
+end_status (Err failure) = failure_status failure

@@ -1,9 +1,10 @@
 //! `xetra-day run SEGMENT ORDERS`: replays a trading day and writes its statement.
 #![tactic(auto)]
 
-ghost use Rattle.std.specs.Prelude.{◌≡◌, ◌≢◌, IfErr};
+ghost use Rattle.std.specs.Prelude.{◌≡◌, ◌≢◌, ◌≤◌, IfErr};
+ghost use Rattle.std.specs.Process.{exit_status};
 ghost use Rattle.xetra_day.specs.Days.{RunEnds};
-ghost use Rattle.xetra_day.specs.Requests.{RefusesBytes};
+ghost use Rattle.xetra_day.specs.Requests.{IsTold, RefusesBytes, end_status};
 
 mod fault_lines;
 mod inputs;
@@ -13,6 +14,7 @@ mod tests;
 
 use crate::fault_lines::{FaultLine, told};
 use crate::requests::{Failure, Request};
+use clap::Error;
 use std::alloc::Global;
 use std::io::{Read, Write};
 use std::process::ExitCode;
@@ -21,18 +23,21 @@ use std::{env, io};
 use xm_day::DayFault;
 
 fn main(rt: HostRuntime) -> ExitCode {
-    match answer(&rt) {
-        Ok(()) => ExitCode::SUCCESS,
-        Err(failure) => {
-            let status = failure.status();
-            tell(&rt, failure);
-            ExitCode::from(status)
-        }
-    }
+    run_program(&rt)
 }
 
-/// Does what the command line asks for.
-fn answer<R: Env + AllocGlobal + Files + Print>(rt: &R) -> Result<(), Failure> {
+/// Does what the command line asks for, tells on standard error where it can't, and gives the status to end with.
+fn run_program<R: Env + AllocGlobal + Files + Print + Eprint>(rt: &R) -> ExitCode
+    ensures { exit_status result ≤ 2 }
+{
+    let ended = answer(rt);
+    tell(rt, ended)
+}
+
+/// Does what the command line asks for. Words that ask for help are never a mistake.
+fn answer<R: Env + AllocGlobal + Files + Print>(rt: &R) -> Result<(), Failure>
+    ensures { IfErr result IsTold }
+{
     let words = read_command_line(rt)?;
     match requests::read_words(rt.alloc(), words.as_slice())? {
         Request::Run { segment, orders } => {
@@ -40,28 +45,27 @@ fn answer<R: Env + AllocGlobal + Files + Print>(rt: &R) -> Result<(), Failure> {
             let mut orders = inputs::open(rt, orders);
             run(rt.alloc(), &mut segment, &mut orders, &mut io::writer(rt))?;
         }
-        Request::Help(text) => {
-            if rt.print(text).is_err() {
-                return Err(Failure::Day(DayFault::WriteFailed));
-            }
-        }
+        Request::Help(text) => print_help(rt, text)?,
     }
     Ok(())
+}
+
+/// Prints a help text, or the version.
+fn print_help<R: Print>(rt: &R, text: Error) -> Result<(), DayFault>
+    ensures { IfErr result (λ fault. fault ≡ DayFault.WriteFailed) }
+{
+    rt.print(text).map_err(|_| DayFault::WriteFailed)
 }
 
 /// The words of the command line, of which the first is the program's name.
 fn read_command_line<R: Env + AllocGlobal>(rt: &R) -> Result<Vec<String>, Failure>
     ensures { IfErr result RefusesBytes }
 {
-    let words = match env::args(rt) {
-        Ok(words) => words.collect(rt.alloc()),
+    match env::args(rt) {
+        Ok(words) => Ok(words.collect(rt.alloc())?),
         Err(error) if error.kind() == io::ErrorKind::InvalidData => {
-            return Err(requests::refuse_bytes(rt.alloc()));
+            Err(Failure::Words(requests::bytes_error(rt.alloc())?))
         }
-        Err(_) => return Err(Failure::Day(DayFault::OutOfMemory)),
-    };
-    match words {
-        Ok(words) => Ok(words),
         Err(_) => Err(Failure::Day(DayFault::OutOfMemory)),
     }
 }
@@ -82,10 +86,19 @@ fn run<S: Read, O: Read, W: Write>(
     }
 }
 
-/// Tells on standard error why the program ends. Where that can't be written, the status tells alone.
-fn tell<R: Eprint>(rt: &R, failure: Failure) {
+/// Tells on standard error why the program ends without what it was asked for, and gives the status to end with.
+///
+/// Where that can't be written, the status tells alone.
+fn tell<R: Eprint>(rt: &R, ended: Result<(), Failure>) -> ExitCode
+    ensures { exit_status result ≡ end_status ended }
+{
+    let Err(failure) = ended else {
+        return ExitCode::SUCCESS;
+    };
+    let status = failure.status();
     let _ = match failure {
         Failure::Day(fault) => rt.eprintln(FaultLine(fault)),
         Failure::Words(text) => rt.eprint(text),
     };
+    ExitCode::from(status)
 }

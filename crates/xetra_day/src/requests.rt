@@ -1,14 +1,17 @@
 //! What the words of the command line ask for.
-ghost use Rattle.std.specs.Prelude.{◌≡◌, List, ℕ, IfOk, IfErr, IsSome, map, option_map, string_bytes, false, true};
-ghost use Rattle.clap.specs.Words.{app_of, kind_of, subcommand_rows_of, takes};
+ghost use Rattle.std.specs.Prelude.{◌≡◌, List, [], ℕ, IfOk, IfErr, IsSome, map, option_map, string_bytes, false, true};
+ghost use Rattle.clap.specs.Words.{app_of, fault_of, kind_of, subcommand_rows_of, takes};
 ghost use Rattle.clap.specs.declared.builder.command.Command.TheViews.{out-Command as fields_of};
 ghost use Rattle.clap.specs.declared.error.kind.ErrorKind.TheVariants as kind;
-ghost use Rattle.xetra_day.specs.Requests.{AsksRun, IsOfPaths, IsRun, RefusesBytes, answer_of, day_app, failure_status, paths_in, paths_of, run_app};
+ghost use Rattle.xetra_day.specs.Requests.{AnswersWords, AsksRun, IsOfPaths, IsOfWords, IsRun, IsTold, answer_of, day_app, failure_status, paths_in, paths_of, run_app};
 
 use clap::error::ErrorKind;
 use clap::{Arg, ArgAction, ArgMatches, Command, Error};
 use std::alloc::{AllocError, Global};
 use xm_day::DayFault;
+
+/// What `--version` prints behind the name; the script `xetra-day` reads it here.
+const VERSION: &str = "0.1.0";
 
 const RUN: &str = "run";
 
@@ -19,14 +22,15 @@ const ORDERS: &str = "ORDERS";
 const STATUS_HELP: &str = "Exit status:
   0  the statement was written
   1  no statement: standard error has one line that names the fault
-  2  the command line is mistaken";
+  2  the command line is mistaken
+  3  the script xetra-day has no program to run: standard error says why";
 
 /// What a command line asks for.
 #[derive(Debug, Drop)]
 pub enum Request<'a> {
     /// The statement of the day in two files, which are given by their paths.
     Run { segment: &'a str, orders: &'a str },
-    /// A help text.
+    /// A help text, or the version.
     Help(Error),
 }
 
@@ -51,6 +55,17 @@ impl Failure {
     }
 }
 
+impl From<AllocError> for Failure {
+    ghost use Rattle.xetra_day.specs.declared.requests.Failure.TheVariants.{Day};
+    ghost use Rattle.xm_day.specs.declared.faults.DayFault.TheVariants.{OutOfMemory};
+
+    ghost from_gives = { λ _ failure. failure ≡ Day OutOfMemory };
+
+    fn from(_error: AllocError) -> Failure {
+        Failure::Day(DayFault::OutOfMemory)
+    }
+}
+
 impl From<DayFault> for Failure {
     ghost use Rattle.xetra_day.specs.declared.requests.Failure.TheVariants.{Day};
 
@@ -66,22 +81,14 @@ impl From<DayFault> for Failure {
 /// A mistake in the words is refused as the text tells.
 pub fn read_words<'a>(alloc: Global, words: &'a [String]) -> Result<Request<'a>, Failure>
     ensures paths { IfOk result (IsOfPaths (paths_of (map string_bytes words.entry.now))) }
+    ensures told { IfErr result IsTold }
+    ensures answered { AnswersWords (fault_of day_app (map string_bytes words.entry.now)) (paths_of (map string_bytes words.entry.now)) result }
     ensures run { (segment orders : List ℕ) → AsksRun (map string_bytes words.entry.now) segment orders
         → IsRun result segment orders }
 {
     match read_paths(alloc, words) {
         Ok((segment, orders)) => Ok(Request::Run { segment, orders }),
         Err(error) => answer(error),
-    }
-}
-
-/// The answer to words that are not text.
-pub fn refuse_bytes(alloc: Global) -> Failure
-    ensures { RefusesBytes result }
-{
-    match bytes_error(alloc) {
-        Ok(error) => Failure::Words(error),
-        Err(_) => Failure::Day(DayFault::OutOfMemory),
     }
 }
 
@@ -101,6 +108,8 @@ fn read_paths<'a>(alloc: Global, words: &'a [String]) -> Result<(&'a str, &'a st
     ensures ok { IfOk result (λ p. paths_of (map string_bytes words.entry.now) ≡ Some (p.0.now, p.1.now)) }
     ensures err { IfErr result (λ e. takes day_app (map string_bytes words.entry.now) ≡ true
         → IsSome (paths_of (map string_bytes words.entry.now)) → kind_of e ≡ kind.OutOfMemory) }
+    ensures faultless { IfOk result (λ _. fault_of day_app (map string_bytes words.entry.now) ≡ []) }
+    ensures fault { IfErr result (IsOfWords (fault_of day_app (map string_bytes words.entry.now)) (paths_of (map string_bytes words.entry.now))) }
 {
     let mut command = command_line(alloc)?;
     let matches = command.try_get_matches_from_mut(words)?;
@@ -123,7 +132,8 @@ fn paths_in<'a>(matches: &ArgMatches<'a>) -> Option<(&'a str, &'a str)>
     Some((segment, orders))
 }
 
-fn bytes_error(alloc: Global) -> Result<Error, AllocError>
+/// The mistake of words that are not text.
+pub fn bytes_error(alloc: Global) -> Result<Error, AllocError>
     ensures { IfOk result (λ error. kind_of error ≡ kind.ValueValidation) }
 {
     let message = "a word of the command line is not UTF-8 text";
@@ -136,6 +146,7 @@ fn command_line<'a>(alloc: Global) -> Result<Command<'a>, AllocError>
 {
     Command::new(alloc, "xetra-day")
         .bin_name("xetra-day")?
+        .version(VERSION)
         .about("Replays a trading day of a segment of securities and writes its statement")
         .after_help(STATUS_HELP)
         .subcommand_required(true)

@@ -1,8 +1,11 @@
 //! The fault lines, the answers to command lines, and the reads and writes that fail.
 
+mod ends;
+mod runtime;
+
 use crate::fault_lines::FaultLine;
 use crate::inputs::Input;
-use crate::requests::{Failure, Request, read_words, refuse_bytes};
+use crate::requests::{Failure, Request, read_words};
 use crate::{inputs, run};
 use std::alloc::{AllocError, Global};
 use std::fs::File;
@@ -199,21 +202,6 @@ fn help_is_an_answer(rt: HostRuntime) -> Result<(), Fail> {
         let text = answer_to(alloc, words)?;
         assert!(rt; text.as_str().starts_with("help Runs the day of two files"));
     }
-    Ok(())
-}
-
-#[test]
-fn words_that_are_not_text(rt: HostRuntime) -> Result<(), Fail> {
-    let failure = refuse_bytes(rt.alloc());
-    assert_eq!(rt; failure.status(), 2);
-    let Failure::Words(text) = failure else {
-        return Err(Fail::from("no text"));
-    };
-    let text = format!(in rt.alloc(); "{text}")?;
-    assert!(rt;
-        text.as_str()
-            == "error: a word of the command line is not UTF-8 text\n\nUsage: xetra-day <COMMAND>\n\nFor more information, try '--help'.\n"
-    );
     Ok(())
 }
 

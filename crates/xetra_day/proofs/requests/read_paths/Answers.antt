@@ -1,8 +1,8 @@
 use Rattle.std.proofs.Common.{ap, ◌≡◌, ◌∙◌, true, map, string_bytes}
-use Rattle.clap.specs.Words.{App, app_of, kind_of, takes}
+use Rattle.clap.specs.Words.{App, app_of, fault_of, kind_of, takes}
 use Rattle.clap.specs.declared.error.kind.ErrorKind.TheVariants as kind
-use Rattle.xetra_day.specs.Requests.{day_app}
-use Rattle.xetra_day.proofs.Runs.{err_from}
+use Rattle.xetra_day.specs.Requests.{day_app, paths_of}
+use Rattle.xetra_day.proofs.Runs.{err_from, fault-met, no_fault, of_words}
 use Rattle.xetra_day.proofs.requests.read_paths.Goals as goal
 
 pub returns-in_err-matches-clause-err : goal.returns-in_err-matches-clause-err
@@ -11,3 +11,12 @@ returns-in_err-matches-clause-err c =
     let passes : takes day_app (map string_bytes c.args.words.now) ≡ true → kind_of c.in_err-matches.field-0.0 ≡ kind.OutOfMemory =
     λ t. c.in_err-matches.ensures.passes (ap (λ (a : App). takes a (map string_bytes c.args.words.now)) app ∙ t) in
     err_from _ c.in_err-matches.field-0.0 _ c.from_residual-in_err-matches.ensures.1 (λ t named. passes t)
+
+pub returns-in_err-matches-clause-fault : goal.returns-in_err-matches-clause-fault
+returns-in_err-matches-clause-fault c =
+    let words = map string_bytes c.args.words.now in
+    let met = fault-met _ words c.in_err-matches.field-0.0 c.in_ok-command.ensures c.in_err-matches.ensures.kinds in
+    err_from _ c.in_err-matches.field-0.0 _ c.from_residual-in_err-matches.ensures.1 (of_words (fault_of day_app words) (paths_of words) c.in_err-matches.field-0.0 met)
+
+pub returns-in-Some-clause-faultless : goal.returns-in-Some-clause-faultless
+returns-in-Some-clause-faultless c = no_fault _ (map string_bytes c.args.words.now) c.in_ok-command.ensures c.in_ok-matches.ensures.kinds

@@ -1,8 +1,8 @@
 use Rattle.std.proofs.Common.{◌≡◌, Some, refl, map, string_bytes}
-use Rattle.clap.specs.Words.{kind_of}
+use Rattle.clap.specs.Words.{fault_of, kind_of}
 use Rattle.clap.specs.declared.error.kind.ErrorKind.TheVariants as kind
-use Rattle.xetra_day.specs.Requests.{paths_of}
-use Rattle.xetra_day.proofs.Runs.{answer-memory, some_pair, taken}
+use Rattle.xetra_day.specs.Requests.{day_app, paths_of}
+use Rattle.xetra_day.proofs.Runs.{answer-memory, answered, some_pair, taken}
 use Rattle.xetra_day.proofs.requests.read_words.Goals as goal
 
 pub returns-in-Ok-clause-run : goal.returns-in-Ok-clause-run
@@ -15,3 +15,8 @@ returns-in-Err-clause-run c = λ segment orders asks.
     let is = taken _ segment orders asks in
     let memory : kind_of c.in-Err.error ≡ kind.OutOfMemory = c.in-Err.ensures.err is.taken (rw is.paths refl) in
     rw (c.answer.ensures, answer-memory c.in-Err.error memory) refl
+
+pub returns-in-Err-clause-answered : goal.returns-in-Err-clause-answered
+returns-in-Err-clause-answered c =
+    let words = map string_bytes c.args.words.now in
+    rw c.answer.ensures (answered (fault_of day_app words) (paths_of words) c.in-Err.error c.in-Err.ensures.fault)

@@ -1,0 +1,220 @@
+//! A runtime for tests: its command line and its files are given, and what is printed is kept.
+
+ghost use Rattle.std.specs.Prelude.{IsErr};
+
+use std::alloc::Global;
+use std::cell::RefCell;
+use std::env::FillError;
+use std::fmt::Display;
+use std::fs::{Metadata, OpenFile, OpenOptions};
+use std::io;
+use std::io::{Read, Seek, SeekFrom, Write};
+use std::rt::{Env, Files};
+
+/// What becomes of what is printed on a stream.
+#[derive(Clone, Copy, Drop)]
+pub enum Stream {
+    Kept,
+    Refused,
+}
+
+/// The command line and the files of a call of the program, and what it printed.
+#[derive(Drop)]
+pub struct Call<'a> {
+    pub alloc: Global,
+    pub words: &'a [&'a [u8]],
+    pub files: &'a [(&'a str, &'a [u8])],
+    pub output: Stream,
+    pub printed: RefCell<String>,
+    pub complained: RefCell<String>,
+}
+
+impl<'a> Call<'a> {
+    pub fn new(
+        alloc: Global,
+        words: &'a [&'a [u8]],
+        files: &'a [(&'a str, &'a [u8])],
+        output: Stream,
+    ) -> Call<'a> {
+        Call {
+            alloc,
+            words,
+            files,
+            output,
+            printed: RefCell::new(String::new(alloc)),
+            complained: RefCell::new(String::new(alloc)),
+        }
+    }
+
+    fn keep(&self, kept: &RefCell<String>, text: &str) -> io::Result<()> {
+        match kept.try_borrow_mut() {
+            Ok(mut kept) => Ok(kept.push_str(text)?),
+            Err(_) => Err(io::Error::from(io::ErrorKind::ResourceBusy)),
+        }
+    }
+}
+
+impl Alloc for Call<'_> {
+    type A = Global;
+
+    fn alloc(&self) -> Global {
+        self.alloc
+    }
+}
+
+impl Env for Call<'_> {
+    fn arg(&self, i: usize, buf: &mut [u8]) -> Result<usize, FillError> {
+        let Some(word) = self.words.get(i) else {
+            return Err(FillError::NotPresent);
+        };
+        match buf.get_mut(..word.len()) {
+            Some(start) => {
+                start.copy_from_slice(word);
+                Ok(word.len())
+            }
+            None => Err(FillError::TooLong),
+        }
+    }
+
+    fn var(&self, _name: &str, _buf: &mut [u8]) -> Result<usize, FillError> {
+        Err(FillError::NotPresent)
+    }
+
+    fn var_at(&self, _i: usize, _buf: &mut [u8]) -> Result<usize, FillError> {
+        Err(FillError::NotPresent)
+    }
+}
+
+impl Print for Call<'_> {
+    fn print<D: Display + Drop>(&self, value: D) -> io::Result<()> {
+        let text = format!(in self.alloc; "{value}")?;
+        self.write_all(text.as_bytes())
+    }
+
+    fn println<D: Display + Drop>(&self, value: D) -> io::Result<()> {
+        let text = format!(in self.alloc; "{value}\n")?;
+        self.write_all(text.as_bytes())
+    }
+
+    fn write_all(&self, bytes: &[u8]) -> io::Result<()> {
+        match (self.output, str::from_utf8(bytes)) {
+            (Stream::Kept, Ok(text)) => self.keep(&self.printed, text),
+            _ => Err(io::Error::from(io::ErrorKind::StorageFull)),
+        }
+    }
+}
+
+impl Eprint for Call<'_> {
+    fn eprint<D: Display + Drop>(&self, value: D) -> io::Result<()> {
+        let text = format!(in self.alloc; "{value}")?;
+        self.keep(&self.complained, text.as_str())
+    }
+
+    fn eprintln<D: Display + Drop>(&self, value: D) -> io::Result<()> {
+        let text = format!(in self.alloc; "{value}\n")?;
+        self.keep(&self.complained, text.as_str())
+    }
+}
+
+/// A file that can be read, and nothing else.
+#[derive(Drop)]
+pub struct Opened<'a> {
+    left: &'a [u8],
+}
+
+fn unsupported<T>() -> io::Result<T>
+    ensures { IsErr result }
+{
+    Err(io::Error::from(io::ErrorKind::Unsupported))
+}
+
+impl Read for Opened<'_> {
+    fn read(&mut self, buf: &mut [u8]) -> io::Result<usize> {
+        self.left.read(buf)
+    }
+}
+
+impl Write for Opened<'_> {
+    fn write(&mut self, _bytes: &[u8]) -> io::Result<usize> {
+        unsupported()
+    }
+
+    fn flush(&mut self) -> io::Result<()> {
+        unsupported()
+    }
+}
+
+impl Seek for Opened<'_> {
+    fn seek(&mut self, _to: SeekFrom) -> io::Result<u64> {
+        unsupported()
+    }
+}
+
+impl OpenFile for Opened<'_> {
+    fn metadata(&self) -> io::Result<Metadata> {
+        unsupported()
+    }
+
+    fn set_len(&self, _size: u64) -> io::Result<()> {
+        unsupported()
+    }
+
+    fn sync_all(&self) -> io::Result<()> {
+        unsupported()
+    }
+
+    fn sync_data(&self) -> io::Result<()> {
+        unsupported()
+    }
+}
+
+impl<'a> Files for Call<'a> {
+    type File = Opened<'a>;
+
+    type Dir = Opened<'a>;
+
+    fn open_file(&self, _how: &OpenOptions, path: &str) -> io::Result<Opened<'a>> {
+        for (name, bytes) in self.files {
+            if *name == path {
+                return Ok(Opened { left: bytes });
+            }
+        }
+        Err(io::Error::from(io::ErrorKind::NotFound))
+    }
+
+    fn open_dir(&self, _path: &str) -> io::Result<Opened<'a>> {
+        unsupported()
+    }
+
+    fn metadata(&self, _path: &str) -> io::Result<Metadata> {
+        unsupported()
+    }
+
+    fn symlink_metadata(&self, _path: &str) -> io::Result<Metadata> {
+        unsupported()
+    }
+
+    fn copy(&self, _from: &str, _to: &str) -> io::Result<u64> {
+        unsupported()
+    }
+
+    fn rename(&self, _from: &str, _to: &str) -> io::Result<()> {
+        unsupported()
+    }
+
+    fn remove_file(&self, _path: &str) -> io::Result<()> {
+        unsupported()
+    }
+
+    fn create_dir(&self, _path: &str) -> io::Result<()> {
+        unsupported()
+    }
+
+    fn remove_dir(&self, _path: &str) -> io::Result<()> {
+        unsupported()
+    }
+
+    fn remove_dir_all<B: std::alloc::Allocator>(&self, _alloc: B, _path: &str) -> io::Result<()> {
+        unsupported()
+    }
+}
