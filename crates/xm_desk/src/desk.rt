@@ -108,9 +108,12 @@ impl<A: Allocator> Desk<A> {
         self.market.settings
     }
 
-    /// The phase of the security.
+    /// The phase of the security. Until trading is served, nothing was traded in it and no stop is
+    /// held.
     pub fn phase(&self) -> Phase
-        ensures { result ≡ (replay self.now).phase }
+        ensures phase { result ≡ (replay self.now).phase }
+        ensures no_trades { (replay self.now).trades ≡ [] }
+        ensures no_stops { (replay self.now).stops ≡ [] }
     {
         self.market.phase
     }
