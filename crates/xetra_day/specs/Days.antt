@@ -1,7 +1,7 @@
 -- How the run of a day ends, as the program tells it.
 use Rattle.std.specs.Prelude.{◌≡◌, ℕ, List, Option, Result, Ok, Err}
 use Rattle.xm_day.specs.Answers.{DayEnds}
-use Rattle.xm_day.specs.declared.day.DayReport.{DayReport}
+use Rattle.xm_day.specs.declared.report.DayReport.{DayReport}
 use Rattle.xm_day.specs.declared.faults.DayFault.{DayFault}
 use Rattle.xm_day.specs.declared.faults.DayFault.TheVariants.{WriteFailed}
 use Rattle.xetra_day.specs.FaultLines.{told}

@@ -1,45 +1,78 @@
 -- The day of desks that take rows.
-use Rattle.std.proofs.Common.{◌≡◌, ℕ, ◌+◌, ◌<◌, ◌≤◌, true, List, [], ◌∷◌, ◌++◌, length, map, slice_get, set, get_or, take, drop, suc, All, arith, Some, None, option_map, refl, ap, sym, subst, ◌∙◌}
+use Rattle.std.proofs.Common.{◌≡◌, ℕ, ◌+◌, ◌<◌, ◌≤◌, true, false, List, [], ◌∷◌, ◌++◌, length, map, slice_get, set, get_or, take, drop, take-append-drop, suc, zero, All, arith, Some, None, option_map, refl, ap, sym, subst, ◌∙◌}
 use Rattle.std.proofs.Math.Seq.{drop-cons, take-length}
 use Rattle.std.proofs.Math.ListN.{drop_of_length-le}
-use Rattle.std.proofs.lemmas.List.{append-nil, map-set}
+use Rattle.std.proofs.lemmas.List.{append-nil, map-set, take_more}
 use Rattle.std.proofs.lemmas.List.Elements.{All-cons, All-nil}
 use Rattle.std.proofs.lemmas.Option.{slice_get-map, slice_get_past}
-use Rattle.xm_rules.proofs.Untraded.{opening-untraded}
 use Rattle.xm_rules.proofs.Journals.{replay-opening, replay-push}
 use Rattle.xm_rules.specs.Refusals.{refusal_of}
-use Rattle.xm_rules.specs.Served.{is_served, IsUntraded}
+use Rattle.xm_rules.specs.Served.{is_served}
+use Rattle.xm_rules.specs.Settling.{come, is_continuous, order_of, reached, released, settle_in, take_pending}
 use Rattle.xm_rules.specs.State.{State, opening}
-use Rattle.xm_rules.specs.Step.{Journal, replay, step}
+use Rattle.xm_rules.specs.Step.{Journal, act, replay, step}
 use Rattle.xm_rules.specs.declared.commands.Command.{Command}
 use Rattle.xm_rules.specs.declared.commands.Command.TheVariants.{Enter, Cancel, StartOpening}
 use Rattle.xm_rules.specs.declared.commands.Condition.{Condition}
 use Rattle.xm_rules.specs.declared.commands.Condition.TheVariants.{Plain}
 use Rattle.xm_rules.specs.declared.commands.Kind.{Kind}
 use Rattle.xm_rules.specs.declared.commands.Kind.TheVariants as kind
+use Rattle.xm_rules.specs.declared.orders.Order.{Order}
+use Rattle.xm_rules.specs.declared.orders.OrderKind.TheVariants.{Limit}
 use Rattle.xm_rules.specs.declared.orders.Restriction.{Restriction}
 use Rattle.xm_rules.specs.declared.orders.Restriction.TheVariants.{Free}
 use Rattle.xm_rules.specs.declared.orders.Side.{Side}
+use Rattle.xm_rules.specs.declared.orders.Stop.{Stop}
 use Rattle.xm_rules.specs.declared.orders.Validity.{Validity}
 use Rattle.xm_rules.specs.declared.orders.Validity.TheVariants.{Day}
 use Rattle.xm_rules.specs.declared.replies.Refusal.{Refusal}
-use Rattle.xm_day.specs.Day.{Day as TheDay, after_row, after_rows, answered, day, day_of, journal_of, on_security, settings_of}
-use Rattle.xm_day.specs.Rows.{is_first_path}
+use Rattle.xm_day.specs.Day.{Accepts, Day as TheDay, LacksMemoryAt, after_row, after_rows, answered, day, day_of, journal_of, on_security, settings_of}
+use Rattle.xm_day.specs.Rows.{is_listed}
 use Rattle.xm_day.specs.declared.config.SecurityConfig.{SecurityConfig}
 use Rattle.xm_day.specs.declared.config.SegmentConfig.{SegmentConfig}
 use Rattle.xm_day.specs.declared.rows.Row.{Row}
 
+-- outside continuous trading an order joins, and no stop that comes in changes the phase
+come-outside : (s : State) (o : Order) → is_continuous s.phase ≡ false → is_continuous (come s o).phase ≡ false
+come-outside s o h = rw h h
+
+pending-outside : (more : State → List Stop → State) → ((s : State) (pending : List Stop) → is_continuous s.phase ≡ false → is_continuous (more s pending).phase ≡ false)
+    → (s : State) (pending : List Stop) → is_continuous s.phase ≡ false → is_continuous (take_pending more s pending).phase ≡ false
+pending-outside more keeps s [] h = h
+pending-outside more keeps s (stop ∷ stops) h = keeps (come s (order_of stop)) stops (come-outside s (order_of stop) h)
+
+settle_in-outside : (turns : ℕ) (s : State) (pending : List Stop) → is_continuous s.phase ≡ false → is_continuous (settle_in turns s pending).phase ≡ false
+settle_in-outside zero s pending h = h
+settle_in-outside (suc turns) s pending h = pending-outside (settle_in turns) (settle_in-outside turns) (released s) (pending ++ reached s) h
+
+entry-outside : (s : State) (member reference : ℕ) (side : Side) (k : Kind) (quantity : ℕ) (v : Validity) (r : Restriction) (condition : Condition)
+    → is_listed (Enter member reference side k quantity v r condition) ≡ true → is_continuous s.phase ≡ false → is_continuous (act s (Enter member reference side k quantity v r condition)).phase ≡ false
+entry-outside s member reference side (kind.Limit p) quantity Day Free Plain h u =
+    come-outside s (record { member = member; reference = reference; side = side; kind = Limit p; rest = quantity; validity = Day; restriction = Free }) u
+entry-outside s member reference side _ quantity _ _ _ h u = cc
+
+act-outside : (s : State) (c : Command) → is_listed c ≡ true → is_continuous s.phase ≡ false → is_continuous (act s c).phase ≡ false
+act-outside s (Enter member reference side k quantity validity restriction condition) h u = entry-outside s member reference side k quantity validity restriction condition h u
+act-outside s (Cancel member reference) h u = u
+act-outside s StartOpening h u = refl
+act-outside s _ h u = cc
+
+-- no listed command begins continuous trading
+pub step-outside : (s : State) (c : Command) → is_listed c ≡ true → is_continuous s.phase ≡ false → is_continuous (step s c).phase ≡ false
+unfolding step
+step-outside s c h u = let t = act s c in settle_in-outside (length t.stops + 0) t [] (act-outside s c h u)
+
 entry-served : (s : State) (member reference : ℕ) (side : Side) (k : Kind) (quantity : ℕ) (v : Validity) (r : Restriction) (condition : Condition)
-    → is_first_path (Enter member reference side k quantity v r condition) ≡ true → IsUntraded s → is_served s.phase (Enter member reference side k quantity v r condition) ≡ true
-entry-served s member reference side (kind.Limit p) quantity Day Free Plain h u = rw u.before refl
+    → is_listed (Enter member reference side k quantity v r condition) ≡ true → is_continuous s.phase ≡ false → is_served s.phase (Enter member reference side k quantity v r condition) ≡ true
+entry-served s member reference side (kind.Limit p) quantity Day Free Plain h u = rw u refl
 entry-served s member reference side _ quantity _ _ _ h u = cc
 
--- what an order file gives is served before trading
-pub first_path-served : (s : State) (c : Command) → is_first_path c ≡ true → IsUntraded s → is_served s.phase c ≡ true
-first_path-served s (Enter member reference side kind quantity validity restriction condition) h u = entry-served s member reference side kind quantity validity restriction condition h u
-first_path-served s (Cancel member reference) h u = refl
-first_path-served s StartOpening h u = refl
-first_path-served s _ h u = cc
+-- what an order file lists is served outside continuous trading
+pub listed-served : (s : State) (c : Command) → is_listed c ≡ true → is_continuous s.phase ≡ false → is_served s.phase c ≡ true
+listed-served s (Enter member reference side k quantity validity restriction condition) h u = entry-served s member reference side k quantity validity restriction condition h u
+listed-served s (Cancel member reference) h u = refl
+listed-served s StartOpening h u = refl
+listed-served s _ h u = cc
 
 abbrev pub with_command : Journal → Command → Journal
 with_command j c = record j { commands = j.commands ++ c ∷ [] }
@@ -64,13 +97,36 @@ on_accepted js row j a r is passes =
     let states = map-set replay js row.security (with_command j row.command) ∙ ap (set (map replay js) row.security) (replay-push j row.command) in
     found js row j a r is ∙ ap (answered (day_of js a r) row (replay j)) passes ∙ ap (λ (ss : List State). record { states = ss; accepted = a + 1; refused = r }) (sym states)
 
--- a row more, of those that are left
-pub rows-step : (desks new : List Journal) (rows : List Row) (i : ℕ) (d : Row) (a r a' r' : ℕ) (whole : TheDay) → i < length rows → after_row (day_of desks a r) (get_or rows i d) ≡ day_of new a' r'
-    → after_rows (day_of desks a r) (drop i rows) ≡ whole → after_rows (day_of new a' r') (drop (i + 1) rows) ≡ whole
-rows-step desks new rows i d a r a' r' whole within step goes_on =
-    let next : suc i ≡ i + 1 = omega arith in
-    let left = drop-cons rows i d within ∙ ap (λ (k : ℕ). get_or rows i d ∷ drop k rows) next in
-    ap (λ (x : TheDay). after_rows x (drop (i + 1) rows)) (sym step) ∙ ap (after_rows (day_of desks a r)) (sym left) ∙ goes_on
+-- the day of some rows, and of more
+after_rows-append : (d : TheDay) (rows more : List Row) → after_rows d (rows ++ more) ≡ after_rows (after_rows d rows) more
+after_rows-append d [] more = refl
+after_rows-append d (row ∷ rows) more = after_rows-append (after_row d row) rows more
+
+-- a row more
+pub rows-step : (begun : TheDay) (desks : List Journal) (rows : List Row) (i : ℕ) (row : Row) (a r : ℕ) (next : TheDay) → i < length rows → day_of desks a r ≡ after_rows begun (take i rows)
+    → after_row (day_of desks a r) (get_or rows i row) ≡ next → next ≡ after_rows begun (take (i + 1) rows)
+rows-step begun desks rows i row a r next within so_far step =
+    sym step
+    ∙ ap (λ (d : TheDay). after_row d (get_or rows i row)) so_far
+    ∙ sym (after_rows-append begun (take i rows) (get_or rows i row ∷ []))
+    ∙ ap (after_rows begun) (sym (take_more rows i row within))
+
+-- memory was wanting at a row
+pub rows-lack : (begun : TheDay) (desks : List Journal) (rows : List Row) (i : ℕ) (row : Row) (a r : ℕ) → i < length rows → day_of desks a r ≡ after_rows begun (take i rows)
+    → Accepts (day_of desks a r) (get_or rows i row) → LacksMemoryAt begun rows
+rows-lack begun desks rows i row a r within so_far accepts =
+    let At : TheDay → Type 0 = λ d. Accepts d (get_or rows i row) in
+    record {
+      before = take i rows;
+      row = get_or rows i row;
+      more = drop (suc i) rows;
+      rows_are = ap (λ (xs : List Row). take i rows ++ xs) (sym (drop-cons rows i row within)) ∙ take-append-drop i rows;
+      accepts = subst At so_far accepts;
+    }
+
+-- a desk that is known
+pub accepts-known : (js : List Journal) (row : Row) (j : Journal) (a r : ℕ) → slice_get js row.security ≡ Some j → refusal_of (replay j) row.command ≡ None → Accepts (day_of js a r) row
+accepts-known js row j a r is passes = record { state = replay j; known = slice_get-map replay js row.security ∙ ap (option_map replay) is; passes = passes }
 
 -- the desks of a segment begin its day
 pub opened-day : (config : SegmentConfig) (securities : List SecurityConfig) → map replay (map (journal_of config) securities) ≡ map (λ (security : SecurityConfig). opening (settings_of config security)) securities
@@ -79,13 +135,12 @@ opened-day config (security ∷ more) =
     ap (λ (s : State). s ∷ map replay (map (journal_of config) more)) (replay-opening (settings_of config security))
     ∙ ap (λ (ss : List State). opening (settings_of config security) ∷ ss) (opened-day config more)
 
--- before any row the desks have traded nothing
-pub opened-untraded : (config : SegmentConfig) (securities : List SecurityConfig) → All (λ (j : Journal). IsUntraded (replay j)) (map (journal_of config) securities)
-opened-untraded config [] = All-nil (λ (j : Journal). IsUntraded (replay j))
-opened-untraded config (security ∷ more) =
-    let Untraded : State → Type 0 = λ s. IsUntraded s in
-    let first = subst Untraded (sym (replay-opening (settings_of config security))) (opening-untraded (settings_of config security)) in
-    All-cons (λ (j : Journal). IsUntraded (replay j)) (journal_of config security) (map (journal_of config) more) first (opened-untraded config more)
+-- before any row no desk is in continuous trading
+pub opened-outside : (config : SegmentConfig) (securities : List SecurityConfig) → All (λ (j : Journal). is_continuous (replay j).phase ≡ false) (map (journal_of config) securities)
+opened-outside config [] = All-nil (λ (j : Journal). is_continuous (replay j).phase ≡ false)
+opened-outside config (security ∷ more) =
+    let first = ap (λ (s : State). is_continuous s.phase) (replay-opening (settings_of config security)) in
+    All-cons (λ (j : Journal). is_continuous (replay j).phase ≡ false) (journal_of config security) (map (journal_of config) more) first (opened-outside config more)
 
 -- a slice that was lent whole comes back whole
 pub lent_back : {X : Type 0} (new old : List X) (n : ℕ) → length new ≡ length old → n ≡ length old → take n (new ++ drop (length new) old) ≡ new

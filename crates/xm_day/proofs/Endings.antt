@@ -2,7 +2,7 @@
 use Rattle.std.proofs.Common.{◌≡◌, refl, ℕ, List, Option, None, Err}
 use Rattle.xm_day.specs.Answers.{AreRowsOf, OrdersEnd, statement_of}
 use Rattle.xm_day.specs.Day.{day, segment_fault}
-use Rattle.xm_day.specs.Faults.{IsOfWriting}
+use Rattle.xm_day.specs.Answers.{IsOfWriting}
 use Rattle.xm_day.specs.Names.{NameLists}
 use Rattle.xm_day.specs.declared.config.SegmentConfig.{SegmentConfig}
 use Rattle.xm_day.specs.declared.faults.DayFault.{DayFault}

@@ -6,7 +6,9 @@ pub mod Documents
 pub mod Takes
 pub mod Unread
 pub mod Progress
-pub mod FirstPath
+pub mod ListedRows
 pub mod Lines
 pub mod Days
 pub mod Endings
+pub mod PassedErrors
+pub mod ReadOrders

@@ -1,9 +1,9 @@
--- The lines of a statement, as they are written one after another, and those that there are none of before trading.
-use Rattle.std.proofs.Common.{◌≡◌, ℕ, ℤ, pos, ◌+◌, ◌*◌, ◌<◌, ◌++◌, List, [], ◌∷◌, length, map, append_assoc, get_or, take, refl, arith, ap, sym, ◌∙◌, suc, zero, All}
+-- The lines of a statement, as they are written one after another, and those that there are none of where nothing was traded.
+use Rattle.std.proofs.Common.{◌≡◌, ℕ, ℤ, pos, ◌+◌, ◌*◌, ◌<◌, ◌++◌, List, [], ◌∷◌, length, map, append_assoc, get_or, take, refl, arith, ap, sym, subst, ◌∙◌, suc, zero, All}
 use Rattle.std.specs.List.{flat_map, range_with_len}
 use Rattle.std.proofs.lemmas.List.Concat.{flat_map-cons}
+use Rattle.std.proofs.lemmas.List.Elements.{All-push}
 use Rattle.std.proofs.lemmas.List.{append-nil, flat_map_more, take_more, length-map, length-take, map-append}
-use Rattle.xm_rules.specs.Served.{IsUntraded}
 use Rattle.xm_rules.specs.State.{State}
 use Rattle.xm_rules.specs.Step.{Journal, replay}
 use Rattle.xm_rules.specs.Sums.{total_money, total_quantity}
@@ -38,7 +38,7 @@ securities_text-more names index (t ∷ ts) s =
 net_line-none : (names : NameLists) (s : State) (member : ℕ) → s.trades ≡ [] → net_line names s member ≡ []
 net_line-none names s member none = rw none refl
 
--- before trading no member has a net position
+-- where nothing was traded no member has a net position
 pub net_lines-none : (names : NameLists) (s : State) (members : List ℕ) → s.trades ≡ [] → flat_map (net_line names s) members ≡ []
 net_lines-none names s [] none = refl
 net_lines-none names s (m ∷ ms) none = flat_map-cons (net_line names s) m ms ∙ rw (net_line-none names s m none, net_lines-none names s ms none) refl
@@ -48,14 +48,14 @@ parts : (text heading orders total full_total trades stops nets : List ℕ) → 
 parts text heading orders total full_total trades stops nets a b c d = rw (a, b, c, d) (simp (append-nil, append_assoc))
 
 -- so a security has its heading, its orders and an empty total
-pub security-untraded : (names : NameLists) (index : ℕ) (s : State) (text : List ℕ) → IsUntraded s
+pub security-no_trades : (names : NameLists) (index : ℕ) (s : State) (text : List ℕ) → s.trades ≡ [] → s.stops ≡ []
     → ((text ++ heading_text (name_at names.securities index) s) ++ flat_map (order_line names s.settings.tick) s.orders) ++ total_text s.settings.tick 0 0 ≡ text ++ security_text names index s
-security-untraded names index s text u =
+security-no_trades names index s text no_trades no_stops =
     parts text (heading_text (name_at names.securities index) s) (flat_map (order_line names s.settings.tick) s.orders)
     (total_text s.settings.tick 0 0) (total_text s.settings.tick (total_quantity s.trades) (total_money s.trades))
     (flat_map (trade_line names s.settings.tick) s.trades) (flat_map (stop_line names s.settings.tick) s.stops) (flat_map (net_line names s) (member_indices names))
-    (ap (flat_map (trade_line names s.settings.tick)) u.trades) (ap (flat_map (stop_line names s.settings.tick)) u.stops) (net_lines-none names s (member_indices names) u.trades)
-    (ap (λ (ts : List Trade). total_text s.settings.tick (total_quantity ts) (total_money ts)) (sym u.trades))
+    (ap (flat_map (trade_line names s.settings.tick)) no_trades) (ap (flat_map (stop_line names s.settings.tick)) no_stops) (net_lines-none names s (member_indices names) no_trades)
+    (ap (λ (ts : List Trade). total_text s.settings.tick (total_quantity ts) (total_money ts)) (sym no_trades))
 
 cash-none : (s : State) (member : ℕ) → s.trades ≡ [] → cash s member ≡ pos 0
 cash-none s member none =
@@ -63,14 +63,14 @@ cash-none s member none =
     rw (none, nothing) refl
 
 -- and no member has cash
-total_cash-none : (js : List Journal) (member : ℕ) → All (λ (j : Journal). IsUntraded (replay j)) js → total_cash (map replay js) member ≡ pos 0
+total_cash-none : (js : List Journal) (member : ℕ) → All (λ (j : Journal). (replay j).trades ≡ []) js → total_cash (map replay js) member ≡ pos 0
 total_cash-none [] member h = refl
 total_cash-none (j ∷ js) member h =
-    let first : IsUntraded (replay j) = h 0 j (omega arith) in
-    let rest : All (λ (k : Journal). IsUntraded (replay k)) js = λ i d l. h (suc i) d (omega arith) in
-    rw (cash-none (replay j) member first.trades, total_cash-none js member rest) refl
+    let first : (replay j).trades ≡ [] = h 0 j (omega arith) in
+    let rest : All (λ (k : Journal). (replay k).trades ≡ []) js = λ i d l. h (suc i) d (omega arith) in
+    rw (cash-none (replay j) member first, total_cash-none js member rest) refl
 
-pub member_lines-none : (names : NameLists) (js : List Journal) (members : List ℕ) → All (λ (j : Journal). IsUntraded (replay j)) js → flat_map (cash_line names (pos 0)) members ≡ flat_map (member_line names (map replay js)) members
+pub member_lines-none : (names : NameLists) (js : List Journal) (members : List ℕ) → All (λ (j : Journal). (replay j).trades ≡ []) js → flat_map (cash_line names (pos 0)) members ≡ flat_map (member_line names (map replay js)) members
 member_lines-none names js [] h = refl
 member_lines-none names js (m ∷ ms) h =
     flat_map-cons (cash_line names (pos 0)) m ms
@@ -98,3 +98,9 @@ four_parts t t1 t2 t3 t4 a b c d e e1 e2 e3 e4 =
 pub today_of-first : (js : List Journal) (j : Journal) → 0 < length js → j ≡ get_or js 0 j → (replay j).settings.today ≡ today_of (map replay js)
 today_of-first [] j some first = absurd (omega arith)
 today_of-first (k ∷ ks) j some first = ap (λ (i : Journal). (replay i).settings.today) first
+
+-- what holds of the desks up to one, and of it
+pub all-taken : (P : Journal → Type 0) (js : List Journal) (i : ℕ) (j : Journal) → i < length js → j ≡ get_or js i j → All P (take i js) → P j → All P (take (i + 1) js)
+all-taken P js i j within is all one =
+    let AllOf : List Journal → Type 0 = λ ks. All P ks in
+    subst AllOf (sym (take_more js i j within ∙ ap (λ (k : Journal). take i js ++ k ∷ []) (sym is))) (All-push P (take i js) j all one)

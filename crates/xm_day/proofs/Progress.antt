@@ -8,13 +8,13 @@ use Rattle.csv.specs.declared.error.ErrorKind.{ErrorKind}
 use Rattle.csv.specs.declared.error.ErrorKind.TheVariants as kind
 use Rattle.csv.specs.declared.reader.Reader.{Reader}
 use Rattle.xm_day.proofs.Unread.{known, Unread, Next, took-first, read-next, none-left}
-use Rattle.xm_day.specs.Faults.{fault_at, result_then}
+use Rattle.xm_day.specs.FileFaults.{fault_at, result_then}
 use Rattle.xm_day.specs.Names.{NameLists}
 use Rattle.xm_day.specs.Orders.{with_rows, rows_after, rows_of_records, fault_of_error}
 use Rattle.xm_day.specs.Rows.{is_header, rows_of_record}
 use Rattle.xm_day.specs.declared.config.SegmentConfig.{SegmentConfig}
-use Rattle.xm_day.specs.declared.faults.FileCause.TheVariants.{Syntax, BadHeader, OutOfMemory}
-use Rattle.xm_day.specs.declared.faults.FileFault.{FileFault}
+use Rattle.xm_day.specs.declared.file_faults.FileCause.TheVariants.{Syntax, BadHeader, OutOfMemory}
+use Rattle.xm_day.specs.declared.file_faults.FileFault.{FileFault}
 use Rattle.xm_day.specs.declared.rows.Row.{Row}
 
 -- the header was read, and these rows; the rest of the records, of which the first has this number, decides

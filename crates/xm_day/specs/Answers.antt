@@ -3,16 +3,16 @@ use Rattle.std.specs.Prelude.{◌≡◌, ℕ, List, Option, None, Some, Result, 
 use Rattle.std.specs.Bool.{OnFalse, OnTrue}
 use Rattle.std.specs.Io.KnownBytes.{Appends}
 use Rattle.xm_day.specs.Day.{Day, day, segment_fault}
-use Rattle.xm_day.specs.Faults.{is_from_outside}
+use Rattle.xm_day.specs.FileFaults.{is_from_outside}
 use Rattle.xm_day.specs.Names.{NameLists}
 use Rattle.xm_day.specs.Orders.{orders_of}
 use Rattle.xm_day.specs.Segment.{segment_of}
 use Rattle.xm_day.specs.Statement.{statement}
 use Rattle.xm_day.specs.declared.config.SegmentConfig.{SegmentConfig}
-use Rattle.xm_day.specs.declared.day.DayReport.{DayReport}
+use Rattle.xm_day.specs.declared.report.DayReport.{DayReport}
 use Rattle.xm_day.specs.declared.faults.DayFault.{DayFault}
 use Rattle.xm_day.specs.declared.faults.DayFault.TheVariants.{Segment, Orders, Open, OutOfMemory, WriteFailed}
-use Rattle.xm_day.specs.declared.faults.FileFault.{FileFault}
+use Rattle.xm_day.specs.declared.file_faults.FileFault.{FileFault}
 use Rattle.xm_day.specs.declared.rows.Row.{Row}
 use Rattle.xm_desk.specs.declared.opening.OpenFault.{OpenFault}
 use Rattle.xm_desk.specs.declared.opening.OpenFault.TheVariants as opening
@@ -64,3 +64,9 @@ abbrev pub DayEnds : Option (List ℕ) → Option (List ℕ) → Option (List �
 DayEnds segment orders old new (Err (Segment fault)) = IsFileFault segment_of segment fault
 DayEnds segment orders old new result =
     (config : SegmentConfig) × (names : NameLists) × IsSegmentOf segment config names × OrdersEnd config names orders old new result
+
+-- a statement isn't written for want of memory, or because the writer failed
+abbrev pub IsOfWriting : DayFault → Type 0
+IsOfWriting OutOfMemory = Unit {0}
+IsOfWriting WriteFailed = Unit {0}
+IsOfWriting _ = ⊥

@@ -1,5 +1,5 @@
 -- The day of a segment: its rows taken one after another.
-use Rattle.std.specs.Prelude.{ℕ, ◌+◌, ◌||◌, not, if◌then◌else◌, nat_lt, List, [], ◌∷◌, length, map, slice_get, slice_set, Option, Some, None}
+use Rattle.std.specs.Prelude.{◌≡◌, ℕ, ◌+◌, ◌||◌, not, if◌then◌else◌, nat_lt, List, [], ◌∷◌, ◌++◌, length, map, slice_get, slice_set, Option, Some, None}
 use Rattle.std.specs.List.{list_all}
 use Rattle.xm_desk.specs.Opening.{are_widths}
 use Rattle.xm_desk.specs.declared.opening.OpenFault.{OpenFault}
@@ -43,6 +43,20 @@ after_row d row = on_security d row (slice_get d.states row.security)
 abbrev pub after_rows : Day → List Row → Day
 after_rows d [] = d
 after_rows d (row ∷ rows) = after_rows (after_row d row) rows
+
+-- the day would accept the row: its security is known, and nothing refuses its command
+pub record Accepts (d : Day) (row : Row) : Type 0 where
+  pub state : State
+  pub known : slice_get d.states row.security ≡ Some state
+  pub passes : refusal_of state row.command ≡ None
+
+-- memory is wanting at one of the rows, which comes after those before it and would be accepted
+pub record LacksMemoryAt (d : Day) (rows : List Row) : Type 0 where
+  pub before : List Row
+  pub row : Row
+  pub more : List Row
+  pub rows_are : before ++ row ∷ more ≡ rows
+  pub accepts : Accepts (after_rows d before) row
 
 -- the day of the rows
 abbrev pub day : SegmentConfig → List Row → Day

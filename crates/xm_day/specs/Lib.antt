@@ -1,6 +1,7 @@
 pub mod Answers
 pub mod Day
-pub mod Faults
+pub mod Examples
+pub mod FileFaults
 pub mod Names
 pub mod Orders
 pub mod Rows

@@ -40,19 +40,19 @@ abbrev pub columns : List Column
 columns = column.Command ∷ column.Member ∷ column.Reference ∷ column.Security ∷ column.Side ∷ column.Kind ∷ column.Limit ∷ column.Trigger ∷ column.Quantity ∷ column.Validity ∷ column.Restriction ∷ column.Condition ∷ []
 
 -- where a column stands
-abbrev pub place_of : Column → ℕ
-place_of column.Command = 0
-place_of column.Member = 1
-place_of column.Reference = 2
-place_of column.Security = 3
-place_of column.Side = 4
-place_of column.Kind = 5
-place_of column.Limit = 6
-place_of column.Trigger = 7
-place_of column.Quantity = 8
-place_of column.Validity = 9
-place_of column.Restriction = 10
-place_of column.Condition = 11
+abbrev pub column_index : Column → ℕ
+column_index column.Command = 0
+column_index column.Member = 1
+column_index column.Reference = 2
+column_index column.Security = 3
+column_index column.Side = 4
+column_index column.Kind = 5
+column_index column.Limit = 6
+column_index column.Trigger = 7
+column_index column.Quantity = 8
+column_index column.Validity = 9
+column_index column.Restriction = 10
+column_index column.Condition = 11
 
 -- what the header says of a column
 abbrev pub title_of : Column → List ℕ
@@ -71,7 +71,7 @@ title_of column.Condition = codes "condition"
 
 -- the field of a record in a column
 abbrev pub field : Column → List (List ℕ) → List ℕ
-field column record_fields = unwrap_or (field_at record_fields (place_of column)) []
+field column record_fields = unwrap_or (field_at record_fields (column_index column)) []
 
 -- the header has a field for each column, which is the column's title
 abbrev pub is_header : List (List ℕ) → Bool
@@ -86,8 +86,8 @@ abbrev pub whole_of : List ℕ → Option ℕ
 whole_of text = if nat_le (length text) 10 then number_of text >>= (λ n. if nat_le n 4294967295 then Some n else None) else None
 
 -- the index of a name, which must not be empty; what is no name has the number of names as its index
-abbrev pub index_of : List (List ℕ) → List ℕ → Option ℕ
-index_of names text = if length text == 0 then None else Some (position_or_len (bytes_eq text) names)
+abbrev pub name_index : List (List ℕ) → List ℕ → Option ℕ
+name_index names text = if length text == 0 then None else Some (position_or_len (bytes_eq text) names)
 
 abbrev pub side_of : List ℕ → Option Side
 side_of text = if bytes_eq text (codes "buy") then Some Buy else (if bytes_eq text (codes "sell") then Some Sell else None)
@@ -103,12 +103,12 @@ abbrev pub tick_of : List SecurityConfig → ℕ → ℕ
 tick_of securities index = option_map_or (λ security. security.tick) (slice_get securities index) 1
 
 -- the kind of an order: a limit order has a limit and no trigger
-abbrev pub kind_of : ℕ → List (List ℕ) → Option Kind
-kind_of tick fields =
+abbrev pub kind_in_record : ℕ → List (List ℕ) → Option Kind
+kind_in_record tick fields =
     if bytes_eq (field column.Kind fields) (codes "limit") && are_empty (column.Trigger ∷ []) fields
     then option_map kind.Limit (raw_price (price_of (field column.Limit fields) tick)) else None
 
--- an empty field is the plain case, and no other is served yet
+-- an empty field is the plain case, and no other text is listed
 abbrev pub validity_of : List ℕ → Option Validity
 validity_of text = if length text == 0 then Some Day else None
 
@@ -119,11 +119,11 @@ abbrev pub condition_of : List ℕ → Option Condition
 condition_of text = if length text == 0 then Some Plain else None
 
 -- the order that a member enters in a security with this tick
-abbrev pub order_of : ℕ → ℕ → List (List ℕ) → Option Command
-order_of tick member fields =
+abbrev pub order_command : ℕ → ℕ → List (List ℕ) → Option Command
+order_command tick member fields =
     whole_of (field column.Reference fields) >>= (λ reference.
     side_of (field column.Side fields) >>= (λ side.
-    kind_of tick fields >>= (λ kind.
+    kind_in_record tick fields >>= (λ kind.
     whole_of (field column.Quantity fields) >>= (λ quantity.
     validity_of (field column.Validity fields) >>= (λ validity.
     restriction_of (field column.Restriction fields) >>= (λ restriction.
@@ -133,20 +133,20 @@ order_of tick member fields =
 -- a member's row, whose command the member's and the security's index make
 abbrev pub member_row : NameLists → List (List ℕ) → (ℕ → ℕ → Option Command) → Option Entry
 member_row names fields make =
-    index_of names.members (field column.Member fields) >>= (λ member.
-    index_of names.securities (field column.Security fields) >>= (λ security.
+    name_index names.members (field column.Member fields) >>= (λ member.
+    name_index names.securities (field column.Security fields) >>= (λ security.
     make member security >>= (λ made.
     Some (One (record { security = security; command = made })))))
 
-abbrev pub enter_of : NameLists → List SecurityConfig → List (List ℕ) → Option Entry
-enter_of names securities fields = member_row names fields (λ member security. order_of (tick_of securities security) member fields)
+abbrev pub enter_entry : NameLists → List SecurityConfig → List (List ℕ) → Option Entry
+enter_entry names securities fields = member_row names fields (λ member security. order_command (tick_of securities security) member fields)
 
 -- a cancellation has a member, a reference and a security, and nothing else
 abbrev pub cancel_blank : List Column
 cancel_blank = column.Side ∷ column.Kind ∷ column.Limit ∷ column.Trigger ∷ column.Quantity ∷ column.Validity ∷ column.Restriction ∷ column.Condition ∷ []
 
-abbrev pub cancel_of : NameLists → List (List ℕ) → Option Entry
-cancel_of names fields =
+abbrev pub cancel_entry : NameLists → List (List ℕ) → Option Entry
+cancel_entry names fields =
     if are_empty cancel_blank fields
     then member_row names fields (λ member security. option_map (command.Cancel member) (whole_of (field column.Reference fields))) else None
 
@@ -154,14 +154,14 @@ cancel_of names fields =
 abbrev pub phase_blank : List Column
 phase_blank = column.Member ∷ column.Reference ∷ cancel_blank
 
-abbrev pub phase_of : Command → NameLists → List (List ℕ) → Option Entry
-phase_of phase names fields =
+abbrev pub phase_entry : Command → NameLists → List (List ℕ) → Option Entry
+phase_entry phase names fields =
     if are_empty phase_blank fields
     then (if bytes_eq (field column.Security fields) (codes "*") then Some (Each phase)
-    else option_map (λ security. One (record { security = security; command = phase })) (index_of names.securities (field column.Security fields)))
+    else option_map (λ security. One (record { security = security; command = phase })) (name_index names.securities (field column.Security fields)))
     else None
 
--- the command words that are served
+-- the command words that are listed
 abbrev pub word_of : List ℕ → Option Word
 word_of text =
     if bytes_eq text (codes "enter") then Some word.Enter
@@ -171,12 +171,12 @@ word_of text =
 -- what a record with this command word says, if each of its fields is lawful
 abbrev pub entry_with : Option Word → NameLists → List SecurityConfig → List (List ℕ) → Option Entry
 entry_with None names securities fields = None
-entry_with (Some word.Enter) names securities fields = enter_of names securities fields
-entry_with (Some word.Cancel) names securities fields = cancel_of names fields
-entry_with (Some word.Open) names securities fields = phase_of command.StartOpening names fields
+entry_with (Some word.Enter) names securities fields = enter_entry names securities fields
+entry_with (Some word.Cancel) names securities fields = cancel_entry names fields
+entry_with (Some word.Open) names securities fields = phase_entry command.StartOpening names fields
 
-abbrev pub entry_of : NameLists → List SecurityConfig → List (List ℕ) → Option Entry
-entry_of names securities fields = entry_with (word_of (field column.Command fields)) names securities fields
+abbrev pub record_entry : NameLists → List SecurityConfig → List (List ℕ) → Option Entry
+record_entry names securities fields = entry_with (word_of (field column.Command fields)) names securities fields
 
 -- the rows of an entry in a segment of so many securities: one, or one per security in index order
 abbrev pub rows_of_entry : ℕ → Entry → List Row
@@ -185,11 +185,11 @@ rows_of_entry count (Each phase) = map (λ security. record { security = securit
 
 -- the rows of a record, if it is lawful
 abbrev pub rows_of_record : NameLists → SegmentConfig → List (List ℕ) → Option (List Row)
-rows_of_record names config fields = option_map (rows_of_entry (length names.securities)) (entry_of names config.securities fields)
+rows_of_record names config fields = option_map (rows_of_entry (length names.securities)) (record_entry names config.securities fields)
 
--- the commands that are served so far: a plain limit order of the day, a cancellation, the opening
-abbrev pub is_first_path : Command → Bool
-is_first_path (command.Enter member reference side (kind.Limit limit) quantity Day Free Plain) = true
-is_first_path (command.Cancel member reference) = true
-is_first_path command.StartOpening = true
-is_first_path _ = false
+-- the commands that the rows of an order file give: a plain limit order of the day, a cancellation, the start of the opening call
+abbrev pub is_listed : Command → Bool
+is_listed (command.Enter member reference side (kind.Limit limit) quantity Day Free Plain) = true
+is_listed (command.Cancel member reference) = true
+is_listed command.StartOpening = true
+is_listed _ = false

@@ -8,13 +8,13 @@ use Rattle.toml.specs.Data.{Data, Items, no_items, item, Members, no_members, me
 use Rattle.toml.specs.Parse.{parse_document}
 use Rattle.xm_rules.specs.declared.settings.Widths.{Widths}
 use Rattle.xm_ticks.specs.Reading.{price_of}
-use Rattle.xm_day.specs.Faults.{fault_at, result_then}
+use Rattle.xm_day.specs.FileFaults.{fault_at, most_bytes, result_then}
 use Rattle.xm_day.specs.Names.{NameLists, is_among}
 use Rattle.xm_day.specs.declared.config.SecurityConfig.{SecurityConfig}
 use Rattle.xm_day.specs.declared.config.SegmentConfig.{SegmentConfig}
-use Rattle.xm_day.specs.declared.faults.FileCause.{FileCause}
-use Rattle.xm_day.specs.declared.faults.FileCause.TheVariants.{TooLong, Syntax, MissingKey, UnknownKey, BadValue, DuplicateName}
-use Rattle.xm_day.specs.declared.faults.FileFault.{FileFault}
+use Rattle.xm_day.specs.declared.file_faults.FileCause.{FileCause}
+use Rattle.xm_day.specs.declared.file_faults.FileCause.TheVariants.{TooLong, Syntax, MissingKey, UnknownKey, BadValue, DuplicateName}
+use Rattle.xm_day.specs.declared.file_faults.FileFault.{FileFault}
 
 -- a step that asks for the value of the step before
 infixl 10 ◌>>=◌
@@ -175,4 +175,4 @@ document_of bytes = if is_utf8 bytes then parse_document bytes else None
 
 -- what the bytes of a segment file give
 abbrev pub segment_of : List ℕ → Result (SegmentConfig × NameLists) FileFault
-segment_of bytes = if nat_lt 16777216 (length bytes) then Err (fault_at 0 TooLong) else segment_in (document_of bytes)
+segment_of bytes = if nat_lt most_bytes (length bytes) then Err (fault_at 0 TooLong) else segment_in (document_of bytes)

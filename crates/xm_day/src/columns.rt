@@ -3,7 +3,7 @@ ghost use Rattle.std.specs.Prelude.{◌≡◌};
 ghost use Rattle.std.specs.List.{list_all};
 ghost use Rattle.std.specs.Str.{bytes_eq};
 ghost use Rattle.csv.specs.Records.{fields_of};
-ghost use Rattle.xm_day.specs.Rows.{are_empty, field, is_header, place_of, title_of};
+ghost use Rattle.xm_day.specs.Rows.{are_empty, field, is_header, column_index, title_of};
 
 use csv::ByteRecord;
 
@@ -41,8 +41,8 @@ impl Column {
     ];
 
     /// Where the column stands.
-    fn place(self) -> usize
-        ensures { result ≡ place_of self }
+    fn index(self) -> usize
+        ensures { result ≡ column_index self }
     {
         self as usize
     }
@@ -72,7 +72,7 @@ impl Column {
 pub(crate) fn field(fields: &ByteRecord, column: Column) -> &[u8]
     ensures { result.now ≡ field column (fields_of fields.now) }
 {
-    match fields.get(column.place()) {
+    match fields.get(column.index()) {
         Some(text) => text,
         None => &[],
     }

@@ -7,21 +7,11 @@ use crate::desks::{open_desks, take_rows};
 use crate::faults::DayFault;
 use crate::names::Names;
 use crate::orders::read_rows;
+use crate::report::DayReport;
 use crate::segment::read_segment;
 use crate::statements::statement;
 use std::alloc::Global;
 use std::io;
-use xm_rules::OutOfMemory;
-
-#[cfg(test)]
-mod tests;
-
-/// How many rows of a day were accepted and refused.
-#[derive(Clone, Copy, PartialEq, Eq, Debug)]
-pub struct DayReport {
-    pub accepted: u64,
-    pub refused: u64,
-}
 
 /// Runs the day of a segment whose file is read: reads the order file, takes its rows, and writes
 /// the statement. The checks come in this order.
@@ -45,18 +35,10 @@ pub fn run_orders<R: io::Read, W: io::Write>(
         Ok(rows) => rows,
         Err(fault) => return Err(DayFault::Orders(fault)),
     };
-    let mut desks = match open_desks(alloc, config) {
-        Ok(desks) => desks,
-        Err(fault) => return Err(DayFault::Open(fault)),
-    };
-    let report = match take_rows(desks.as_mut_slice(), rows.as_slice()) {
-        Ok(report) => report,
-        Err(OutOfMemory) => return Err(DayFault::OutOfMemory),
-    };
-    match statement(alloc, desks.as_slice(), names, &report, out) {
-        Ok(()) => Ok(report),
-        Err(fault) => Err(fault),
-    }
+    let mut desks = open_desks(alloc, config)?;
+    let report = take_rows(desks.as_mut_slice(), rows.as_slice())?;
+    statement(alloc, desks.as_slice(), names, &report, out)?;
+    Ok(report)
 }
 
 /// Runs the day of a segment file and an order file: reads both, takes the rows on the calling

@@ -1,14 +1,14 @@
 //! The desks of a segment, and the rows that they take.
-ghost use Rattle.std.specs.Prelude.{◌≡◌, ◌≢◌, ◌+◌, ◌<◌, ◌^◌, [], All, Err, IfErr, IfOk, None, OnOk, Some, length, map, true};
+ghost use Rattle.std.specs.Prelude.{◌≡◌, ◌≢◌, ◌+◌, ◌<◌, ◌^◌, [], All, Err, IfErr, IfOk, None, OnErr, OnOk, Some, false, length, map, true};
 ghost use Rattle.std.specs.List.{list_all};
-ghost use Rattle.xm_day.specs.Day.{after_row, after_rows, day_of, journal_of, segment_fault};
-ghost use Rattle.xm_day.specs.Rows.{is_first_path};
+ghost use Rattle.xm_day.specs.Day.{Accepts, LacksMemoryAt, after_row, after_rows, day_of, journal_of, segment_fault};
+ghost use Rattle.xm_day.specs.Rows.{is_listed};
 ghost use Rattle.xm_desk.specs.Opening.{are_widths};
-ghost use Rattle.xm_rules.specs.Served.{IsUntraded};
+ghost use Rattle.xm_rules.specs.Settling.{is_continuous};
 ghost use Rattle.xm_rules.specs.Step.{replay};
 
 use crate::config::{SecurityConfig, SegmentConfig};
-use crate::day::DayReport;
+use crate::report::DayReport;
 use crate::rows::Row;
 use std::alloc::{AllocError, Allocator, Global};
 use xm_desk::{Desk, OpenFault, are_widths};
@@ -24,10 +24,7 @@ pub fn open_desks(alloc: Global, config: &SegmentConfig) -> Result<Vec<Desk<Glob
     if let Some(fault) = segment_fault(config) {
         return Err(fault);
     }
-    match desks_of(alloc, config) {
-        Ok(desks) => Ok(desks),
-        Err(_) => Err(OpenFault::OutOfMemory),
-    }
+    desks_of(alloc, config).map_err(|_| OpenFault::OutOfMemory)
 }
 
 /// The desks of a segment without a fault.
@@ -74,6 +71,7 @@ fn segment_fault(config: &SegmentConfig) -> Option<OpenFault>
     }
 }
 
+/// Whether the widths of each security are lawful.
 fn have_widths(securities: &[SecurityConfig]) -> bool
     ensures { result ≡ list_all (λ security. are_widths security.widths) securities.now }
 {
@@ -82,15 +80,16 @@ fn have_widths(securities: &[SecurityConfig]) -> bool
         .all(|security| are_widths(&security.widths))
 }
 
-/// Takes rows in their order, and counts which were accepted and refused.
+/// Takes rows in their order, and counts which were accepted and refused. `OutOfMemory` comes only
+/// at a row that nothing else refuses.
 pub fn take_rows<A: Allocator + Copy>(
     desks: &mut [Desk<A>],
     rows: &[Row],
 ) -> Result<DayReport, OutOfMemory>
-    requires untraded { All (λ j. IsUntraded (replay j)) desks.old }
-    requires served { list_all (λ row. is_first_path row.command) rows.now ≡ true }
+    requires outside_trading { All (λ j. is_continuous (replay j).phase ≡ false) desks.old }
+    requires listed { list_all (λ row. is_listed row.command) rows.now ≡ true }
     ensures taken { IfOk result (λ report. day_of desks.new report.accepted report.refused ≡ after_rows (day_of desks.old 0 0) rows.now) }
-    ensures untraded { OnOk result (All (λ j. IsUntraded (replay j)) desks.new) }
+    ensures memory { OnErr result (LacksMemoryAt (day_of desks.old 0 0) rows.now) }
 {
     let mut report = DayReport {
         accepted: 0,
@@ -102,18 +101,20 @@ pub fn take_rows<A: Allocator + Copy>(
     Ok(report)
 }
 
-/// Takes a row, and counts it in a report. One of an unknown security is refused.
+/// Takes a row, and counts it in a report. One of an unknown security is refused. `OutOfMemory`
+/// comes only where nothing else refuses it.
 fn take_row<A: Allocator + Copy>(
     desks: &mut [Desk<A>],
     row: &Row,
     report: DayReport,
 ) -> Result<DayReport, OutOfMemory>
-    requires untraded { All (λ j. IsUntraded (replay j)) desks.old }
-    requires served { is_first_path row.now.command ≡ true }
+    requires outside_trading { All (λ j. is_continuous (replay j).phase ≡ false) desks.old }
+    requires listed { is_listed row.now.command ≡ true }
     requires room { report.accepted + report.refused + 1 < 2 ^ 64 }
     ensures taken { IfOk result (λ counted. after_row (day_of desks.old report.accepted report.refused) row.now ≡ day_of desks.new counted.accepted counted.refused) }
     ensures counted { IfOk result (λ counted. counted.accepted + counted.refused ≡ report.accepted + report.refused + 1) }
-    ensures untraded { OnOk result (All (λ j. IsUntraded (replay j)) desks.new) }
+    ensures memory { OnErr result (Accepts (day_of desks.old report.accepted report.refused) row.now) }
+    ensures outside_trading { OnOk result (All (λ j. is_continuous (replay j).phase ≡ false) desks.new) }
 {
     let refused = DayReport {
         accepted: report.accepted,

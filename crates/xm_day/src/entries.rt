@@ -2,7 +2,7 @@
 ghost use Rattle.std.specs.Prelude.{◌≡◌};
 ghost use Rattle.csv.specs.Records.{fields_of};
 ghost use Rattle.xm_day.specs.declared.columns.Column.TheVariants as column;
-ghost use Rattle.xm_day.specs.Rows.{cancel_of, enter_of, entry_of, field, index_of, kind_of, order_of, phase_of, tick_of, word_of};
+ghost use Rattle.xm_day.specs.Rows.{cancel_entry, enter_entry, record_entry, field, name_index, kind_in_record, order_command, phase_entry, tick_of, word_of};
 
 use crate::columns::{Column, are_empty, field};
 use crate::config::{SecurityConfig, SegmentConfig};
@@ -20,7 +20,7 @@ pub(crate) enum Entry {
     Each(Command),
 }
 
-/// The command words that are served.
+/// The command words that are listed.
 #[derive(Clone, Copy, PartialEq, Eq, Debug)]
 enum Word {
     Enter,
@@ -34,7 +34,7 @@ pub(crate) fn parse_entry(
     names: &Names,
     config: &SegmentConfig,
 ) -> Option<Entry>
-    ensures { result ≡ entry_of names.now config.now.securities (fields_of fields.now) }
+    ensures { result ≡ record_entry names.now config.now.securities (fields_of fields.now) }
 {
     match parse_word(field(fields, Column::Command))? {
         Word::Enter => enter(fields, names, config.securities.as_slice()),
@@ -43,6 +43,7 @@ pub(crate) fn parse_entry(
     }
 }
 
+/// The command word of a text.
 fn parse_word(text: &[u8]) -> Option<Word>
     ensures { result ≡ word_of text.now }
 {
@@ -59,7 +60,7 @@ fn parse_word(text: &[u8]) -> Option<Word>
 
 /// The index of the member in a record; an unknown name has the number of names as its index.
 fn member(fields: &ByteRecord, names: &Names) -> Option<u32>
-    ensures { result ≡ index_of names.now.members (field column.Member (fields_of fields.now)) }
+    ensures { result ≡ name_index names.now.members (field column.Member (fields_of fields.now)) }
 {
     let name = field(fields, Column::Member);
     if name.is_empty() {
@@ -71,7 +72,7 @@ fn member(fields: &ByteRecord, names: &Names) -> Option<u32>
 
 /// The index of the security in a record; an unknown name has the number of names as its index.
 fn security(fields: &ByteRecord, names: &Names) -> Option<u32>
-    ensures { result ≡ index_of names.now.securities (field column.Security (fields_of fields.now)) }
+    ensures { result ≡ name_index names.now.securities (field column.Security (fields_of fields.now)) }
 {
     let name = field(fields, Column::Security);
     if name.is_empty() {
@@ -83,7 +84,7 @@ fn security(fields: &ByteRecord, names: &Names) -> Option<u32>
 
 /// The order that a record enters.
 fn enter(fields: &ByteRecord, names: &Names, securities: &[SecurityConfig]) -> Option<Entry>
-    ensures { result ≡ enter_of names.now securities.now (fields_of fields.now) }
+    ensures { result ≡ enter_entry names.now securities.now (fields_of fields.now) }
 {
     let member = member(fields, names)?;
     let security = security(fields, names)?;
@@ -103,7 +104,7 @@ fn tick(securities: &[SecurityConfig], security: u32) -> TickSize
 
 /// The order that a member enters in a security with this tick.
 fn order(fields: &ByteRecord, member: u32, tick: TickSize) -> Option<Command>
-    ensures { result ≡ order_of tick member (fields_of fields.now) }
+    ensures { result ≡ order_command tick member (fields_of fields.now) }
 {
     let reference = whole(field(fields, Column::Reference))?;
     let side = side(field(fields, Column::Side))?;
@@ -126,20 +127,17 @@ fn order(fields: &ByteRecord, member: u32, tick: TickSize) -> Option<Command>
 
 /// The kind of an order with its prices.
 fn kind(fields: &ByteRecord, tick: TickSize) -> Option<Kind>
-    ensures { result ≡ kind_of tick (fields_of fields.now) }
+    ensures { result ≡ kind_in_record tick (fields_of fields.now) }
 {
     if !is_word(field(fields, Column::Kind), "limit") || !are_empty(fields, &[Column::Trigger]) {
         return None;
     }
-    match price(field(fields, Column::Limit), tick) {
-        Some(limit) => Some(Kind::Limit(limit)),
-        None => None,
-    }
+    price(field(fields, Column::Limit), tick).map(Kind::Limit)
 }
 
 /// The cancellation that a record is.
 fn cancel(fields: &ByteRecord, names: &Names) -> Option<Entry>
-    ensures { result ≡ cancel_of names.now (fields_of fields.now) }
+    ensures { result ≡ cancel_entry names.now (fields_of fields.now) }
 {
     let blank = [
         Column::Side,
@@ -165,7 +163,7 @@ fn cancel(fields: &ByteRecord, names: &Names) -> Option<Entry>
 
 /// The phase command that a record gives to one security, or by `*` to each.
 fn phase(fields: &ByteRecord, names: &Names, command: Command) -> Option<Entry>
-    ensures { result ≡ phase_of command names.now (fields_of fields.now) }
+    ensures { result ≡ phase_entry command names.now (fields_of fields.now) }
 {
     let blank = [
         Column::Member,

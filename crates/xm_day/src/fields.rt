@@ -38,6 +38,7 @@ pub(crate) fn price(text: &[u8], tick: TickSize) -> Option<u32>
     }
 }
 
+/// The side that a text names.
 pub(crate) fn side(text: &[u8]) -> Option<Side>
     ensures { result ≡ side_of text.now }
 {
@@ -50,6 +51,7 @@ pub(crate) fn side(text: &[u8]) -> Option<Side>
     }
 }
 
+/// How long an order is valid: for the day, the one that an empty text names.
 pub(crate) fn validity(text: &[u8]) -> Option<Validity>
     ensures { result ≡ validity_of text.now }
 {
@@ -60,6 +62,7 @@ pub(crate) fn validity(text: &[u8]) -> Option<Validity>
     }
 }
 
+/// The restriction of an order: none, which an empty text names.
 pub(crate) fn restriction(text: &[u8]) -> Option<Restriction>
     ensures { result ≡ restriction_of text.now }
 {
@@ -70,6 +73,7 @@ pub(crate) fn restriction(text: &[u8]) -> Option<Restriction>
     }
 }
 
+/// The condition of an order: none, which an empty text names.
 pub(crate) fn condition(text: &[u8]) -> Option<Condition>
     ensures { result ≡ condition_of text.now }
 {

@@ -3,27 +3,36 @@
 
 mod bytes;
 mod columns;
-pub mod config;
-pub mod day;
+mod config;
+mod day;
 mod desks;
 mod entries;
-pub mod faults;
+pub mod examples;
+mod faults;
 mod fields;
+mod file_faults;
+#[cfg(test)]
+mod fixtures;
 pub mod laws;
-pub mod names;
-pub mod orders;
-pub mod rows;
-pub mod segment;
-pub mod statements;
+mod names;
+mod orders;
+mod report;
+mod rows;
+mod segment;
+mod statements;
 mod tables;
 #[cfg(test)]
 mod tests;
 
+pub use bytes::MOST_BYTES;
 pub use config::{Securities, SecurityConfig, SegmentConfig};
-pub use day::{DayReport, run_alone, run_orders};
-pub use faults::{DayFault, FileCause, FileFault};
+pub use day::{run_alone, run_orders};
+pub use faults::DayFault;
+pub use file_faults::{FileCause, FileFault};
 pub use names::Names;
-pub use orders::read_rows;
+pub use orders::{MOST_ROWS, read_rows};
+pub use report::DayReport;
 pub use rows::Row;
 pub use segment::read_segment;
 pub use statements::statement;
+pub use xm_desk::OpenFault;

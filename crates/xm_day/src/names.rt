@@ -4,14 +4,15 @@ ghost use Rattle.std.specs.List.{position_or_len};
 ghost use Rattle.std.specs.Str.{bytes_eq};
 ghost use Rattle.xm_day.specs.Names.{is_among};
 
-use crate::faults::FileCause;
+use crate::bytes::MOST_BYTES;
+use crate::file_faults::FileCause;
 use indexmap::IndexSet;
 use std::alloc::Global;
 use std::hash::{BuildHasherDefault, FoldHasher};
 use std::marker::Model;
 
 /// The most names of a kind, which is more than a file has room for.
-const MOST_NAMES: usize = 16_777_216;
+const MOST_NAMES: usize = MOST_BYTES;
 
 /// Distinct names in index order, at most `MOST_NAMES`, found by their bytes. A clause sees the list
 /// of their bytes.
@@ -31,6 +32,7 @@ impl Model for NameList {
 }
 
 impl NameList {
+    /// No names.
     pub(crate) fn new(alloc: Global) -> NameList
         ensures { result ≡ [] }
     {
@@ -42,7 +44,7 @@ impl NameList {
     /// The number of names.
     pub(crate) fn len(&self) -> u32
         ensures len { result ≡ length self.now }
-        ensures most { result ≤ 16777216 }
+        ensures most { result ≤ MOST_NAMES }
     {
         self.names.len() as u32
     }
@@ -94,13 +96,8 @@ impl NameList {
         if self.names.len() == MOST_NAMES {
             return Err(FileCause::OutOfMemory);
         }
-        let name = match String::from_str(alloc, name) {
-            Ok(name) => name,
-            Err(_) => return Err(FileCause::OutOfMemory),
-        };
-        if self.names.insert(name).is_err() {
-            return Err(FileCause::OutOfMemory);
-        }
+        let name = String::from_str(alloc, name)?;
+        self.names.insert(name)?;
         Ok(())
     }
 }
@@ -122,6 +119,7 @@ impl Model for Names {
 }
 
 impl Names {
+    /// The names of these members and these securities.
     pub(crate) fn new(members: NameList, securities: NameList) -> Names
         ensures { result ≡ record { members = members; securities = securities } }
     {

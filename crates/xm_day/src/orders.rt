@@ -4,15 +4,15 @@ ghost use Rattle.std.specs.Bool.{OnTrue, OnFalse};
 ghost use Rattle.std.specs.List.{list_all, range_with_len};
 ghost use Rattle.csv.specs.Reading.{default_config, error_kind, records, strip_bom};
 ghost use Rattle.csv.specs.Records.{fields_of};
-ghost use Rattle.xm_day.specs.Faults.{is_from_outside};
+ghost use Rattle.xm_day.specs.FileFaults.{is_from_outside};
 ghost use Rattle.xm_day.specs.Orders.{fault_of_error, orders_of, rows_of_records, with_rows};
-ghost use Rattle.xm_day.specs.Rows.{is_first_path, rows_of_entry, rows_of_record};
+ghost use Rattle.xm_day.specs.Rows.{is_listed, rows_of_entry, rows_of_record};
 
-use crate::bytes::read_whole;
+use crate::bytes::{MOST_BYTES, read_whole};
 use crate::columns::is_header;
 use crate::config::SegmentConfig;
 use crate::entries::{Entry, parse_entry};
-use crate::faults::{FileCause, FileFault};
+use crate::file_faults::{FileCause, FileFault};
 use crate::names::Names;
 use crate::rows::Row;
 use csv::{ByteRecord, ErrorKind, ReaderBuilder};
@@ -21,7 +21,7 @@ use std::io::Read;
 use xm_rules::Command;
 
 /// The most rows that an order file may stand for.
-const MOST_ROWS: usize = 1_000_000;
+pub const MOST_ROWS: usize = 1_000_000;
 
 /// Reads an order file: its rows, for the members and the securities with these names.
 ///
@@ -40,15 +40,12 @@ pub fn read_rows<R: Read>(
     requires securities { length names.now.securities ≡ length config.now.securities }
     requires members { length names.now.members ≡ config.now.members }
     ensures read { IfOk result (λ rows. IfSome (R.remaining reader.old) (λ bytes. orders_of names.now config.now bytes ≡ Ok rows.items)) }
-    ensures served { IfOk result (λ rows. list_all (λ row. is_first_path row.command) rows.items ≡ true) }
-    ensures few { IfOk result (λ rows. length rows.items ≤ 1000000) }
+    ensures listed { IfOk result (λ rows. list_all (λ row. is_listed row.command) rows.items ≡ true) }
+    ensures few { IfOk result (λ rows. length rows.items ≤ MOST_ROWS) }
     ensures fault { IfErr result (λ fault. OnFalse (is_from_outside fault.cause) (IfSome (R.remaining reader.old) (λ bytes. orders_of names.now config.now bytes ≡ Err fault))) }
     ensures outside { IfErr result (λ fault. OnTrue (is_from_outside fault.cause) (fault.line ≡ 0)) }
 {
-    let bytes = match read_whole(alloc, reader) {
-        Ok(bytes) => bytes,
-        Err(cause) => return Err(FileFault { line: 0, cause }),
-    };
+    let bytes = read_whole(alloc, reader)?;
     parse_rows(alloc, bytes.as_slice(), names, config)
 }
 
@@ -59,10 +56,10 @@ fn parse_rows(
     names: &Names,
     config: &SegmentConfig,
 ) -> Result<Vec<Row>, FileFault>
-    requires { length text.now ≤ 16777216 }
+    requires { length text.now ≤ MOST_BYTES }
     ensures ok { IfOk result (λ rows. rows_of_records names.now config.now (records default_config (strip_bom text.now)) ≡ Ok rows.items) }
-    ensures served { IfOk result (λ rows. list_all (λ row. is_first_path row.command) rows.items ≡ true) }
-    ensures few { IfOk result (λ rows. length rows.items ≤ 1000000) }
+    ensures listed { IfOk result (λ rows. list_all (λ row. is_listed row.command) rows.items ≡ true) }
+    ensures few { IfOk result (λ rows. length rows.items ≤ MOST_ROWS) }
     ensures err { IfErr result (λ fault. fault.cause ≢ FileCause.OutOfMemory → rows_of_records names.now config.now (records default_config (strip_bom text.now)) ≡ Err fault) }
     ensures memory { IfErr result (λ fault. OnTrue (is_from_outside fault.cause) (fault.line ≡ 0)) }
 {
@@ -86,14 +83,12 @@ fn parse_rows(
             Ok(false) => return Ok(rows),
             Err(error) => return Err(fault_of_error(line, &error)),
         }
-        match add_record(&mut rows, line, &fields, names, config) {
-            Ok(()) => {}
-            Err(fault) => return Err(fault),
-        }
+        add_record(&mut rows, line, &fields, names, config)?;
         line += 1;
     }
 }
 
+/// A fault of the record with this number.
 fn fault_at(line: u32, cause: FileCause) -> FileFault
     ensures { result ≡ record { line = line; cause = cause } }
 {
@@ -119,22 +114,17 @@ fn add_record(
     names: &Names,
     config: &SegmentConfig,
 ) -> Result<(), FileFault>
-    requires { length rows.old.items ≤ 1000000 }
+    requires { length rows.old.items ≤ MOST_ROWS }
     ensures ok { OnOk result (with_rows line rows.old.items (rows_of_record names.now config.now (fields_of fields.now)) ≡ Ok rows.new.items) }
-    ensures few { OnOk result (length rows.new.items ≤ 1000000) }
+    ensures few { OnOk result (length rows.new.items ≤ MOST_ROWS) }
     ensures err { IfErr result (λ fault. fault.cause ≢ FileCause.OutOfMemory → with_rows line rows.old.items (rows_of_record names.now config.now (fields_of fields.now)) ≡ Err fault) }
     ensures memory { IfErr result (λ fault. OnTrue (is_from_outside fault.cause) (fault.line ≡ 0)) }
 {
-    let entry = match parse_entry(fields, names, config) {
-        Some(entry) => entry,
-        None => return Err(fault_at(line, FileCause::BadField)),
-    };
+    let entry = parse_entry(fields, names, config).ok_or(fault_at(line, FileCause::BadField))?;
     if MOST_ROWS - rows.len() < count_of(entry, names.securities()) as usize {
         return Err(fault_at(line, FileCause::TooManyRows));
     }
-    if add_entry(rows, entry, names.securities()).is_err() {
-        return Err(fault_at(0, FileCause::OutOfMemory));
-    }
+    add_entry(rows, entry, names.securities())?;
     Ok(())
 }
 

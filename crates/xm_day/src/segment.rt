@@ -5,12 +5,12 @@ ghost use Rattle.std.specs.List.{list_all};
 ghost use Rattle.toml.specs.Data.{get_member};
 ghost use Rattle.toml.specs.Errors.{IsMemory};
 ghost use Rattle.toml.specs.View.{table_view};
-ghost use Rattle.xm_day.specs.Faults.{is_from_outside};
+ghost use Rattle.xm_day.specs.FileFaults.{is_from_outside};
 ghost use Rattle.xm_day.specs.Segment.{are_distinct, document_of, fault_after, listed, has_keys, has_only, securities_after, security_keys, security_of, security_values, segment_in, segment_of, segment_with, settings_in, top_keys, top_of, top_values, widths_in};
 
 use crate::bytes::read_whole;
 use crate::config::{Securities, SecurityConfig, SegmentConfig};
-use crate::faults::{FileCause, FileFault};
+use crate::file_faults::{FileCause, FileFault};
 use crate::names::{NameList, Names};
 use crate::tables::{
     array_at, has_keys, has_only, name_at, names_in, number_at, price_at, tables_in,
@@ -38,18 +38,8 @@ pub fn read_segment<R: Read>(
     ensures fault { IfErr result (λ fault. OnFalse (is_from_outside fault.cause) (IfSome (R.remaining reader.old) (λ bytes. segment_of bytes ≡ Err fault))) }
     ensures outside { IfErr result (λ fault. OnTrue (is_from_outside fault.cause) (fault.line ≡ 0)) }
 {
-    let bytes = match read_whole(alloc, reader) {
-        Ok(bytes) => bytes,
-        Err(cause) => return Err(top_fault(cause)),
-    };
+    let bytes = read_whole(alloc, reader)?;
     parse_segment(alloc, bytes.as_slice())
-}
-
-/// A fault of the whole text or of its top keys.
-fn top_fault(cause: FileCause) -> FileFault
-    ensures { result ≡ record { line = 0; cause = cause } }
-{
-    FileFault { line: 0, cause }
 }
 
 /// The segment that a text writes.
@@ -61,10 +51,7 @@ fn parse_segment(alloc: Global, text: &[u8]) -> Result<(SegmentConfig, Names), F
     ensures fault { IfErr result (λ fault. fault.cause ≢ FileCause.OutOfMemory → segment_in (document_of text.now) ≡ Err fault) }
     ensures memory { IfErr result (λ fault. OnTrue (is_from_outside fault.cause) (fault.line ≡ 0)) }
 {
-    let table = match parse_table(alloc, text) {
-        Ok(table) => table,
-        Err(cause) => return Err(top_fault(cause)),
-    };
+    let table = parse_table(alloc, text)?;
     segment_of_table(alloc, &table)
 }
 
@@ -108,18 +95,9 @@ fn segment_of_table(alloc: Global, table: &Table) -> Result<(SegmentConfig, Name
     ensures fault { IfErr result (λ fault. fault.cause ≢ FileCause.OutOfMemory → segment_with (top_of (table_view table.now)) ≡ Err fault) }
     ensures memory { IfErr result (λ fault. OnTrue (is_from_outside fault.cause) (fault.line ≡ 0)) }
 {
-    let top = match top_of(alloc, table) {
-        Ok(top) => top,
-        Err(cause) => return Err(top_fault(cause)),
-    };
-    let members = match list_members(alloc, top.members.as_slice()) {
-        Ok(members) => members,
-        Err(cause) => return Err(top_fault(cause)),
-    };
-    let listing = match list_securities(alloc, top.securities.as_slice()) {
-        Ok(listing) => listing,
-        Err(fault) => return Err(fault),
-    };
+    let top = top_of(alloc, table)?;
+    let members = list_members(alloc, top.members.as_slice())?;
+    let listing = list_securities(alloc, top.securities.as_slice())?;
     Ok((
         SegmentConfig {
             today: top.today,
@@ -153,26 +131,11 @@ fn top_values(alloc: Global, table: &Table) -> Result<Top<'_>, FileCause>
     ensures ok { IfOk result (λ top. top_values (table_view table.now) ≡ Some (record { today = top.today; members = map (λ name. name.now) top.members.items; securities = map (λ t. table_view t.now) top.securities.items })) }
     ensures err { IfErr result (λ cause. cause ≢ FileCause.OutOfMemory → (cause ≡ FileCause.BadValue) × (top_values (table_view table.now) ≡ None)) }
 {
-    let today = match number_at(table, "date", 0, 99_999_999) {
-        Some(today) => today,
-        None => return Err(FileCause::BadValue),
-    };
-    let members = match array_at(table, "members") {
-        Some(values) => values,
-        None => return Err(FileCause::BadValue),
-    };
-    let members = match names_in(alloc, members) {
-        Ok(members) => members,
-        Err(cause) => return Err(cause),
-    };
-    let securities = match array_at(table, "security") {
-        Some(values) => values,
-        None => return Err(FileCause::BadValue),
-    };
-    let securities = match tables_in(alloc, securities) {
-        Ok(securities) => securities,
-        Err(cause) => return Err(cause),
-    };
+    let today = number_at(table, "date", 0, 99_999_999).ok_or(FileCause::BadValue)?;
+    let members = array_at(table, "members").ok_or(FileCause::BadValue)?;
+    let members = names_in(alloc, members)?;
+    let securities = array_at(table, "security").ok_or(FileCause::BadValue)?;
+    let securities = tables_in(alloc, securities)?;
     Ok(Top {
         today,
         members,
@@ -188,10 +151,7 @@ fn list_members(alloc: Global, names: &[&str]) -> Result<NameList, FileCause>
 {
     let mut list = NameList::new(alloc);
     for name in names {
-        match list.add(alloc, *name) {
-            Ok(()) => {}
-            Err(cause) => return Err(cause),
-        }
+        list.add(alloc, *name)?;
     }
     Ok(list)
 }
@@ -215,10 +175,7 @@ fn list_securities(alloc: Global, tables: &[&Table]) -> Result<Listing, FileFaul
         settings: Vec::new(alloc),
     };
     for table in tables {
-        match add_security(alloc, &mut listing, *table) {
-            Ok(()) => {}
-            Err(fault) => return Err(fault),
-        }
+        add_security(alloc, &mut listing, *table)?;
     }
     Ok(listing)
 }
@@ -238,12 +195,10 @@ fn add_security(alloc: Global, listing: &mut Listing, table: &Table) -> Result<(
     };
     match listing.names.add(alloc, security.name) {
         Ok(()) => {}
-        Err(FileCause::OutOfMemory) => return Err(top_fault(FileCause::OutOfMemory)),
+        Err(FileCause::OutOfMemory) => return Err(FileFault::from(FileCause::OutOfMemory)),
         Err(cause) => return Err(FileFault { line, cause }),
     }
-    if listing.settings.push(security.settings).is_err() {
-        return Err(top_fault(FileCause::OutOfMemory));
-    }
+    listing.settings.push(security.settings)?;
     Ok(())
 }
 

@@ -2,15 +2,14 @@
 ghost use Rattle.std.specs.Prelude.{◌≡◌, ◌++◌, ◌<◌, ◌∷◌, [], All, Err, pos, IfErr, IfOk, OnOk, length, map};
 ghost use Rattle.std.specs.Io.KnownBytes.{Appends};
 ghost use Rattle.std.specs.List.{flat_map};
-ghost use Rattle.xm_day.specs.Faults.{IsOfWriting};
+ghost use Rattle.xm_day.specs.Answers.{IsOfWriting};
 ghost use Rattle.xm_day.specs.Statement.{cash_line, date_text, day_line, heading_text, limit_text, member_indices, name_at, order_line, phase_word, references_line, restriction_word, rows_line, securities_text, security_line, security_text, side_word, statement, total_text, validity_text};
-ghost use Rattle.xm_rules.specs.Served.{IsUntraded};
 ghost use Rattle.xm_rules.specs.Step.{replay};
 ghost use Rattle.xm_ticks.specs.Writing.{AppendsPrefix};
 
-use crate::day::DayReport;
 use crate::faults::DayFault;
 use crate::names::Names;
+use crate::report::DayReport;
 use itoa::Buffer;
 use std::alloc::Allocator;
 use std::io::{self, Write};
@@ -21,7 +20,7 @@ use xm_ticks::{Price, TickSize, write_money, write_price, write_whole};
 /// Writes the statement of the desks of a segment, which are in index order.
 ///
 /// The text is made whole first. After `OutOfMemory` nothing was written, and after `WriteFailed`
-/// a proper prefix of the text. Until trading is served no desk has a trade or a held stop.
+/// a proper prefix of the text.
 pub fn statement<A: Allocator, B: Allocator + Copy, W: io::Write>(
     alloc: A,
     desks: &[Desk<B>],
@@ -31,7 +30,6 @@ pub fn statement<A: Allocator, B: Allocator + Copy, W: io::Write>(
 ) -> Result<(), DayFault>
     requires some { 0 < length desks.now }
     requires names { length names.now.securities ≡ length desks.now }
-    requires untraded { All (λ j. IsUntraded (replay j)) desks.now }
     ensures ok { OnOk result (Appends (W.contents out.old) (W.contents out.new)
         (statement names.now (map replay desks.now) report.now.accepted report.now.refused)) }
     ensures memory { result ≡ Err DayFault.OutOfMemory → out.new ≡ out.old }
@@ -58,7 +56,6 @@ fn statement_text<A: Allocator, B: Allocator + Copy>(
 ) -> io::Result<Vec<u8, A>>
     requires some { 0 < length desks.now }
     requires names { length names.now.securities ≡ length desks.now }
-    requires untraded { All (λ j. IsUntraded (replay j)) desks.now }
     ensures { IfOk result (λ text. text.items ≡ statement names.now (map replay desks.now) report.now.accepted report.now.refused) }
 {
     let mut text = Vec::new(alloc);
@@ -69,6 +66,7 @@ fn statement_text<A: Allocator, B: Allocator + Copy>(
     Ok(text)
 }
 
+/// The date.
 fn push_day<A: Allocator>(text: &mut Vec<u8, A>, date: u32) -> io::Result<()>
     ensures { OnOk result (text.new.items ≡ text.old.items ++ day_line date) }
 {
@@ -77,6 +75,7 @@ fn push_day<A: Allocator>(text: &mut Vec<u8, A>, date: u32) -> io::Result<()>
     writeln!(text)
 }
 
+/// How many rows were accepted and refused.
 fn push_rows<A: Allocator>(text: &mut Vec<u8, A>, report: &DayReport) -> io::Result<()>
     ensures { OnOk result (text.new.items ≡ text.old.items ++ rows_line report.now.accepted report.now.refused) }
 {
@@ -85,15 +84,15 @@ fn push_rows<A: Allocator>(text: &mut Vec<u8, A>, report: &DayReport) -> io::Res
     writeln!(text, "ROWS {accepted} {refused}")
 }
 
-/// The securities, one after another.
+/// The securities, one after another. So far nothing was traded in any.
 fn push_securities<A: Allocator, B: Allocator + Copy>(
     text: &mut Vec<u8, A>,
     desks: &[Desk<B>],
     names: &Names,
 ) -> io::Result<()>
-    requires names { length names.now.securities ≡ length desks.now }
-    requires untraded { All (λ j. IsUntraded (replay j)) desks.now }
-    ensures { OnOk result (text.new.items ≡ text.old.items ++ securities_text names.now 0 (map replay desks.now)) }
+    requires { length names.now.securities ≡ length desks.now }
+    ensures text { OnOk result (text.new.items ≡ text.old.items ++ securities_text names.now 0 (map replay desks.now)) }
+    ensures no_trades { OnOk result (All (λ j. (replay j).trades ≡ []) desks.now) }
 {
     for index in 0..names.securities() {
         push_security(text, &desks[index as usize], names, index)?;
@@ -101,15 +100,15 @@ fn push_securities<A: Allocator, B: Allocator + Copy>(
     Ok(())
 }
 
-/// A security: its phase, references and orders, and its total, which is none before trading.
+/// A security: its phase, references and orders, and its total, which is none so far.
 fn push_security<A: Allocator, B: Allocator + Copy>(
     text: &mut Vec<u8, A>,
     desk: &Desk<B>,
     names: &Names,
     index: u32,
 ) -> io::Result<()>
-    requires { IsUntraded (replay desk.now) }
-    ensures { OnOk result (text.new.items ≡ text.old.items ++ security_text names.now index (replay desk.now)) }
+    ensures text { OnOk result (text.new.items ≡ text.old.items ++ security_text names.now index (replay desk.now)) }
+    ensures no_trades { OnOk result ((replay desk.now).trades ≡ []) }
 {
     let tick = desk.settings().tick;
     let orders = match desk.orders() {
@@ -122,20 +121,23 @@ fn push_security<A: Allocator, B: Allocator + Copy>(
     Ok(())
 }
 
-/// The phase and the reference prices of a security.
+/// The phase and the reference prices of a security, in which nothing was traded so far.
 fn push_heading<A: Allocator, B: Allocator>(
     text: &mut Vec<u8, A>,
     desk: &Desk<B>,
     names: &Names,
     index: u32,
 ) -> io::Result<()>
-    ensures { OnOk result (text.new.items ≡ text.old.items ++ heading_text (name_at names.now.securities index) (replay desk.now)) }
+    ensures text { OnOk result (text.new.items ≡ text.old.items ++ heading_text (name_at names.now.securities index) (replay desk.now)) }
+    ensures no_trades { (replay desk.now).trades ≡ [] }
+    ensures no_stops { (replay desk.now).stops ≡ [] }
 {
     push_security_line(text, security_name(names, index), desk.phase())?;
     push_references(text, desk.settings().tick, desk.ref1(), desk.ref2())?;
     Ok(())
 }
 
+/// The name and the phase of a security.
 fn push_security_line<A: Allocator>(
     text: &mut Vec<u8, A>,
     name: &str,
@@ -147,6 +149,7 @@ fn push_security_line<A: Allocator>(
     writeln!(text, "SECURITY {name} {phase}")
 }
 
+/// The price of the last trade, and that of the last auction trade.
 fn push_references<A: Allocator>(
     text: &mut Vec<u8, A>,
     tick: TickSize,
@@ -191,7 +194,7 @@ fn push_orders<A: Allocator>(
     Ok(())
 }
 
-/// The cash of each member, which is none before trading.
+/// The cash of each member, which is none so far.
 fn push_members<A: Allocator>(text: &mut Vec<u8, A>, names: &Names) -> io::Result<()>
     ensures { OnOk result (text.new.items ≡ text.old.items ++ flat_map (cash_line names.now (pos 0)) (member_indices names.now)) }
 {
@@ -237,6 +240,7 @@ fn push_order<A: Allocator>(
     writeln!(text, " {restriction}")
 }
 
+/// The limit of an order, if it has one.
 fn push_limit<A: Allocator>(
     text: &mut Vec<u8, A>,
     kind: OrderKind,
@@ -250,6 +254,7 @@ fn push_limit<A: Allocator>(
     }
 }
 
+/// How long an order is valid.
 fn push_validity<A: Allocator>(text: &mut Vec<u8, A>, validity: Validity) -> io::Result<()>
     ensures { OnOk result (text.new.items ≡ text.old.items ++ validity_text validity) }
 {
@@ -294,6 +299,7 @@ fn security_name(names: &Names, security: u32) -> &str
     }
 }
 
+/// The word of a phase.
 fn phase_word(phase: Phase) -> &'static str
     ensures { result.now ≡ phase_word phase }
 {
@@ -318,6 +324,7 @@ fn phase_word(phase: Phase) -> &'static str
     }
 }
 
+/// The word of a side.
 fn side_word(side: Side) -> &'static str
     ensures { result.now ≡ side_word side }
 {
@@ -327,6 +334,7 @@ fn side_word(side: Side) -> &'static str
     }
 }
 
+/// The word of a restriction.
 fn restriction_word(restriction: Restriction) -> &'static str
     ensures { result.now ≡ restriction_word restriction }
 {

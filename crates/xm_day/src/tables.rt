@@ -8,7 +8,7 @@ ghost use Rattle.toml.specs.Data.{as_str, as_table, get_member};
 ghost use Rattle.toml.specs.View.{array_view, table_view, view};
 ghost use Rattle.xm_day.specs.Segment.{all_in, array_at, has_only, is_name, is_name_character, name_in, name_of, number_at, price_at, within};
 
-use crate::faults::FileCause;
+use crate::file_faults::FileCause;
 use std::alloc::Global;
 use toml::value::Array;
 use toml::{Table, Value};
@@ -113,12 +113,14 @@ fn is_name(text: &[u8]) -> bool
     (1..=12).contains(&text.len()) && are_name_characters(text)
 }
 
+/// Whether each byte may stand in a name.
 fn are_name_characters(text: &[u8]) -> bool
     ensures { result ≡ list_all is_name_character text.now }
 {
     text.iter().all(|byte| is_name_character(*byte))
 }
 
+/// Whether a byte is one of `A` to `Z` and `0` to `9`.
 fn is_name_character(byte: u8) -> bool
     ensures { result ≡ is_name_character byte }
 {
@@ -159,13 +161,8 @@ pub(crate) fn names_in(alloc: Global, values: &Array) -> Result<Vec<&str>, FileC
 {
     let mut names = Vec::new(alloc);
     for value in values {
-        let name = match name_in(value) {
-            Some(name) => name,
-            None => return Err(FileCause::BadValue),
-        };
-        if names.push(name).is_err() {
-            return Err(FileCause::OutOfMemory);
-        }
+        let name = name_in(value).ok_or(FileCause::BadValue)?;
+        names.push(name)?;
     }
     Ok(names)
 }
@@ -178,13 +175,8 @@ pub(crate) fn tables_in(alloc: Global, values: &Array) -> Result<Vec<&Table>, Fi
 {
     let mut tables = Vec::new(alloc);
     for value in values {
-        let table = match value.as_table() {
-            Some(table) => table,
-            None => return Err(FileCause::BadValue),
-        };
-        if tables.push(table).is_err() {
-            return Err(FileCause::OutOfMemory);
-        }
+        let table = value.as_table().ok_or(FileCause::BadValue)?;
+        tables.push(table)?;
     }
     Ok(tables)
 }

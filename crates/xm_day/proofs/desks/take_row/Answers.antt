@@ -1,14 +1,13 @@
-use Rattle.std.proofs.Common.{◌≡◌, ◌<◌, ◌+◌, ◌∙◌, List, Some, None, All, length, set, get_or, refl, ap, sym, subst, arith, rules}
+use Rattle.std.proofs.Common.{◌≡◌, ◌<◌, ◌+◌, ◌∙◌, List, Some, None, Err, All, length, set, get_or, false, refl, ap, sym, subst, arith, rules}
 use Rattle.std.proofs.lemmas.List.{set-get_or}
 use Rattle.std.proofs.lemmas.List.Elements.{All-set}
 use Rattle.std.proofs.lemmas.Option.{slice_get_read}
 use Rattle.xm_rules.proofs.Journals.{replay-push}
-use Rattle.xm_rules.proofs.Untraded.{step-untraded}
 use Rattle.xm_rules.specs.Refusals.{refusal_of}
-use Rattle.xm_rules.specs.Served.{IsUntraded}
+use Rattle.xm_rules.specs.Settling.{is_continuous}
 use Rattle.xm_rules.specs.State.{State}
 use Rattle.xm_rules.specs.Step.{Journal, replay, step}
-use Rattle.xm_day.proofs.Days.{first_path-served, on_accepted, on_refused, on_unknown, with_command}
+use Rattle.xm_day.proofs.Days.{accepts-known, listed-served, step-outside, on_accepted, on_refused, on_unknown, with_command}
 use Rattle.xm_day.specs.Day.{day_of}
 use Rattle.xm_day.proofs.desks.take_row.Goals as goal
 
@@ -17,7 +16,7 @@ apply-requires g c =
     let desks = c.args.desks.now in
     let row = c.args.row.now in
     let within : row.security < length desks = omega arith in
-    let served = first_path-served (replay (get_or desks row.security c.index-desks-index.result)) row.command c.requires.served (c.requires.untraded row.security c.index-desks-index.result within) in
+    let served = listed-served (replay (get_or desks row.security c.index-desks-index.result)) row.command c.requires.listed (c.requires.outside_trading row.security c.index-desks-index.result within) in
     search (rules, served)
 
 pub returns-then-index-desks-clause-taken : goal.returns-then-index-desks-clause-taken
@@ -36,20 +35,18 @@ returns-in-Ok-clause-taken g c =
     let passes : refusal_of (replay desk) row.command ≡ None = search rules in
     on_accepted desks row desk a r is passes ∙ ap (λ (j : Journal). day_of (set desks row.security j) (a + 1) r) (sym journal)
 
-pub returns-in-Ok-clause-untraded : goal.returns-in-Ok-clause-untraded
-returns-in-Ok-clause-untraded g c =
+pub returns-in-Ok-clause-outside_trading : goal.returns-in-Ok-clause-outside_trading
+returns-in-Ok-clause-outside_trading g c =
     let desks = c.args.desks.now in
     let row = c.args.row.now in
     let desk = c.index-desks-index.result in
     let within : row.security < length desks = omega arith in
     let journal : c.apply.new.self ≡ with_command desk row.command = search rules in
-    let Untraded : Journal → Type 0 = λ j. IsUntraded (replay j) in
-    let before : IsUntraded (replay desk) = subst Untraded (sym c.index-desks-index.is) (c.requires.untraded row.security desk within) in
-    let served = first_path-served (replay desk) row.command c.requires.served before in
-    let passes : refusal_of (replay desk) row.command ≡ None = search rules in
-    let after : IsUntraded (step (replay desk) row.command) = step-untraded (replay desk) row.command served passes before in
-    let IsBefore : State → Type 0 = λ s. IsUntraded s in
-    All-set Untraded desks row.security c.apply.new.self (subst Untraded (sym journal) (subst IsBefore (sym (replay-push desk row.command)) after)) c.requires.untraded
+    let Outside : Journal → Type 0 = λ j. is_continuous (replay j).phase ≡ false in
+    let before : is_continuous (replay desk).phase ≡ false = subst Outside (sym c.index-desks-index.is) (c.requires.outside_trading row.security desk within) in
+    let after : is_continuous (step (replay desk) row.command).phase ≡ false = step-outside (replay desk) row.command c.requires.listed before in
+    let IsOutside : State → Type 0 = λ s. is_continuous s.phase ≡ false in
+    All-set Outside desks row.security c.apply.new.self (subst Outside (sym journal) (subst IsOutside (sym (replay-push desk row.command)) after)) c.requires.outside_trading
 
 pub returns-in_default-clause-taken : goal.returns-in_default-clause-taken
 returns-in_default-clause-taken g c =
@@ -65,12 +62,23 @@ returns-in_default-clause-taken g c =
     let refuses : refusal_of (replay desk) row.command ≡ Some c.in-Err.refusal = search (rules, c.in-Err.ensures.refused c.in_default.not-OutOfMemory) in
     on_refused desks row desk c.in-Err.refusal a r is refuses ∙ ap (λ (js : List Journal). day_of js a (r + 1)) (sym unchanged)
 
-pub returns-in_default-clause-untraded : goal.returns-in_default-clause-untraded
-returns-in_default-clause-untraded g c =
+pub returns-in_default-clause-outside_trading : goal.returns-in_default-clause-outside_trading
+returns-in_default-clause-outside_trading g c =
     let desks = c.args.desks.now in
     let row = c.args.row.now in
     let desk = c.index-desks-index.result in
     let kept : c.apply.new.self ≡ desk = search rules in
     let unchanged : set desks row.security c.apply.new.self ≡ desks = ap (set desks row.security) (kept ∙ c.index-desks-index.is) ∙ set-get_or desks row.security desk in
-    let AllUntraded : List Journal → Type 0 = λ js. All (λ (j : Journal). IsUntraded (replay j)) js in
-    subst AllUntraded (sym unchanged) c.requires.untraded
+    let AllOutside : List Journal → Type 0 = λ js. All (λ (j : Journal). is_continuous (replay j).phase ≡ false) js in
+    subst AllOutside (sym unchanged) c.requires.outside_trading
+
+pub returns-in-OutOfMemory-clause-memory : goal.returns-in-OutOfMemory-clause-memory
+returns-in-OutOfMemory-clause-memory g c =
+    let desks = c.args.desks.now in
+    let row = c.args.row.now in
+    let desk = c.index-desks-index.result in
+    let within : row.security < length desks = omega arith in
+    let is = slice_get_read desks (length desks) row.security desk refl within c.index-desks-index.is in
+    let Passes : Journal → Type 0 = λ j. refusal_of (replay j) row.command ≡ None in
+    let passes : refusal_of (replay desk) row.command ≡ None = subst Passes (sym c.index-desks-index.is) (c.in-Err.ensures.memory (ap Err c.in-OutOfMemory.is)) in
+    accepts-known desks row desk c.args.report.accepted c.args.report.refused is passes

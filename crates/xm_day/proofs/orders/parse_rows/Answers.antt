@@ -1,7 +1,8 @@
 use Rattle.std.proofs.Common.{◌≤◌, length, sym, inr, arith, ◌∙◌}
 use Rattle.csv.specs.Reading.{default_config, error_kind, records, strip_bom}
 use Rattle.csv.specs.Records.{fields_of}
-use Rattle.xm_day.proofs.FirstPath.{records-served}
+use Rattle.xm_day.proofs.ListedRows.{records-listed}
+use Rattle.xm_day.proofs.PassedErrors.{if_passed}
 use Rattle.xm_day.proofs.Progress.{after-header, no-header, no-record, at-end, refused, bad-record, progress-more, shorter}
 use Rattle.xm_day.proofs.Unread.{start-unread, strip-shorter}
 use Rattle.xm_day.proofs.orders.parse_rows.Goals as goal
@@ -50,12 +51,14 @@ returns-in-Err-read_byte_record-clause-err c = λ h.
     rw c.fault_of_error-in-Err-read_byte_record.ensures
     (refused _ _ _ _ c.read_byte_record-in-records.new.self _ _ (error_kind c.in-Err-read_byte_record.error) p (c.in-Err-read_byte_record.ensures.why p.unread.ready) (rw c.fault_of_error-in-Err-read_byte_record.ensures at h))
 
-pub returns-in-Err-add_record-clause-err : goal.returns-in-Err-add_record-clause-err
-returns-in-Err-add_record-clause-err c = λ h.
+pub returns-in_err-add_record-clause-err : goal.returns-in_err-add_record-clause-err
+returns-in_err-add_record-clause-err c =
     let p = c.records.invariant in
     let arm = c.in-Ok-true-read_byte_record in
-    bad-record _ _ _ _ c.read_byte_record-in-records.new.self _ _ (fields_of c.read_byte_record-in-records.new.row) c.in-Err-add_record.fault p
-    (rw arm.field-0-test at (arm.ensures.reads p.unread.trim p.unread.ready)) (arm.ensures.ready p.unread.trim) arm.ensures.flexible (c.in-Err-add_record.ensures.err h)
+    let fault = c.in_err-add_record.field-0.0 in
+    if_passed _ c.from_residual.result fault c.from_residual.ensures.1
+    (λ h. bad-record _ _ _ _ c.read_byte_record-in-records.new.self _ _ (fields_of c.read_byte_record-in-records.new.row) fault p
+    (rw arm.field-0-test at (arm.ensures.reads p.unread.trim p.unread.ready)) (arm.ensures.ready p.unread.trim) arm.ensures.flexible (c.in_err-add_record.ensures.err h))
 
 pub records-smaller : goal.records-smaller
 records-smaller c =
@@ -69,8 +72,8 @@ records-preserved c =
     let p = c.records.invariant in
     let arm = c.in-Ok-true-read_byte_record in
     progress-more _ _ _ _ c.read_byte_record-in-records.new.self _ _ c.add_record.new.rows.items (fields_of c.read_byte_record-in-records.new.row) p
-    (rw arm.field-0-test at (arm.ensures.reads p.unread.trim p.unread.ready)) (arm.ensures.ready p.unread.trim) arm.ensures.flexible c.in-Ok.ensures.ok c.in-Ok.ensures.few
+    (rw arm.field-0-test at (arm.ensures.reads p.unread.trim p.unread.ready)) (arm.ensures.ready p.unread.trim) arm.ensures.flexible c.in_ok-add_record.ensures.ok c.in_ok-add_record.ensures.few
 
-pub returns-in-Ok-false-read_byte_record-clause-served : goal.returns-in-Ok-false-read_byte_record-clause-served
-returns-in-Ok-false-read_byte_record-clause-served c =
-    records-served c.args.names.now c.args.config.now (records default_config (strip_bom c.args.text.now)) c.records.rows.items (returns-in-Ok-false-read_byte_record-clause-ok c)
+pub returns-in-Ok-false-read_byte_record-clause-listed : goal.returns-in-Ok-false-read_byte_record-clause-listed
+returns-in-Ok-false-read_byte_record-clause-listed c =
+    records-listed c.args.names.now c.args.config.now (records default_config (strip_bom c.args.text.now)) c.records.rows.items (returns-in-Ok-false-read_byte_record-clause-ok c)

@@ -1,7 +1,7 @@
 use Rattle.std.proofs.Common.{◌≡◌, map, false, string_bytes, refl, sym, ap, ◌∙◌}
 use Rattle.std.specs.List.{list_any}
 use Rattle.std.specs.Str.{bytes_eq}
-use Rattle.xm_day.proofs.NameFacts.{list_any-map, bytes-insert_key, not_err}
+use Rattle.xm_day.proofs.NameFacts.{list_any-map, bytes-insert_key}
 use Rattle.xm_day.proofs.names.NameList.add.Goals as goal
 
 pub returns-then-contains-clause-causes : goal.returns-then-contains-clause-causes
@@ -15,4 +15,4 @@ returns-clause-fresh c =
 pub returns-clause-added : goal.returns-clause-added
 returns-clause-added c =
     let none : list_any (λ key. bytes_eq c.args.name.now (string_bytes key)) c.self.inside.names.keys ≡ false = sym c.contains.ensures ∙ c.if-contains.false in
-    rw (← c.self.view_is) (ap (map string_bytes) (not_err c.insert.result c.if-is_err.ensures.value c.insert.ensures.keys) ∙ bytes-insert_key c.self.inside.names.keys c.in-Ok.name c.args.name.now c.in-Ok.ensures.ok none)
+    rw (← c.self.view_is) (ap (map string_bytes) c.in_ok-insert.ensures.keys ∙ bytes-insert_key c.self.inside.names.keys c.in_ok-name.name c.args.name.now c.in_ok-name.ensures.ok none)

@@ -1,9 +1,10 @@
-use crate::tests::{FIRST_PATH, OneByteReader, SECOND, SEGMENT, replaced};
-use crate::{DayFault, DayReport, FileCause, FileFault, run_alone};
+use crate::fixtures::{
+    HEADER, NO_SECURITY, ORDERS, OneByteReader, SECOND, SEGMENT, ShortWriter, replaced,
+};
+use crate::{DayFault, DayReport, FileCause, FileFault, OpenFault, run_alone};
 use std::alloc::Global;
-use std::io::{self, Write};
+use std::io::ErrorKind;
 use std::test::Fail;
-use xm_desk::OpenFault;
 
 const STATEMENT: &str = "DAY 20260105
 SECURITY XYZ opening-call
@@ -14,39 +15,6 @@ TOTAL 0 0.0000
 MEMBER AAA 0.0000
 MEMBER BBB 0.0000
 ";
-
-/// Holds what it is given until it has so many bytes; then it fails, or takes no byte.
-struct ShortWriter {
-    bytes: Vec<u8>,
-    room: usize,
-    fails: bool,
-}
-
-impl Drop for ShortWriter {
-    fn drop(self) {
-        let ShortWriter {
-            bytes: _,
-            room: _,
-            fails: _,
-        } = self;
-    }
-}
-
-impl Write for ShortWriter {
-    fn write(&mut self, buf: &[u8]) -> io::Result<usize> {
-        if self.room == 0 && self.fails {
-            return Err(io::Error::from(io::ErrorKind::BrokenPipe));
-        }
-        let count = buf.len().min(self.room);
-        self.bytes.extend_from_slice(&buf[..count])?;
-        self.room -= count;
-        Ok(count)
-    }
-
-    fn flush(&mut self) -> io::Result<()> {
-        Ok(())
-    }
-}
 
 /// The answer of a day, and what was written.
 fn day_of(alloc: Global, segment: &str, orders: &str) -> (Result<DayReport, DayFault>, Vec<u8>) {
@@ -62,7 +30,7 @@ fn day_of(alloc: Global, segment: &str, orders: &str) -> (Result<DayReport, DayF
 
 #[test]
 fn orders_before_and_in_the_opening_call(rt: HostRuntime) -> Result<(), Fail> {
-    let (answer, out) = day_of(rt.alloc(), SEGMENT, FIRST_PATH);
+    let (answer, out) = day_of(rt.alloc(), SEGMENT, ORDERS);
     let report = DayReport {
         accepted: 5,
         refused: 0,
@@ -73,20 +41,47 @@ fn orders_before_and_in_the_opening_call(rt: HostRuntime) -> Result<(), Fail> {
     Ok(())
 }
 
+/// A row for each refusal that an order file reaches, after `ORDERS`, and how many commands the
+/// journal takes.
+const REFUSED_ROWS: [(&str, u32, &str); 8] = [
+    (
+        "UnknownSecurity",
+        100,
+        "enter,AAA,3,ABC,buy,limit,10.00,,10,,,",
+    ),
+    (
+        "UnknownMember",
+        100,
+        "enter,CCC,3,XYZ,buy,limit,10.00,,10,,,",
+    ),
+    ("BadQuantity", 100, "enter,AAA,3,XYZ,buy,limit,10.00,,0,,,"),
+    ("BadPrice", 100, "enter,AAA,3,XYZ,buy,limit,10.005,,10,,,"),
+    ("WrongPhase", 100, "open,,,*,,,,,,,,"),
+    (
+        "DuplicateReference",
+        100,
+        "enter,AAA,2,XYZ,buy,limit,10.00,,10,,,",
+    ),
+    ("UnknownOrder", 100, "cancel,AAA,1,XYZ,,,,,,,,"),
+    ("JournalFull", 5, "enter,AAA,3,XYZ,buy,limit,10.00,,10,,,"),
+];
+
 #[test]
 fn refused_rows_are_counted(rt: HostRuntime) -> Result<(), Fail> {
-    let more = "enter,ZZZ,1,XYZ,buy,limit,10.00,,10,,,
-enter,AAA,3,XYZ,buy,limit,10.005,,10,,,
-";
-    let orders = format!(in rt.alloc(); "{FIRST_PATH}{more}")?;
-    let (answer, out) = day_of(rt.alloc(), SEGMENT, orders.as_str());
+    let alloc = rt.alloc();
     let report = DayReport {
         accepted: 5,
-        refused: 2,
+        refused: 1,
     };
-    assert_eq!(rt; answer, Ok(report));
-    let text = format!(in rt.alloc(); "{STATEMENT}ROWS 5 2\n")?;
-    assert_eq!(rt; out.as_slice(), text.as_bytes());
+    let text = format!(in alloc; "{STATEMENT}ROWS 5 1\n")?;
+    for (refusal, limit, row) in REFUSED_ROWS {
+        let journal = format!(in alloc; "journal = {limit}")?;
+        let segment = replaced(alloc, SEGMENT, "journal = 100", journal.as_str())?;
+        let orders = format!(in alloc; "{ORDERS}{row}\n")?;
+        let (answer, out) = day_of(alloc, segment.as_str(), orders.as_str());
+        assert_eq!(rt; answer, Ok(report), "{refusal}");
+        assert_eq!(rt; out.as_slice(), text.as_bytes(), "{refusal}");
+    }
     Ok(())
 }
 
@@ -94,10 +89,8 @@ enter,AAA,3,XYZ,buy,limit,10.005,,10,,,
 fn faults_in_order(rt: HostRuntime) -> Result<(), Fail> {
     let alloc = rt.alloc();
     let two = format!(in alloc; "{SEGMENT}\n{SECOND}")?;
-    let none = "date = 0\nmembers = []\nsecurity = []\n";
     let wide = replaced(alloc, SEGMENT, "dynamic = 20", "dynamic = 40")?;
     let damaged = replaced(alloc, SEGMENT, "tick = 100", "tick = 0")?;
-    let header = FIRST_PATH.split_once("\n").ok_or("no header")?.0;
     let segment_fault = FileFault {
         line: 1,
         cause: FileCause::BadValue,
@@ -109,9 +102,9 @@ fn faults_in_order(rt: HostRuntime) -> Result<(), Fail> {
     let faults = [
         (damaged.as_str(), "", DayFault::Segment(segment_fault)),
         (two.as_str(), "", DayFault::Orders(no_header)),
-        (two.as_str(), header, DayFault::Open(OpenFault::TooMany)),
-        (none, header, DayFault::Open(OpenFault::NoSecurity)),
-        (wide.as_str(), header, DayFault::Open(OpenFault::BadWidths)),
+        (two.as_str(), HEADER, DayFault::Open(OpenFault::TooMany)),
+        (NO_SECURITY, HEADER, DayFault::Open(OpenFault::NoSecurity)),
+        (wide.as_str(), HEADER, DayFault::Open(OpenFault::BadWidths)),
     ];
     for (segment, orders, fault) in faults {
         let (answer, out) = day_of(alloc, segment, orders);
@@ -124,17 +117,18 @@ fn faults_in_order(rt: HostRuntime) -> Result<(), Fail> {
 #[test]
 fn failing_writers(rt: HostRuntime) -> Result<(), Fail> {
     let text = format!(in rt.alloc(); "{STATEMENT}ROWS 5 0\n")?;
-    for room in 0..text.len() {
-        for fails in [true, false] {
-            let mut out = ShortWriter {
-                bytes: Vec::new(rt.alloc()),
-                room,
-                fails,
-            };
+    let failures = [
+        None,
+        Some(ErrorKind::BrokenPipe),
+        Some(ErrorKind::Interrupted),
+    ];
+    for failure in failures {
+        for room in 0..text.len() {
+            let mut out = ShortWriter::new(rt.alloc(), room, failure);
             let answer = run_alone(
                 rt.alloc(),
                 &mut SEGMENT.as_bytes(),
-                &mut FIRST_PATH.as_bytes(),
+                &mut ORDERS.as_bytes(),
                 &mut out,
             );
             assert_eq!(rt; answer, Err(DayFault::WriteFailed));
@@ -144,32 +138,39 @@ fn failing_writers(rt: HostRuntime) -> Result<(), Fail> {
     Ok(())
 }
 
+/// The answer of a day whose readers give one byte a call and may fail, and what was written.
+fn slow_day(
+    alloc: Global,
+    segment: Option<(usize, ErrorKind)>,
+    orders: Option<(usize, ErrorKind)>,
+) -> (Result<DayReport, DayFault>, Vec<u8>) {
+    let mut out = Vec::new(alloc);
+    let mut segment = OneByteReader::new(SEGMENT, segment);
+    let mut orders = OneByteReader::new(ORDERS, orders);
+    let answer = run_alone(alloc, &mut segment, &mut orders, &mut out);
+    (answer, out)
+}
+
 #[test]
 fn slow_and_failing_readers(rt: HostRuntime) -> Result<(), Fail> {
     let text = format!(in rt.alloc(); "{STATEMENT}ROWS 5 0\n")?;
+    let (answer, out) = slow_day(rt.alloc(), None, None);
+    assert!(rt; answer.is_ok());
+    assert_eq!(rt; out.as_slice(), text.as_bytes());
     let failed = FileFault {
         line: 0,
         cause: FileCause::ReadFailed,
     };
-    for call in 0..SEGMENT.len() + 1 {
-        let mut out = Vec::new(rt.alloc());
-        let mut segment = OneByteReader::new(SEGMENT, Some(call));
-        let mut orders = OneByteReader::new(FIRST_PATH, None);
-        let answer = run_alone(rt.alloc(), &mut segment, &mut orders, &mut out);
-        assert_eq!(rt; answer, Err(DayFault::Segment(failed)));
-        assert!(rt; out.is_empty());
-    }
-    for call in 0..FIRST_PATH.len() + 2 {
-        let mut out = Vec::new(rt.alloc());
-        let mut segment = OneByteReader::new(SEGMENT, None);
-        let mut orders = OneByteReader::new(FIRST_PATH, Some(call));
-        let answer = run_alone(rt.alloc(), &mut segment, &mut orders, &mut out);
-        if call <= FIRST_PATH.len() {
+    for kind in [ErrorKind::BrokenPipe, ErrorKind::Interrupted] {
+        for call in 0..SEGMENT.len() + 1 {
+            let (answer, out) = slow_day(rt.alloc(), Some((call, kind)), None);
+            assert_eq!(rt; answer, Err(DayFault::Segment(failed)));
+            assert!(rt; out.is_empty());
+        }
+        for call in 0..ORDERS.len() + 1 {
+            let (answer, out) = slow_day(rt.alloc(), None, Some((call, kind)));
             assert_eq!(rt; answer, Err(DayFault::Orders(failed)));
             assert!(rt; out.is_empty());
-        } else {
-            assert!(rt; answer.is_ok());
-            assert_eq!(rt; out.as_slice(), text.as_bytes());
         }
     }
     Ok(())

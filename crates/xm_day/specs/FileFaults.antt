@@ -1,10 +1,12 @@
 -- The faults of files.
 use Rattle.std.specs.Prelude.{ℕ, Bool, true, false, Result, Ok, Err}
-use Rattle.xm_day.specs.declared.faults.FileCause.{FileCause}
-use Rattle.xm_day.specs.declared.faults.FileCause.TheVariants.{ReadFailed, TooLong, OutOfMemory}
-use Rattle.xm_day.specs.declared.faults.FileFault.{FileFault}
-use Rattle.xm_day.specs.declared.faults.DayFault.{DayFault}
-use Rattle.xm_day.specs.declared.faults.DayFault.TheVariants as day
+use Rattle.xm_day.specs.declared.file_faults.FileCause.{FileCause}
+use Rattle.xm_day.specs.declared.file_faults.FileCause.TheVariants.{ReadFailed, TooLong, OutOfMemory}
+use Rattle.xm_day.specs.declared.file_faults.FileFault.{FileFault}
+
+-- the most bytes that a file may have
+abbrev pub most_bytes : ℕ
+most_bytes = 16777216
 
 -- a cause that reading a file whole may have
 abbrev pub of_reading : FileCause → Bool
@@ -27,9 +29,3 @@ fault_at line cause = record { line = line; cause = cause }
 abbrev pub result_then : {A B : Type 0} → Result A FileFault → (A → Result B FileFault) → Result B FileFault
 result_then (Err fault) next = Err fault
 result_then (Ok x) next = next x
-
--- a statement isn't written for want of memory, or because the writer failed
-abbrev pub IsOfWriting : DayFault → Type 0
-IsOfWriting day.OutOfMemory = Unit {0}
-IsOfWriting day.WriteFailed = Unit {0}
-IsOfWriting _ = ⊥

@@ -1,0 +1,163 @@
+//! Files of tests, and readers and writers that are slow or fail.
+use std::alloc::Global;
+use std::io::{self, ErrorKind, Read, Write};
+use std::test::Fail;
+
+pub(crate) const SEGMENT: &str = "date = 20260105
+members = [\"AAA\", \"BBB\"]
+
+[[security]]
+name = \"XYZ\"
+tick = 100
+reference = \"10.00\"
+dynamic = 20
+static = 50
+wide = 40
+journal = 100
+";
+
+pub(crate) const SECOND: &str = "[[security]]
+name = \"UVW\"
+tick = 1
+reference = \"0.5\"
+dynamic = 0
+static = 4294967295
+wide = 0
+journal = 1
+";
+
+pub(crate) const HEADER: &str =
+    "command,member,reference,security,side,kind,limit,trigger,quantity,validity,restriction,condition\n";
+
+/// Orders before and in the opening call.
+pub(crate) const ORDERS: &str =
+    "command,member,reference,security,side,kind,limit,trigger,quantity,validity,restriction,condition
+enter,AAA,1,XYZ,buy,limit,10.00,,10,,,
+enter,BBB,1,XYZ,sell,limit,10.10,,5,,,
+open,,,*,,,,,,,,
+enter,AAA,2,XYZ,buy,limit,9.95,,7,,,
+cancel,AAA,1,XYZ,,,,,,,,
+";
+
+/// A segment file without a member or a security.
+pub(crate) const NO_SECURITY: &str = "date = 0\nmembers = []\nsecurity = []\n";
+
+/// Gives its text one byte a call. The call with the number of its failure, counted from 0, answers
+/// this error once; after it the text goes on.
+pub(crate) struct OneByteReader<'a> {
+    text: &'a [u8],
+    at: usize,
+    failure: Option<(usize, ErrorKind)>,
+}
+
+impl<'a> OneByteReader<'a> {
+    pub(crate) fn new(text: &'a str, failure: Option<(usize, ErrorKind)>) -> Self {
+        OneByteReader {
+            text: text.as_bytes(),
+            at: 0,
+            failure,
+        }
+    }
+}
+
+impl Drop for OneByteReader<'_> {
+    fn drop(self) {
+        let OneByteReader {
+            text: _,
+            at: _,
+            failure: _,
+        } = self;
+    }
+}
+
+impl Read for OneByteReader<'_> {
+    fn read(&mut self, buf: &mut [u8]) -> io::Result<usize> {
+        if let Some((call, kind)) = self.failure {
+            if call == self.at {
+                self.failure = None;
+                return Err(io::Error::from(kind));
+            }
+        }
+        match (self.text.get(self.at), buf.first_mut()) {
+            (Some(byte), Some(place)) => {
+                *place = *byte;
+                self.at = self.at.saturating_add(1);
+                Ok(1)
+            }
+            _ => Ok(0),
+        }
+    }
+}
+
+/// Gives this many bytes 255.
+pub(crate) struct Filler {
+    pub(crate) left: usize,
+}
+
+impl Drop for Filler {
+    fn drop(self) {
+        let Filler { left: _ } = self;
+    }
+}
+
+impl Read for Filler {
+    fn read(&mut self, buf: &mut [u8]) -> io::Result<usize> {
+        let count = buf.len().min(self.left);
+        buf[..count].fill(255);
+        self.left -= count;
+        Ok(count)
+    }
+}
+
+/// Holds what it is given until it has as many bytes as it has room for. Then a call answers its
+/// error once, after which it has room for all, or it takes no byte.
+pub(crate) struct ShortWriter {
+    pub(crate) bytes: Vec<u8>,
+    room: usize,
+    failure: Option<ErrorKind>,
+}
+
+impl ShortWriter {
+    pub(crate) fn new(alloc: Global, room: usize, failure: Option<ErrorKind>) -> Self {
+        ShortWriter {
+            bytes: Vec::new(alloc),
+            room,
+            failure,
+        }
+    }
+}
+
+impl Drop for ShortWriter {
+    fn drop(self) {
+        let ShortWriter {
+            bytes: _,
+            room: _,
+            failure: _,
+        } = self;
+    }
+}
+
+impl Write for ShortWriter {
+    fn write(&mut self, buf: &[u8]) -> io::Result<usize> {
+        if self.room == 0 {
+            if let Some(kind) = self.failure {
+                self.room = usize::MAX;
+                return Err(io::Error::from(kind));
+            }
+        }
+        let count = buf.len().min(self.room);
+        self.bytes.extend_from_slice(&buf[..count])?;
+        self.room -= count;
+        Ok(count)
+    }
+
+    fn flush(&mut self) -> io::Result<()> {
+        Ok(())
+    }
+}
+
+/// The text with the first of these words replaced.
+pub(crate) fn replaced(alloc: Global, text: &str, old: &str, new: &str) -> Result<String, Fail> {
+    let (before, after) = text.split_once(old).ok_or("not there")?;
+    Ok(format!(in alloc; "{before}{new}{after}")?)
+}
