@@ -8,7 +8,7 @@ use Rattle.std.proofs.lemmas.Option.{slice_get-map, slice_get_past}
 use Rattle.xm_rules.proofs.Journals.{replay-opening, replay-push}
 use Rattle.xm_rules.specs.Refusals.{refusal_of}
 use Rattle.xm_rules.specs.Served.{is_served}
-use Rattle.xm_rules.specs.Settling.{come, is_continuous, order_of, reached, released, settle_in, take_pending}
+use Rattle.xm_rules.specs.Settling.{come, is_continuous, order_of_stop, reached, released, settle_in, take_pending}
 use Rattle.xm_rules.specs.State.{State, opening}
 use Rattle.xm_rules.specs.Step.{Journal, act, replay, step}
 use Rattle.xm_rules.specs.declared.commands.Command.{Command}
@@ -39,7 +39,7 @@ come-outside s o h = rw h h
 pending-outside : (more : State → List Stop → State) → ((s : State) (pending : List Stop) → is_continuous s.phase ≡ false → is_continuous (more s pending).phase ≡ false)
     → (s : State) (pending : List Stop) → is_continuous s.phase ≡ false → is_continuous (take_pending more s pending).phase ≡ false
 pending-outside more keeps s [] h = h
-pending-outside more keeps s (stop ∷ stops) h = keeps (come s (order_of stop)) stops (come-outside s (order_of stop) h)
+pending-outside more keeps s (stop ∷ stops) h = keeps (come s (order_of_stop stop)) stops (come-outside s (order_of_stop stop) h)
 
 settle_in-outside : (turns : ℕ) (s : State) (pending : List Stop) → is_continuous s.phase ≡ false → is_continuous (settle_in turns s pending).phase ≡ false
 settle_in-outside zero s pending h = h

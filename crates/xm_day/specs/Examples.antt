@@ -1,6 +1,6 @@
 -- The worked example of a day: three buys below one another, two stops, and a sell that reaches both.
 use Rattle.std.specs.Prelude.{codes, ℕ, List, [], ◌∷◌, ◌++◌, map}
-use Rattle.xm_rules.specs.Rows.{enter, order, trade}
+use Rattle.xm_rules.specs.Examples.{enter, order, trade}
 use Rattle.xm_rules.specs.State.{State}
 use Rattle.xm_rules.specs.declared.commands.Command.{Command}
 use Rattle.xm_rules.specs.declared.commands.Command.TheVariants.{Cancel, EndDay, Enter, StartClosing, StartOpening, Uncross}

@@ -5,7 +5,7 @@ ghost use Rattle.std.specs.Prelude.{◌≡◌, codes, pos, [], ◌∷◌};
 ghost use Rattle.xm_day.specs.Day.{day};
 ghost use Rattle.xm_day.specs.Examples.{cascade_rows, cascade_state, cascade_text, example_config, example_names};
 ghost use Rattle.xm_day.specs.Statement.{statement, stop_line};
-ghost use Rattle.xm_rules.specs.Rows.{stop};
+ghost use Rattle.xm_rules.specs.Examples.{stop};
 ghost use Rattle.xm_rules.specs.declared.orders.OrderKind.TheVariants.{Limit, Market};
 ghost use Rattle.xm_rules.specs.declared.orders.Side.TheVariants.{Buy, Sell};
 
