@@ -3,9 +3,7 @@ mod entries;
 mod growths;
 mod plain;
 mod priority;
-mod reserving;
 mod side_by_side;
-mod time_order;
 
 use entries::Entries;
 use std::alloc::Allocator;
@@ -41,11 +39,6 @@ fn order(side: Side, reference: u32, kind: OrderKind) -> Order {
 /// Puts in an order that the book can take.
 fn enter<A: Allocator>(rt: &impl Abort, book: &mut Entries<A>, order: Order) {
     assert_eq!(rt; book.enter(order), Ok(true));
-}
-
-/// Compares an answer with the order that is expected.
-fn found(rt: &impl Abort, answer: Option<Order>, expected: Order) {
-    assert_eq!(rt; answer, Some(expected));
 }
 
 /// Compares the references of the active orders of a side, by priority.

@@ -122,7 +122,8 @@ fn turn<A: Allocator>(
 ) {
     match number % 64 {
         0..=31 => enter(rt, book, list, order),
-        32..=43 => remove(rt, book, list, order.member, order.reference),
+        32..=42 => remove(rt, book, list, order.member, order.reference),
+        43 => assert!(rt; book.reserve_twice(*order).is_ok()),
         44..=55 => reduce(rt, book, list, order),
         56..=62 => replace(rt, book, list, order),
         _ => {
