@@ -3,8 +3,7 @@ ghost use Rattle.std.specs.Prelude.{◌≡◌, Some};
 ghost use Rattle.xetra_day.specs.FaultLines.{cause_name, fault_line, open_name, told};
 
 use std::fmt;
-use xm_day::{DayFault, FileCause, FileFault};
-use xm_desk::OpenFault;
+use xm_day::{DayFault, FileCause, FileFault, OpenFault};
 
 /// A fault as the line that the program writes, without its line feed.
 #[derive(Clone, Copy, PartialEq, Eq, Debug)]

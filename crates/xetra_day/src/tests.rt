@@ -12,8 +12,7 @@ use std::fs::File;
 use std::io;
 use std::io::{Read, Write};
 use std::test::Fail;
-use xm_day::{DayFault, FileCause, FileFault};
-use xm_desk::OpenFault;
+use xm_day::{DayFault, FileCause, FileFault, OpenFault};
 
 const DAY: &[u8] = b"date = 20260105
 members = [\"AAA\", \"BBB\"]

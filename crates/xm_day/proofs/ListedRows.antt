@@ -16,9 +16,9 @@ use Rattle.xm_rules.specs.declared.orders.Side.{Side}
 use Rattle.xm_rules.specs.declared.orders.Validity.{Validity}
 use Rattle.xm_rules.specs.declared.orders.Validity.TheVariants.{Day}
 use Rattle.xm_ticks.specs.Reading.{price_of}
-use Rattle.xm_day.specs.FileFaults.{fault_at, most_bytes, result_then}
+use Rattle.xm_day.specs.FileFaults.{fault_at, max_bytes, result_then}
 use Rattle.xm_day.specs.Names.{NameLists}
-use Rattle.xm_day.specs.Orders.{most_rows, with_rows, with_record, rows_after, rows_of_records, orders_of}
+use Rattle.xm_day.specs.Orders.{max_rows, with_rows, with_record, rows_after, rows_of_records, orders_of}
 use Rattle.xm_day.specs.Rows.{are_empty, cancel_blank, condition_of, name_index, order_command, phase_blank, raw_price, restriction_of, side_of, tick_of, validity_of, whole_of, kind_in_record, member_row, entry_with, record_entry, word_of, field, rows_of_entry, rows_of_record, is_header, is_listed}
 use Rattle.xm_day.specs.declared.columns.Column.TheVariants as column
 use Rattle.xm_day.specs.declared.config.SecurityConfig.{SecurityConfig}
@@ -145,7 +145,7 @@ sum-listed line rows more sum false a b h = let e : sum ≡ rows ++ more = cc in
 
 rows-listed : (line : ℕ) (rows : List Row) (o : Option (List Row)) (sum : List Row) → all_listed rows ≡ true → ((more : List Row) → o ≡ Some more → all_listed more ≡ true) → with_rows line rows o ≡ Ok sum → all_listed sum ≡ true
 rows-listed line rows None sum a listed h = cc
-rows-listed line rows (Some more) sum a listed h = sum-listed line rows more sum (nat_lt most_rows (length rows + length more)) a (listed more refl) h
+rows-listed line rows (Some more) sum a listed h = sum-listed line rows more sum (nat_lt max_rows (length rows + length more)) a (listed more refl) h
 
 unless : {A : Type 0} (t : Bool) (fault : FileFault) (r : Result A FileFault) (x : A) → (if t then Err fault else r) ≡ Ok x → r ≡ Ok x
 unless true fault r x h = cc
@@ -180,4 +180,4 @@ records-listed names config (first ∷ more) all h = after-listed names config 2
 pub orders-listed : (names : NameLists) (config : SegmentConfig) (bytes : List ℕ) (all : List Row) → orders_of names config bytes ≡ Ok all → all_listed all ≡ true
 orders-listed names config bytes all h =
     records-listed names config (records default_config (strip_bom bytes)) all
-    (unless (nat_lt most_bytes (length bytes)) (fault_at 0 TooLong) (rows_of_records names config (records default_config (strip_bom bytes))) all h)
+    (unless (nat_lt max_bytes (length bytes)) (fault_at 0 TooLong) (rows_of_records names config (records default_config (strip_bom bytes))) all h)

@@ -2,7 +2,7 @@
 use Rattle.std.proofs.Common.{◌≡◌, ◌≢◌, ℕ, ◌≤◌, List, length, Option, Some, None, Result, Ok, Err, IfErr, IfSome, le-ltb, ◌∙◌, ap, sym}
 use Rattle.std.specs.Bool.{OnFalse}
 use Rattle.csv.specs.Reading.{default_config, records, strip_bom}
-use Rattle.xm_day.specs.FileFaults.{is_from_outside, most_bytes}
+use Rattle.xm_day.specs.FileFaults.{is_from_outside, max_bytes}
 use Rattle.xm_day.specs.Names.{NameLists}
 use Rattle.xm_day.specs.Orders.{orders_of, rows_of_records}
 use Rattle.xm_day.specs.declared.config.SegmentConfig.{SegmentConfig}
@@ -18,16 +18,16 @@ of_bytes OutOfMemory h = tt
 of_bytes _ h = h (λ e. cc)
 
 -- a text that is not too long gives what its records give
-of_records : (names : NameLists) (config : SegmentConfig) (text bytes : List ℕ) (fault : FileFault) → length text ≤ most_bytes → text ≡ bytes
+of_records : (names : NameLists) (config : SegmentConfig) (text bytes : List ℕ) (fault : FileFault) → length text ≤ max_bytes → text ≡ bytes
     → rows_of_records names config (records default_config (strip_bom text)) ≡ Err fault → orders_of names config bytes ≡ Err fault
-of_records names config text bytes fault within same h = rw (← same, le-ltb most_bytes (length text) within) h
+of_records names config text bytes fault within same h = rw (← same, le-ltb max_bytes (length text) within) h
 
-known : (names : NameLists) (config : SegmentConfig) (file : Option (List ℕ)) (text : List ℕ) (fault : FileFault) → length text ≤ most_bytes → IfSome file (λ bytes. text ≡ bytes)
+known : (names : NameLists) (config : SegmentConfig) (file : Option (List ℕ)) (text : List ℕ) (fault : FileFault) → length text ≤ max_bytes → IfSome file (λ bytes. text ≡ bytes)
     → rows_of_records names config (records default_config (strip_bom text)) ≡ Err fault → IfSome file (λ bytes. orders_of names config bytes ≡ Err fault)
 known names config None text fault within same h = tt
 known names config (Some bytes) text fault within same h = of_records names config text bytes fault within same h
 
-pub reads-fault : {A : Type 0} (names : NameLists) (config : SegmentConfig) (file : Option (List ℕ)) (text : List ℕ) (r : Result A FileFault) → length text ≤ most_bytes → IfSome file (λ bytes. text ≡ bytes)
+pub reads-fault : {A : Type 0} (names : NameLists) (config : SegmentConfig) (file : Option (List ℕ)) (text : List ℕ) (r : Result A FileFault) → length text ≤ max_bytes → IfSome file (λ bytes. text ≡ bytes)
     → IfErr r (λ fault. fault.cause ≢ OutOfMemory → rows_of_records names config (records default_config (strip_bom text)) ≡ Err fault)
     → IfErr r (λ fault. OnFalse (is_from_outside fault.cause) (IfSome file (λ bytes. orders_of names config bytes ≡ Err fault)))
 reads-fault names config file text (Ok x) within same h = tt

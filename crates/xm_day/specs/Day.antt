@@ -2,6 +2,7 @@
 use Rattle.std.specs.Prelude.{◌≡◌, ℕ, ◌+◌, ◌||◌, not, if◌then◌else◌, nat_lt, List, [], ◌∷◌, ◌++◌, length, map, slice_get, slice_set, Option, Some, None}
 use Rattle.std.specs.List.{list_all}
 use Rattle.xm_desk.specs.Opening.{are_widths}
+use Rattle.xm_desk.specs.declared.opening.TheConstants.{MAX_MEMBERS}
 use Rattle.xm_desk.specs.declared.opening.OpenFault.{OpenFault}
 use Rattle.xm_desk.specs.declared.opening.OpenFault.TheVariants.{NoSecurity, TooMany, BadWidths}
 use Rattle.xm_rules.specs.Refusals.{refusal_of}
@@ -75,5 +76,5 @@ day_of desks accepted refused = record { states = map replay desks; accepted = a
 abbrev pub segment_fault : SegmentConfig → Option OpenFault
 segment_fault config =
     if not (nat_lt 0 (length config.securities)) then Some NoSecurity
-    else (if nat_lt 1 (length config.securities) || nat_lt 1000 config.members then Some TooMany
+    else (if nat_lt 1 (length config.securities) || nat_lt MAX_MEMBERS config.members then Some TooMany
     else (if list_all (λ (security : SecurityConfig). are_widths security.widths) config.securities then None else Some BadWidths))

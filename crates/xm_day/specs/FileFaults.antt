@@ -5,8 +5,8 @@ use Rattle.xm_day.specs.declared.file_faults.FileCause.TheVariants.{ReadFailed, 
 use Rattle.xm_day.specs.declared.file_faults.FileFault.{FileFault}
 
 -- the most bytes that a file may have
-abbrev pub most_bytes : ℕ
-most_bytes = 16777216
+abbrev pub max_bytes : ℕ
+max_bytes = 16777216
 
 -- a cause that reading a file whole may have
 abbrev pub of_reading : FileCause → Bool

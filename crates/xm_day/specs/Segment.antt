@@ -8,7 +8,7 @@ use Rattle.toml.specs.Data.{Data, Items, no_items, item, Members, no_members, me
 use Rattle.toml.specs.Parse.{parse_document}
 use Rattle.xm_rules.specs.declared.settings.Widths.{Widths}
 use Rattle.xm_ticks.specs.Reading.{price_of}
-use Rattle.xm_day.specs.FileFaults.{fault_at, most_bytes, result_then}
+use Rattle.xm_day.specs.FileFaults.{fault_at, max_bytes, result_then}
 use Rattle.xm_day.specs.Names.{NameLists, is_among}
 use Rattle.xm_day.specs.declared.config.SecurityConfig.{SecurityConfig}
 use Rattle.xm_day.specs.declared.config.SegmentConfig.{SegmentConfig}
@@ -175,4 +175,4 @@ document_of bytes = if is_utf8 bytes then parse_document bytes else None
 
 -- what the bytes of a segment file give
 abbrev pub segment_of : List ℕ → Result (SegmentConfig × NameLists) FileFault
-segment_of bytes = if nat_lt most_bytes (length bytes) then Err (fault_at 0 TooLong) else segment_in (document_of bytes)
+segment_of bytes = if nat_lt max_bytes (length bytes) then Err (fault_at 0 TooLong) else segment_in (document_of bytes)

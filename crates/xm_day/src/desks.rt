@@ -11,7 +11,7 @@ use crate::config::{SecurityConfig, SegmentConfig};
 use crate::report::DayReport;
 use crate::rows::Row;
 use std::alloc::{AllocError, Allocator, Global};
-use xm_desk::{Desk, OpenFault, are_widths};
+use xm_desk::{Desk, MAX_MEMBERS, OpenFault, are_widths};
 use xm_rules::{DeskSettings, OutOfMemory, Refusal};
 
 /// Opens a desk for each security of a segment.
@@ -62,7 +62,7 @@ fn segment_fault(config: &SegmentConfig) -> Option<OpenFault>
     let securities = config.securities.as_slice();
     if securities.is_empty() {
         Some(OpenFault::NoSecurity)
-    } else if securities.len() > 1 || config.members > 1000 {
+    } else if securities.len() > 1 || config.members > MAX_MEMBERS {
         Some(OpenFault::TooMany)
     } else if have_widths(securities) {
         None

@@ -24,13 +24,13 @@ mod tables;
 #[cfg(test)]
 mod tests;
 
-pub use bytes::MOST_BYTES;
+pub use bytes::MAX_BYTES;
 pub use config::{Securities, SecurityConfig, SegmentConfig};
 pub use day::{run_alone, run_orders};
 pub use faults::DayFault;
 pub use file_faults::{FileCause, FileFault};
 pub use names::Names;
-pub use orders::{MOST_ROWS, read_rows};
+pub use orders::{MAX_ROWS, read_rows};
 pub use report::DayReport;
 pub use rows::Row;
 pub use segment::read_segment;

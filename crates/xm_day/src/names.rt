@@ -4,7 +4,7 @@ ghost use Rattle.std.specs.List.{position_or_len};
 ghost use Rattle.std.specs.Str.{bytes_eq};
 ghost use Rattle.xm_day.specs.Names.{is_among};
 
-use crate::bytes::MOST_BYTES;
+use crate::bytes::MAX_BYTES;
 use crate::file_faults::FileCause;
 use indexmap::IndexSet;
 use std::alloc::Global;
@@ -12,7 +12,7 @@ use std::hash::{BuildHasherDefault, FoldHasher};
 use std::marker::Model;
 
 /// The most names of a kind, which is more than a file has room for.
-const MOST_NAMES: usize = MOST_BYTES;
+const MOST_NAMES: usize = MAX_BYTES;
 
 /// Distinct names in index order, at most `MOST_NAMES`, found by their bytes. A clause sees the list
 /// of their bytes.

@@ -8,7 +8,7 @@ ghost use Rattle.xm_day.specs.FileFaults.{is_from_outside};
 ghost use Rattle.xm_day.specs.Orders.{fault_of_error, orders_of, rows_of_records, with_rows};
 ghost use Rattle.xm_day.specs.Rows.{is_listed, rows_of_entry, rows_of_record};
 
-use crate::bytes::{MOST_BYTES, read_whole};
+use crate::bytes::{MAX_BYTES, read_whole};
 use crate::columns::is_header;
 use crate::config::SegmentConfig;
 use crate::entries::{Entry, parse_entry};
@@ -21,7 +21,7 @@ use std::io::Read;
 use xm_rules::Command;
 
 /// The most rows that an order file may stand for.
-pub const MOST_ROWS: usize = 1_000_000;
+pub const MAX_ROWS: usize = 1_000_000;
 
 /// Reads an order file: its rows, for the members and the securities with these names.
 ///
@@ -41,7 +41,7 @@ pub fn read_rows<R: Read>(
     requires members { length names.now.members ≡ config.now.members }
     ensures read { IfOk result (λ rows. IfSome (R.remaining reader.old) (λ bytes. orders_of names.now config.now bytes ≡ Ok rows.items)) }
     ensures listed { IfOk result (λ rows. list_all (λ row. is_listed row.command) rows.items ≡ true) }
-    ensures few { IfOk result (λ rows. length rows.items ≤ MOST_ROWS) }
+    ensures few { IfOk result (λ rows. length rows.items ≤ MAX_ROWS) }
     ensures fault { IfErr result (λ fault. OnFalse (is_from_outside fault.cause) (IfSome (R.remaining reader.old) (λ bytes. orders_of names.now config.now bytes ≡ Err fault))) }
     ensures outside { IfErr result (λ fault. OnTrue (is_from_outside fault.cause) (fault.line ≡ 0)) }
 {
@@ -56,10 +56,10 @@ fn parse_rows(
     names: &Names,
     config: &SegmentConfig,
 ) -> Result<Vec<Row>, FileFault>
-    requires { length text.now ≤ MOST_BYTES }
+    requires { length text.now ≤ MAX_BYTES }
     ensures ok { IfOk result (λ rows. rows_of_records names.now config.now (records default_config (strip_bom text.now)) ≡ Ok rows.items) }
     ensures listed { IfOk result (λ rows. list_all (λ row. is_listed row.command) rows.items ≡ true) }
-    ensures few { IfOk result (λ rows. length rows.items ≤ MOST_ROWS) }
+    ensures few { IfOk result (λ rows. length rows.items ≤ MAX_ROWS) }
     ensures err { IfErr result (λ fault. fault.cause ≢ FileCause.OutOfMemory → rows_of_records names.now config.now (records default_config (strip_bom text.now)) ≡ Err fault) }
     ensures memory { IfErr result (λ fault. OnTrue (is_from_outside fault.cause) (fault.line ≡ 0)) }
 {
@@ -114,14 +114,14 @@ fn add_record(
     names: &Names,
     config: &SegmentConfig,
 ) -> Result<(), FileFault>
-    requires { length rows.old.items ≤ MOST_ROWS }
+    requires { length rows.old.items ≤ MAX_ROWS }
     ensures ok { OnOk result (with_rows line rows.old.items (rows_of_record names.now config.now (fields_of fields.now)) ≡ Ok rows.new.items) }
-    ensures few { OnOk result (length rows.new.items ≤ MOST_ROWS) }
+    ensures few { OnOk result (length rows.new.items ≤ MAX_ROWS) }
     ensures err { IfErr result (λ fault. fault.cause ≢ FileCause.OutOfMemory → with_rows line rows.old.items (rows_of_record names.now config.now (fields_of fields.now)) ≡ Err fault) }
     ensures memory { IfErr result (λ fault. OnTrue (is_from_outside fault.cause) (fault.line ≡ 0)) }
 {
     let entry = parse_entry(fields, names, config).ok_or(fault_at(line, FileCause::BadField))?;
-    if MOST_ROWS - rows.len() < count_of(entry, names.securities()) as usize {
+    if MAX_ROWS - rows.len() < count_of(entry, names.securities()) as usize {
         return Err(fault_at(line, FileCause::TooManyRows));
     }
     add_entry(rows, entry, names.securities())?;

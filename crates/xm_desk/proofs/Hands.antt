@@ -23,9 +23,9 @@ pub empty-none : (reserved : List Place) (hand : Hand) → hand ≡ Empty → Sa
 empty-none reserved hand e same =
     let holds : Hand → Type 0 = λ h. SamePlaces reserved (places_in h) in
     none reserved (subst holds e same).length where
-  none : (ps : List Place) → length ps ≡ 0 → ps ≡ []
-  none [] h = refl
-  none (p ∷ ps) h = absurd (omega arith)
+      none : (ps : List Place) → length ps ≡ 0 → ps ≡ []
+      none [] h = refl
+      none (p ∷ ps) h = absurd (omega arith)
 
 pub filter-shorter : (p : Order → Bool) (orders : List Order) → length (filter p orders) ≤ length orders
 filter-shorter p orders = omega (arith, length-filter p orders, count_by-le-length p orders)

@@ -17,4 +17,4 @@ mod tests;
 mod unsettled;
 
 pub use crate::desk::Desk;
-pub use crate::opening::{MAX_MEMBERS, OpenFault, MAX_WIDTH, are_widths};
+pub use crate::opening::{MAX_MEMBERS, MAX_WIDTH, OpenFault, are_widths};

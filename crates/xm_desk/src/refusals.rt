@@ -74,7 +74,10 @@ impl<A: Allocator> Unsettled<A> {
             Some(Refusal::DuplicateReference)
         } else {
             let trigger = entry.kind.trigger_of();
-            refusal_where(self.has_reached(entry.side, trigger), Refusal::TriggerReached)
+            refusal_where(
+                self.has_reached(entry.side, trigger),
+                Refusal::TriggerReached,
+            )
         }
     }
 

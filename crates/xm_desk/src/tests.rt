@@ -4,6 +4,7 @@ mod growths;
 mod opening;
 mod orders;
 mod refusals;
+mod tape;
 
 use std::test::Fail;
 use xm_rules::{

@@ -2,7 +2,7 @@ use crate::fixtures::{
     Filler, HEADER, NO_SECURITY, ORDERS, OneByteReader, SECOND, SEGMENT, replaced,
 };
 use crate::tests::fault;
-use crate::{FileCause, FileFault, MOST_BYTES, MOST_ROWS, Row, read_rows, read_segment};
+use crate::{FileCause, FileFault, MAX_BYTES, MAX_ROWS, Row, read_rows, read_segment};
 use std::alloc::Global;
 use std::io::{ErrorKind, Read};
 use std::test::Fail;
@@ -256,7 +256,7 @@ fn more_than_a_million_rows(rt: HostRuntime) -> Result<(), Fail> {
     }
     let mut reader = orders.as_bytes();
     let rows = rows_of(rt.alloc(), segment.as_str(), &mut reader)??;
-    assert_eq!(rt; rows.len(), MOST_ROWS);
+    assert_eq!(rt; rows.len(), MAX_ROWS);
     orders.push_str("open,,,A,,,,,,,,\n")?;
     let mut reader = orders.as_bytes();
     let answer = rows_of(rt.alloc(), segment.as_str(), &mut reader)?;
@@ -283,8 +283,8 @@ fn slow_and_failing_readers(rt: HostRuntime) -> Result<(), Fail> {
 #[test]
 fn order_files_at_the_limit(rt: HostRuntime) -> Result<(), Fail> {
     let faults = [
-        (MOST_BYTES, fault(1, FileCause::BadHeader)),
-        (MOST_BYTES + 1, fault(0, FileCause::TooLong)),
+        (MAX_BYTES, fault(1, FileCause::BadHeader)),
+        (MAX_BYTES + 1, fault(0, FileCause::TooLong)),
     ];
     for (left, fault) in faults {
         let answer = rows_of(rt.alloc(), SEGMENT, &mut Filler { left })?;

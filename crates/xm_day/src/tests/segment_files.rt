@@ -1,6 +1,6 @@
 use crate::fixtures::{Filler, NO_SECURITY, OneByteReader, SECOND, SEGMENT, replaced};
 use crate::tests::fault;
-use crate::{FileCause, FileFault, MOST_BYTES, read_segment};
+use crate::{FileCause, FileFault, MAX_BYTES, read_segment};
 use std::alloc::Global;
 use std::io::ErrorKind;
 use std::test::Fail;
@@ -156,8 +156,8 @@ fn slow_and_failing_readers(rt: HostRuntime) -> Result<(), Fail> {
 #[test]
 fn segment_files_at_the_limit(rt: HostRuntime) -> Result<(), Fail> {
     let causes = [
-        (MOST_BYTES, FileCause::Syntax),
-        (MOST_BYTES + 1, FileCause::TooLong),
+        (MAX_BYTES, FileCause::Syntax),
+        (MAX_BYTES + 1, FileCause::TooLong),
     ];
     for (left, cause) in causes {
         let answer = read_segment(rt.alloc(), &mut Filler { left });
