@@ -116,10 +116,10 @@ module _ (phase : Phase) (side : Side) (restriction : Restriction) (bound : Behi
       (ahead_here (restriction_number x.restriction) (restriction_number r.restriction) (is_rank_ahead side x r) (ap restriction_number e ∙ sym (of_restriction r h)) before)
 
   -- the rank at which those before it end is the first, where it is of the restriction
-  pub first_at_place : (rs : List Rank) (i : ℕ) (x : Rank) → is_active phase restriction ≡ true → is_sorted side rs ≡ true → x ≡ get_or rs i x → i < length rs
+  pub first_at_position : (rs : List Rank) (i : ℕ) (x : Rank) → is_active phase restriction ≡ true → is_sorted side rs ≡ true → x ≡ get_or rs i x → i < length rs
       → CutsAt (is_before side restriction bound) rs i
       → x.restriction ≡ restriction → IsFirst side (stands_in phase side restriction bound) rs x
-  first_at_place rs i x active sorted e l cut same =
+  first_at_position rs i x active sorted e l cut same =
       let n = ap restriction_number same in
       let past : is_before side restriction bound x ≡ false = rw (sym e) at (cut.1 i x (omega arith) l) in
       let behind : is_behind side bound x ≡ true = behind_here (restriction_number x.restriction) (restriction_number restriction) (is_behind side bound x) n past in
@@ -142,10 +142,10 @@ module _ (phase : Phase) (side : Side) (restriction : Restriction) (bound : Behi
       before (of_restriction r h) past)
 
   -- and there is none, where it is of another
-  pub none_at_place : (rs : List Rank) (i : ℕ) (x : Rank) → is_sorted side rs ≡ true → x ≡ get_or rs i x → i < length rs
+  pub none_at_position : (rs : List Rank) (i : ℕ) (x : Rank) → is_sorted side rs ≡ true → x ≡ get_or rs i x → i < length rs
       → CutsAt (is_before side restriction bound) rs i
       → (x.restriction ≡ restriction → ⊥) → (r : Rank) → Contains rs r → stands_in phase side restriction bound r ≡ false
-  none_at_place rs i x sorted e l cut apart r c =
+  none_at_position rs i x sorted e l cut apart r c =
       let past : is_before side restriction bound x ≡ false = rw (sym e) at (cut.1 i x (omega arith) l) in
       false_from_ne_true (stands_in phase side restriction bound r) (λ h. other_restriction x r apart past h (later rs i x r sorted e l cut c h))
 

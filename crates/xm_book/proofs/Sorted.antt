@@ -184,8 +184,8 @@ removed_at rank (r ∷ rs) (suc i) h l e =
     let rest = removed_at rank rs i ((not_parts (list_any (has_time r.time) rs) (have_own_times rs) h).1) (omega arith) e in
     rw apart (ap (λ (l : List Rank). r ∷ l) rest)
 
-pub place_within : (side : Side) (rank : Rank) (rs : List Rank) (i : ℕ) → is_sorted side rs ≡ true → Contains rs rank → CutsAt (λ r. precedes side r rank) rs i → i < length rs
-place_within side rank rs i h c cut = (stands_at side rank rs i c.0 h c.1 c.2 cut (cases_order c.0 i)).within
+pub position_within : (side : Side) (rank : Rank) (rs : List Rank) (i : ℕ) → is_sorted side rs ≡ true → Contains rs rank → CutsAt (λ r. precedes side r rank) rs i → i < length rs
+position_within side rank rs i h c cut = (stands_at side rank rs i c.0 h c.1 c.2 cut (cases_order c.0 i)).within
 
 -- the removal where those that precede a rank of the queue end takes out the one of its time
 pub remove-is : (side : Side) (rank : Rank) (rs : List Rank) (i : ℕ) → is_sorted side rs ≡ true → have_own_times rs ≡ true → Contains rs rank

@@ -29,7 +29,7 @@ enum Behind {
     Rank(Rank),
 }
 
-/// The place of a restriction in the order of their declaration.
+/// Where a restriction stands in the order of their declaration.
 fn restriction_number(restriction: Restriction) -> u8
     ensures { result ≡ restriction_number restriction }
 {
@@ -153,14 +153,14 @@ impl<A: Allocator> Queue<A> {
         self.reserved -= 1; // The vector keeps its memory.
     }
 
-    /// Puts a rank into its place, in reserved room.
+    /// Puts a rank where it belongs, in reserved room.
     pub fn add(&mut self, rank: Rank)
         requires room { 0 < self.old.reserved }
         requires time { list_any (has_time rank.time) self.old.ranks ≡ false }
         ensures { self.new ≡ record self.old { ranks = insert_rank self.old.side rank self.old.ranks; reserved = self.old.reserved - 1 } }
     {
-        let place = self.place(&rank);
-        self.ranks.insert(place, rank).unwrap();
+        let position = self.rank_position(&rank);
+        self.ranks.insert(position, rank).unwrap();
         self.reserved -= 1;
     }
 
@@ -169,8 +169,8 @@ impl<A: Allocator> Queue<A> {
         requires { Contains self.old.ranks rank.now }
         ensures { self.new ≡ record self.old { ranks = filter (λ r. not (has_time rank.now.time r)) self.old.ranks } }
     {
-        let place = self.place(rank);
-        self.ranks.remove(place);
+        let position = self.rank_position(rank);
+        self.ranks.remove(position);
     }
 
     /// Keeps the ranks at which a test answers `true`.
@@ -204,7 +204,7 @@ impl<A: Allocator> Queue<A> {
     }
 
     /// How many stand before a rank.
-    fn place(&self, rank: &Rank) -> usize
+    fn rank_position(&self, rank: &Rank) -> usize
         ensures within { result ≤ length self.now.ranks }
         ensures cuts { CutsAt (λ r. precedes self.now.side r rank.now) self.now.ranks result }
     {
@@ -229,18 +229,18 @@ impl<A: Allocator> Queue<A> {
     }
 
     /// The first of a restriction behind a bound, where that restriction is active. Its ranks stand together, in order of
-    /// priority, so the first is at the place where those before it end.
+    /// priority, so the first is where those before it end.
     fn first_of(&self, phase: Phase, restriction: Restriction, bound: &Behind) -> Option<Rank>
         ensures { IsFirstOf self.now.side (stands_in phase self.now.side restriction bound.now) self.now.ranks result }
     {
         if !restriction.is_active(phase) {
             return None;
         }
-        let place = self.place_behind(restriction, bound);
-        if place == self.ranks.len() {
+        let position = self.position_behind(restriction, bound);
+        if position == self.ranks.len() {
             return None;
         }
-        let rank = self.ranks[place];
+        let rank = self.ranks[position];
         if rank.restriction == restriction {
             Some(rank)
         } else {
@@ -249,7 +249,7 @@ impl<A: Allocator> Queue<A> {
     }
 
     /// How many stand before all of a restriction that are behind a bound.
-    fn place_behind(&self, restriction: Restriction, bound: &Behind) -> usize
+    fn position_behind(&self, restriction: Restriction, bound: &Behind) -> usize
         ensures within { result ≤ length self.now.ranks }
         ensures cuts { CutsAt (is_before self.now.side restriction bound.now) self.now.ranks result }
     {

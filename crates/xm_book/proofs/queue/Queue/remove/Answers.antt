@@ -1,5 +1,5 @@
 use Rattle.std.proofs.Common.{◌≡◌, ◌<◌, true, not, length, filter, ap, ◌∙◌, arith}
-use Rattle.xm_book.proofs.Sorted.{place_within, remove-is, sorted-filter, own_times-filter}
+use Rattle.xm_book.proofs.Sorted.{position_within, remove-is, sorted-filter, own_times-filter}
 use Rattle.xm_book.specs.Ranks.{QueueView, has_time}
 use Rattle.xm_book.specs.Sorted.{is_sorted, have_own_times}
 use Rattle.xm_book.specs.declared.queue.Rank.{Rank}
@@ -11,8 +11,8 @@ remove-requires g c =
     let side : c.self.inside.side ≡ queue.side = ap (λ (q : QueueView). q.side) c.self.view_is in
     let ranks : c.self.inside.ranks.items ≡ queue.ranks = ap (λ (q : QueueView). q.ranks) c.self.view_is in
     let sorted : is_sorted queue.side queue.ranks ≡ true = rw (side, ranks) at c.self.invariant.sorted in
-    let within : c.place-place.result < length queue.ranks =
-    place_within queue.side c.args.rank.now queue.ranks c.place-place.result sorted c.requires c.place-place.ensures.cuts
+    let within : c.rank_position-position.result < length queue.ranks =
+    position_within queue.side c.args.rank.now queue.ranks c.rank_position-position.result sorted c.requires c.rank_position-position.ensures.cuts
     in
     omega (arith, ap length ranks)
 
@@ -25,7 +25,7 @@ invariant_of-self g c =
     let sorted : is_sorted queue.side queue.ranks ≡ true = rw (side, ranks) at c.self.invariant.sorted in
     let times : have_own_times queue.ranks ≡ true = rw ranks at c.self.invariant.times in
     let left : c.remove.new.self.items ≡ filter (λ (r : Rank). not (has_time rank.time r)) queue.ranks =
-    (rw ranks at c.remove.ensures.items) ∙ remove-is queue.side rank queue.ranks c.place-place.result sorted times c.requires c.place-place.ensures.cuts
+    (rw ranks at c.remove.ensures.items) ∙ remove-is queue.side rank queue.ranks c.rank_position-position.result sorted times c.requires c.rank_position-position.ensures.cuts
     in
     record {
       room = omega arith;
@@ -42,6 +42,6 @@ returns g c =
     let sorted : is_sorted queue.side queue.ranks ≡ true = rw (side, ranks) at c.self.invariant.sorted in
     let times : have_own_times queue.ranks ≡ true = rw ranks at c.self.invariant.times in
     let left : c.remove.new.self.items ≡ filter (λ (r : Rank). not (has_time rank.time r)) queue.ranks =
-    (rw ranks at c.remove.ensures.items) ∙ remove-is queue.side rank queue.ranks c.place-place.result sorted times c.requires c.place-place.ensures.cuts
+    (rw ranks at c.remove.ensures.items) ∙ remove-is queue.side rank queue.ranks c.rank_position-position.result sorted times c.requires c.rank_position-position.ensures.cuts
     in
     rw left (ap (λ (q : QueueView). let view : QueueView = record q { ranks = filter (λ (r : Rank). not (has_time rank.time r)) queue.ranks } in view) c.self.view_is)

@@ -4,7 +4,7 @@ use Rattle.xm_book.proofs.Restrictions.{before_cuts}
 use Rattle.xm_book.specs.Ranks.{QueueView}
 use Rattle.xm_book.specs.Sorted.{is_sorted, is_before, CutsAt}
 use Rattle.xm_book.specs.declared.queue.Rank.{Rank}
-use Rattle.xm_book.proofs.queue.Queue.place_behind.Goals as goal
+use Rattle.xm_book.proofs.queue.Queue.position_behind.Goals as goal
 
 pub returns-clause-cuts : goal.returns-clause-cuts
 returns-clause-cuts g c =

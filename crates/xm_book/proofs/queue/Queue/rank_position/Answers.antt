@@ -5,7 +5,7 @@ use Rattle.xm_book.proofs.Sorted.{partitioned}
 use Rattle.xm_book.specs.Ranks.{QueueView, precedes}
 use Rattle.xm_book.specs.Sorted.{is_sorted, CutsAt}
 use Rattle.xm_book.specs.declared.queue.Rank.{Rank}
-use Rattle.xm_book.proofs.queue.Queue.place.Goals as goal
+use Rattle.xm_book.proofs.queue.Queue.rank_position.Goals as goal
 
 pub returns-clause-cuts : goal.returns-clause-cuts
 returns-clause-cuts g c =
