@@ -5,8 +5,6 @@ mod book;
 mod places;
 mod queue;
 mod queues;
-#[cfg(test)]
-mod tests;
 
 pub use crate::book::Book;
 pub use crate::places::Place;

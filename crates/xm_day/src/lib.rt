@@ -11,8 +11,6 @@ pub mod examples;
 mod faults;
 mod fields;
 mod file_faults;
-#[cfg(test)]
-mod fixtures;
 pub mod laws;
 mod names;
 mod orders;
@@ -21,8 +19,6 @@ mod rows;
 mod segment;
 mod statements;
 mod tables;
-#[cfg(test)]
-mod tests;
 
 pub use bytes::MAX_BYTES;
 pub use config::{Securities, SecurityConfig, SegmentConfig};

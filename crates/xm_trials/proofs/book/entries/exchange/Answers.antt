@@ -5,7 +5,7 @@ use Rattle.xm_book.specs.Places.{place_of}
 use Rattle.xm_book.specs.TimeList.{Reserves, TimeList}
 use Rattle.xm_rules.specs.Orders.{is_named, removed}
 use Rattle.xm_rules.specs.declared.orders.Order.{Order}
-use Rattle.xm_book.proofs.tests.entries.exchange.Goals as goal
+use Rattle.xm_trials.proofs.book.entries.exchange.Goals as goal
 
 left_out_if : (p : Order → Bool) (o : Order) (os : List Order) (b : Bool) → p o ≡ b → list_any p os ≡ false → list_any p (cond (not b) (o ∷ os) os) ≡ false
 left_out_if p o os true e h = h

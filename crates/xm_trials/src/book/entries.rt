@@ -4,7 +4,7 @@ ghost use Rattle.xm_book.specs.Places.{SamePlaces};
 ghost use Rattle.xm_book.specs.TimeList.{is_known};
 ghost use Rattle.xm_rules.specs.Commands.{is_in_range};
 
-use crate::{Book, Place};
+use xm_book::{Book, Place};
 use std::alloc::Allocator;
 use std::marker::Model;
 use xm_rules::{Order, OutOfMemory, Phase, Side};

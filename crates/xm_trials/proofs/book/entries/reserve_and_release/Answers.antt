@@ -3,7 +3,7 @@ use Rattle.xm_book.proofs.Reserving.{counted-cons, reserved-there}
 use Rattle.xm_book.specs.Places.{SamePlaces, same_place}
 use Rattle.xm_book.specs.TimeList.{Reserves}
 use Rattle.xm_book.specs.declared.places.Place.{Place}
-use Rattle.xm_book.proofs.tests.entries.reserve_and_release.Goals as goal
+use Rattle.xm_trials.proofs.book.entries.reserve_and_release.Goals as goal
 
 -- one that is given up again leaves the others
 given-up : (p : Place) (old between new : List Place) → SamePlaces between (p ∷ old) → SamePlaces between (p ∷ new) → SamePlaces new old

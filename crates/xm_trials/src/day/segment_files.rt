@@ -1,6 +1,6 @@
-use crate::fixtures::{Filler, NO_SECURITY, OneByteReader, SECOND, SEGMENT, replaced};
-use crate::tests::fault;
-use crate::{FileCause, FileFault, MAX_BYTES, read_segment};
+use super::fixtures::{Filler, NO_SECURITY, OneByteReader, SECOND, SEGMENT, replaced};
+use super::fault;
+use xm_day::{FileCause, FileFault, MAX_BYTES, read_segment};
 use std::alloc::Global;
 use std::io::ErrorKind;
 use std::test::Fail;

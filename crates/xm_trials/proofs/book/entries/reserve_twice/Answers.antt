@@ -3,7 +3,7 @@ use Rattle.xm_book.proofs.Reserving.{reserved-there}
 use Rattle.xm_book.specs.Places.{SamePlaces}
 use Rattle.xm_book.specs.TimeList.{Reserves}
 use Rattle.xm_book.specs.declared.places.Place.{Place}
-use Rattle.xm_book.proofs.tests.entries.reserve_twice.Goals as goal
+use Rattle.xm_trials.proofs.book.entries.reserve_twice.Goals as goal
 
 same-as : (ps qs rs : List Place) → SamePlaces ps qs → SamePlaces qs rs → SamePlaces ps rs
 same-as ps qs rs a b = record { length = a.length ∙ b.length; counts = λ p. a.counts p ∙ b.counts p }

@@ -1,8 +1,9 @@
 mod days;
+mod fixtures;
 mod order_files;
 mod segment_files;
 
-use crate::{FileCause, FileFault};
+use xm_day::{FileCause, FileFault};
 
 fn fault(line: u32, cause: FileCause) -> Option<FileFault> {
     Some(FileFault { line, cause })

@@ -1,7 +1,7 @@
-use crate::fixtures::{
+use super::fixtures::{
     HEADER, NO_SECURITY, ORDERS, OneByteReader, SECOND, SEGMENT, ShortWriter, replaced,
 };
-use crate::{DayFault, DayReport, FileCause, FileFault, OpenFault, run_alone};
+use xm_day::{DayFault, DayReport, FileCause, FileFault, OpenFault, run_alone};
 use std::alloc::Global;
 use std::io::ErrorKind;
 use std::test::Fail;

@@ -1,8 +1,8 @@
-use crate::fixtures::{
+use super::fixtures::{
     Filler, HEADER, NO_SECURITY, ORDERS, OneByteReader, SECOND, SEGMENT, replaced,
 };
-use crate::tests::fault;
-use crate::{FileCause, FileFault, MAX_BYTES, MAX_ROWS, Row, read_rows, read_segment};
+use super::fault;
+use xm_day::{FileCause, FileFault, MAX_BYTES, MAX_ROWS, Row, read_rows, read_segment};
 use std::alloc::Global;
 use std::io::{ErrorKind, Read};
 use std::test::Fail;

@@ -1,7 +1,7 @@
 use Rattle.std.proofs.Common.{◌≡◌, rules, None, find}
 use Rattle.xm_book.proofs.Layouts.{none_known}
 use Rattle.xm_rules.specs.Orders.{is_named}
-use Rattle.xm_book.proofs.tests.entries.Entries.enter.Goals as goal
+use Rattle.xm_trials.proofs.book.entries.Entries.enter.Goals as goal
 
 pub join-requires-clause-name : goal.join-requires-clause-name
 join-requires-clause-name g c =

@@ -2,7 +2,7 @@ use Rattle.std.proofs.Common.{rules}
 use Rattle.xm_book.proofs.Reserving.{reserved-there}
 use Rattle.xm_book.specs.Places.{place_of}
 use Rattle.xm_book.specs.TimeList.{Reserves}
-use Rattle.xm_book.proofs.tests.entries.join.Goals as goal
+use Rattle.xm_trials.proofs.book.entries.join.Goals as goal
 
 pub add-requires-clause-reserved : goal.add-requires-clause-reserved
 add-requires-clause-reserved g c =
