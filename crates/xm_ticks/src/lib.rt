@@ -2,12 +2,12 @@
 #![tactic(auto)]
 
 pub mod examples;
-pub mod numbers;
-pub mod ranges;
-pub mod reading;
+mod numbers;
+mod ranges;
+mod reading;
 #[cfg(test)]
 mod tests;
-pub mod writing;
+mod writing;
 
 pub use numbers::{
     JournalLimit, MAX_JOURNAL_LIMIT, MAX_PRICE, MAX_QUANTITY, MAX_TICK_SIZE, Price, Quantity,
