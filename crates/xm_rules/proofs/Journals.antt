@@ -1,5 +1,5 @@
 -- What a replay by one command more is, and what a lawful journal keeps.
-use Rattle.std.proofs.Common.{◌≡◌, ℕ, ◌+◌, true, List, [], ◌∷◌, ◌++◌, length, None, is_none, refl, arith}
+use Rattle.std.proofs.Common.{◌≡◌, ◌+◌, true, List, [], ◌∷◌, ◌++◌, length, None, is_none, refl, arith}
 use Rattle.std.proofs.lemmas.Bool.{and_parts}
 use Rattle.xm_rules.specs.Refusals.{refusal_of}
 use Rattle.xm_rules.specs.State.{State, opening}

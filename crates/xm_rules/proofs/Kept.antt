@@ -9,7 +9,7 @@ use Rattle.xm_rules.specs.State.{State, inside_both, inside_wide, ranges, ref1}
 use Rattle.xm_rules.specs.Step.{act, cancelled, changed, changed_order, come_under, entered, keeps_priority, reduced, replaced, step, uncrossed, uncrossed_at}
 use Rattle.xm_rules.specs.Sweep.{is_fillable, rest_after}
 use Rattle.xm_rules.specs.declared.commands.Command.{Command}
-use Rattle.xm_rules.specs.declared.commands.Command.TheVariants.{Enter, Change, Cancel, CancelAll, StartOpening, StartIntraday, StartClosing, Uncross, EndDay}
+use Rattle.xm_rules.specs.declared.commands.Command.TheVariants.{Enter, Change, Uncross}
 use Rattle.xm_rules.specs.declared.commands.Condition.{Condition}
 use Rattle.xm_rules.specs.declared.commands.Condition.TheVariants.{Plain, Ioc, Fok}
 use Rattle.xm_rules.specs.declared.orders.Order.{Order}
@@ -18,7 +18,7 @@ use Rattle.xm_rules.specs.declared.phases.Auction.{Auction}
 use Rattle.xm_rules.specs.declared.phases.CallStage.{CallStage}
 use Rattle.xm_rules.specs.declared.phases.CallStage.TheVariants.{Ordinary, Interrupted, Extended}
 use Rattle.xm_rules.specs.declared.phases.Phase.{Phase}
-use Rattle.xm_rules.specs.declared.phases.Phase.TheVariants.{PreTrading, Call, Continuous, PostTrading, Ended}
+use Rattle.xm_rules.specs.declared.phases.Phase.TheVariants.{Call}
 
 -- the second state has the settings of the first, and its number of accepted commands
 pub record Keeps (s t : State) : Type 0 where

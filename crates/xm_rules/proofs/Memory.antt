@@ -1,10 +1,10 @@
 -- Want of memory is no refusal of the rules.
-use Rattle.std.proofs.Common.{◌≡◌, ◌≢◌, Bool, true, false, ◌||◌, if◌then◌else◌, List, [], ◌∷◌, Option, Some, None, refl, ap, ◌∙◌, sym}
+use Rattle.std.proofs.Common.{◌≡◌, ◌≢◌, Bool, true, false, ◌||◌, if◌then◌else◌, List, [], ◌∷◌, Option, Some, refl}
 use Rattle.std.specs.List.{list_any}
 use Rattle.xm_rules.specs.Refusals.{Check, checks, first_failing, refusal_of}
 use Rattle.xm_rules.specs.State.{State}
 use Rattle.xm_rules.specs.declared.commands.Command.{Command}
-use Rattle.xm_rules.specs.declared.commands.Command.TheVariants.{Enter, Change, Cancel, CancelAll, StartOpening, StartIntraday, StartClosing, Uncross, EndDay}
+use Rattle.xm_rules.specs.declared.commands.Command.TheVariants.{Enter, Change, Cancel, CancelAll}
 use Rattle.xm_rules.specs.declared.replies.Refusal.{Refusal}
 use Rattle.xm_rules.specs.declared.replies.Refusal.TheVariants.{OutOfMemory}
 

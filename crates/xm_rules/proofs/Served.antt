@@ -1,5 +1,5 @@
 -- What the served commands do: outside continuous trading orders join the time list, and nothing is traded.
-use Rattle.std.proofs.Common.{◌≡◌, ◌∙◌, ℕ, ◌+◌, Bool, true, false, ◌&&◌, not, if◌then◌else◌, List, [], ◌∷◌, ◌++◌, Option, Some, None, refl, ap, sym}
+use Rattle.std.proofs.Common.{◌≡◌, ◌∙◌, ℕ, ◌+◌, Bool, true, false, ◌&&◌, not, if◌then◌else◌, List, [], Option, Some, None, refl, ap}
 use Rattle.std.specs.Prelude.{drop, find, length}
 use Rattle.std.proofs.Math.Seq.{drop-length}
 use Rattle.std.proofs.lemmas.Bool.{and_parts}
@@ -7,14 +7,14 @@ use Rattle.xm_rules.proofs.Accepted.{entry-accepted}
 use Rattle.xm_rules.specs.Commands.{is_immediate, is_stop, trigger_of}
 use Rattle.xm_rules.specs.Orders.{is_named}
 use Rattle.xm_rules.specs.Refusals.{refusal_of}
-use Rattle.xm_rules.specs.Served.{HasNoTrades, HoldsNoStops, IsOutsideContinuousTrading, is_served}
+use Rattle.xm_rules.specs.Served.{HoldsNoStops, IsOutsideContinuousTrading, is_served}
 use Rattle.xm_rules.specs.Settling.{come, is_continuous, joined, settle}
 use Rattle.xm_rules.specs.State.{State}
 use Rattle.xm_rules.specs.Step.{act, cancelled, changed, changed_order, entered, entered_order, keeps_priority, reduced, replaced, reply, step}
 use Rattle.xm_rules.specs.declared.commands.Command.{Command}
 use Rattle.xm_rules.specs.declared.commands.Command.TheVariants.{Enter, Change, Cancel, CancelAll, StartOpening}
 use Rattle.xm_rules.specs.declared.commands.Condition.{Condition}
-use Rattle.xm_rules.specs.declared.commands.Condition.TheVariants.{Plain, Ioc, Fok}
+use Rattle.xm_rules.specs.declared.commands.Condition.TheVariants.{Plain}
 use Rattle.xm_rules.specs.declared.commands.Kind.{Kind}
 use Rattle.xm_rules.specs.declared.orders.Order.{Order}
 use Rattle.xm_rules.specs.declared.orders.Restriction.{Restriction}

@@ -1,5 +1,5 @@
 -- The step of a state by an accepted command, with its reply; lawful journals, and the replay of a journal.
-use Rattle.std.specs.Prelude.{ℕ, ◌+◌, ◌==◌, Bool, true, false, ◌&&◌, if◌then◌else◌, nat_le, List, [], ◌∷◌, ◌++◌, length, filter, map, drop, find, is_none, Option, Some, None}
+use Rattle.std.specs.Prelude.{ℕ, ◌+◌, ◌==◌, Bool, true, false, ◌&&◌, if◌then◌else◌, nat_le, List, [], ◌∷◌, ◌++◌, length, filter, drop, find, is_none, Option, Some, None}
 use Rattle.xm_rules.specs.Allotment.{Uncrossing, auction_trades, orders_after_call}
 use Rattle.xm_rules.specs.Auction.{auction_price}
 use Rattle.xm_rules.specs.Commands.{order_kind, trigger_of, outlasts}
