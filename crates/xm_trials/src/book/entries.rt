@@ -4,9 +4,9 @@ ghost use Rattle.xm_book.specs.Places.{SamePlaces};
 ghost use Rattle.xm_book.specs.TimeList.{is_known};
 ghost use Rattle.xm_rules.specs.Commands.{is_in_range};
 
-use xm_book::{Book, Place};
 use std::alloc::Allocator;
 use std::marker::Model;
+use xm_book::{Book, Place};
 use xm_rules::{Order, OutOfMemory, Phase, Side};
 use xm_ticks::Price;
 

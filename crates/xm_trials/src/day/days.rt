@@ -1,10 +1,10 @@
 use super::fixtures::{
     HEADER, NO_SECURITY, ORDERS, OneByteReader, SECOND, SEGMENT, ShortWriter, replaced,
 };
-use xm_day::{DayFault, DayReport, FileCause, FileFault, OpenFault, run_alone};
 use std::alloc::Global;
 use std::io::ErrorKind;
 use std::test::Fail;
+use xm_day::{DayFault, DayReport, FileCause, FileFault, OpenFault, run_alone};
 
 const STATEMENT: &str = "DAY 20260105
 SECURITY XYZ opening-call

@@ -1,11 +1,11 @@
+use super::fault;
 use super::fixtures::{
     Filler, HEADER, NO_SECURITY, ORDERS, OneByteReader, SECOND, SEGMENT, replaced,
 };
-use super::fault;
-use xm_day::{FileCause, FileFault, MAX_BYTES, MAX_ROWS, Row, read_rows, read_segment};
 use std::alloc::Global;
 use std::io::{ErrorKind, Read};
 use std::test::Fail;
+use xm_day::{FileCause, FileFault, MAX_BYTES, MAX_ROWS, Row, read_rows, read_segment};
 use xm_rules::{Command, Condition, Kind, Restriction, Side, Validity};
 
 /// The rows of an order file for the members and the securities of a segment file.

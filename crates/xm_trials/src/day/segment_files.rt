@@ -1,9 +1,9 @@
-use super::fixtures::{Filler, NO_SECURITY, OneByteReader, SECOND, SEGMENT, replaced};
 use super::fault;
-use xm_day::{FileCause, FileFault, MAX_BYTES, read_segment};
+use super::fixtures::{Filler, NO_SECURITY, OneByteReader, SECOND, SEGMENT, replaced};
 use std::alloc::Global;
 use std::io::ErrorKind;
 use std::test::Fail;
+use xm_day::{FileCause, FileFault, MAX_BYTES, read_segment};
 
 fn segment_fault(alloc: Global, text: &[u8]) -> Option<FileFault> {
     let mut reader = text;
