@@ -6,3 +6,4 @@ pub mod Queues
 pub mod Ranks
 pub mod Sorted
 pub mod TimeList
+pub mod Trades

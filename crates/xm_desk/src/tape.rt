@@ -4,6 +4,7 @@ ghost use Rattle.xm_rules.specs.State.{is_auction, last_auction_price, last_pric
 
 use std::alloc::Allocator;
 use std::marker::Model;
+use xm_book::Trades;
 use xm_rules::{OutOfMemory, Trade};
 use xm_ticks::Price;
 
@@ -11,26 +12,23 @@ use xm_ticks::Price;
 #[derive(Drop)]
 pub struct Tape<A: Allocator> {
     opening: Price,
-    trades: Vec<Trade, A>,
+    trades: Trades<A>,
     last: Price,
     last_auction: Price,
-    room: usize,
 }
 
 impl<A: Allocator> Model for Tape<A> {
-    ghost use Rattle.std.specs.Prelude.{◌≡◌, ◌+◌, ◌≤◌, vec_len};
-    ghost use Rattle.std.specs.Vec.{vec_capacity};
+    ghost use Rattle.std.specs.Prelude.{◌≡◌};
     ghost use Rattle.xm_desk.specs.Tape.{TapeView};
     ghost use Rattle.xm_rules.specs.State.{last_auction_price, last_price};
 
     ghost Value = { TapeView };
 
-    ghost view = { λ t. record { opening = t.opening; trades = t.trades.items; room = t.room } };
+    ghost view = { λ t. record { opening = t.opening; trades = t.trades.trades; room = t.trades.room } };
 
     ghost invariant = { λ t. record {
-      last : t.last ≡ last_price t.opening t.trades.items;
-      last_auction : t.last_auction ≡ last_auction_price t.opening t.trades.items;
-      room : vec_len t.trades + t.room ≤ vec_capacity t.trades;
+      last : t.last ≡ last_price t.opening t.trades.trades;
+      last_auction : t.last_auction ≡ last_auction_price t.opening t.trades.trades;
     } };
 }
 
@@ -41,10 +39,9 @@ impl<A: Allocator> Tape<A> {
     {
         Tape {
             opening,
-            trades: Vec::new(alloc),
+            trades: Trades::new(alloc),
             last: opening,
             last_auction: opening,
-            room: 0,
         }
     }
 
@@ -52,7 +49,7 @@ impl<A: Allocator> Tape<A> {
     pub fn len(&self) -> usize
         ensures { result ≡ length self.now.trades }
     {
-        self.trades.len()
+        self.trades.as_slice().len()
     }
 
     /// The price of the last trade; before the first one, the opening reference.
@@ -74,9 +71,7 @@ impl<A: Allocator> Tape<A> {
         ensures ok { OnOk result (self.new ≡ record self.old { room = trades }) }
         ensures err { OnErr result (self.new ≡ self.old) }
     {
-        self.trades.reserve(trades)?;
-        self.room = trades;
-        Ok(())
+        self.trades.reserve(trades)
     }
 
     /// Takes a trade, in reserved room.
@@ -86,8 +81,7 @@ impl<A: Allocator> Tape<A> {
     {
         self.last = trade.price;
         self.last_auction = auction_price_after(self.last_auction, &trade);
-        self.trades.push_reserved(trade);
-        self.room -= 1;
+        self.trades.push(trade);
     }
 }
 

@@ -1,4 +1,5 @@
-use Rattle.std.proofs.Common.{◌≡◌, ◌∙◌, ℕ, ◌++◌, ◌∷◌, [], if◌then◌else◌, List, ap, sym, arith}
+use Rattle.std.proofs.Common.{◌≡◌, ◌∙◌, ℕ, ◌++◌, ◌∷◌, [], if◌then◌else◌, List, ap, sym}
+use Rattle.xm_book.specs.Trades.{TradeList}
 use Rattle.xm_desk.proofs.Tapes.{last_auction_price-push, last_price-push}
 use Rattle.xm_rules.specs.State.{is_auction, last_auction_price, last_price}
 use Rattle.xm_rules.specs.declared.orders.Trade.{Trade}
@@ -7,14 +8,13 @@ use Rattle.xm_desk.proofs.tape.Tape.record.Goals as goal
 pub invariant_of-self : goal.invariant_of-self
 invariant_of-self g c =
     let t = c.self.inside in
-    let trades = t.trades.items in
+    let trades = t.trades.trades in
     let trade = c.args.trade in
-    let pushed : c.push_reserved.new.self.items ≡ trades ++ trade ∷ [] = c.push_reserved.ensures.items in
+    let pushed : c.push.new.self.trades ≡ trades ++ trade ∷ [] = ap (λ (l : TradeList). l.trades) c.push.ensures in
     record {
       last = sym (ap (last_price t.opening) pushed ∙ last_price-push t.opening trades trade);
       last_auction =
           c.auction_price_after-self-inside.ensures
           ∙ ap (λ (price : ℕ). if is_auction trade.kind then trade.price else price) c.self.invariant.last_auction
           ∙ sym (ap (last_auction_price t.opening) pushed ∙ last_auction_price-push t.opening trades trade);
-      room = omega (arith, c.self.invariant.room, c.push_reserved.ensures.len, c.push_reserved.ensures.capacity, c.requires);
     }
