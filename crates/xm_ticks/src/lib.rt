@@ -5,8 +5,6 @@ pub mod examples;
 mod numbers;
 mod ranges;
 mod reading;
-#[cfg(test)]
-mod tests;
 mod writing;
 
 pub use numbers::{

@@ -1,6 +1,7 @@
-use crate::{Price, TickSize, write_money, write_price, write_whole};
+//! Texts of prices and money.
 use std::io::{self, Write};
 use std::test::Fail;
+use xm_ticks::{Price, TickSize, write_money, write_price, write_whole};
 
 /// Holds what it is given, at most so many bytes a call, and fails after so many bytes in all.
 struct ShortWriter {
