@@ -12,8 +12,6 @@ mod opening;
 mod refusals;
 mod settling;
 mod tape;
-#[cfg(test)]
-mod tests;
 mod unsettled;
 
 pub use crate::desk::Desk;

@@ -4,6 +4,7 @@ mod growths;
 mod plain;
 mod priority;
 mod side_by_side;
+mod trades;
 
 use entries::Entries;
 use std::alloc::Allocator;

@@ -7,6 +7,8 @@ mod book;
 #[cfg(test)]
 mod day;
 #[cfg(test)]
+mod desk;
+#[cfg(test)]
 mod refusing;
 #[cfg(test)]
 mod ticks;

@@ -1,5 +1,5 @@
-use super::day::Day;
-use super::{buy, cancel, settings};
+use super::day::{Day, Stage, run};
+use super::settings;
 use std::test::Fail;
 use xm_rules::{
     Auction, CallStage, Command, Condition, Kind, Order, OrderKind, Phase, Refusal, Reply,
@@ -7,21 +7,24 @@ use xm_rules::{
 };
 use xm_ticks::Price;
 
+const OPENING: Phase = Phase::Call(Auction::Opening, CallStage::Ordinary);
+
+const COMMANDS: [Command; 4] = [
+    buy!(0, 1, 1000, 10),
+    Command::StartOpening,
+    buy!(1, 2, 990, 7),
+    cancel!(0, 1),
+];
+
 #[test]
 fn orders_before_and_in_the_opening_call(rt: HostRuntime) -> Result<(), Fail> {
     let mut day = Day::open(rt.alloc(), 100)?;
-    let commands = [
-        buy(0, 1, 1000, 10),
-        Command::StartOpening,
-        buy(1, 2, 990, 7),
-        cancel(0, 1),
-    ];
-    for command in commands {
+    for command in COMMANDS {
         assert!(rt; day.give(&rt, command).is_ok());
     }
     day.buys_are(&rt, &[(1, 2, 990, 7)]);
     assert_eq!(rt; day.reference_prices(), (1000, 1000));
-    assert!(rt; day.journal() == commands.as_slice());
+    assert!(rt; day.journal() == COMMANDS.as_slice());
     Ok(())
 }
 
@@ -29,8 +32,8 @@ fn orders_before_and_in_the_opening_call(rt: HostRuntime) -> Result<(), Fail> {
 fn settings_and_phase_before_the_day(rt: HostRuntime) -> Result<(), Fail> {
     let expected = settings(100)?;
     let day = Day::open(rt.alloc(), 100)?;
-    assert_eq!(rt; day.settings(), expected);
-    assert_eq!(rt; day.phase(), Phase::PreTrading);
+    assert!(rt; day.settings() == expected);
+    assert!(rt; day.phase() == Phase::PreTrading);
     Ok(())
 }
 
@@ -46,35 +49,37 @@ fn reply(version: u64, phase: Phase) -> Reply {
     }
 }
 
+/// Commands, each with the version and the phase after it.
+const REPLIES: [(Command, u64, Phase); 3] = [
+    (buy!(0, 1, 1000, 10), 1, Phase::PreTrading),
+    (Command::StartOpening, 2, OPENING),
+    (cancel!(0, 1), 3, OPENING),
+];
+
 #[test]
 fn replies_before_and_in_the_opening_call(rt: HostRuntime) -> Result<(), Fail> {
-    let opening = Phase::Call(Auction::Opening, CallStage::Ordinary);
-    let steps = [
-        (buy(0, 1, 1000, 10), reply(1, Phase::PreTrading)),
-        (Command::StartOpening, reply(2, opening)),
-        (cancel(0, 1), reply(3, opening)),
-    ];
     let mut day = Day::open(rt.alloc(), 100)?;
-    for (command, reply) in steps {
-        assert_eq!(rt; day.apply(&rt, command), Ok(reply));
-        assert_eq!(rt; day.phase(), reply.phase);
+    for (command, version, phase) in REPLIES {
+        assert!(rt; day.apply(&rt, command) == Ok(reply(version, phase)));
+        assert!(rt; day.phase() == phase);
     }
     Ok(())
 }
 
+const NAMES: [Stage; 1] = [Stage {
+    steps: &[
+        (buy!(0, 7, 1000, 10), Ok(1)),
+        (buy!(1, 7, 1000, 20), Ok(2)),
+        (cancel!(0, 7), Ok(3)),
+        (cancel!(0, 7), Err(Refusal::UnknownOrder)),
+        (buy!(0, 7, 1000, 30), Ok(4)),
+    ],
+    live: &[(1, 7, 1000, 20), (0, 7, 1000, 30)],
+}];
+
 #[test]
 fn names_of_orders(rt: HostRuntime) -> Result<(), Fail> {
-    let mut day = Day::open(rt.alloc(), 100)?;
-    let steps = [
-        (buy(0, 7, 1000, 10), Ok(1)),
-        (buy(1, 7, 1000, 20), Ok(2)),
-        (cancel(0, 7), Ok(3)),
-        (cancel(0, 7), Err(Refusal::UnknownOrder)),
-        (buy(0, 7, 1000, 30), Ok(4)),
-    ];
-    day.give_all(&rt, &steps);
-    day.buys_are(&rt, &[(1, 7, 1000, 20), (0, 7, 1000, 30)]);
-    Ok(())
+    run(&rt, 100, &NAMES)
 }
 
 /// Orders of every kind, each with an earlier reference than the one before.

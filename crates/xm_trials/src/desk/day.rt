@@ -1,10 +1,33 @@
 use super::{bought, settings};
-use crate::Desk;
 use std::alloc::Allocator;
 use std::marker::Model;
 use std::process::Abort;
 use std::test::Fail;
+use xm_desk::Desk;
 use xm_rules::{Command, DeskSettings, Order, OutOfMemory, Phase, Refusal, Reply};
+
+/// A command with the version or the refusal that it is answered with.
+pub type Step = (Command, Result<u64, Refusal>);
+
+/// A limited buy order for the day: the member, the reference, the limit and the rest.
+pub type Bought = (u32, u32, u32, u32);
+
+/// Commands of a day, with the orders that are live after them.
+#[derive(Clone, Copy)]
+pub struct Stage {
+    pub steps: &'static [Step],
+    pub live: &'static [Bought],
+}
+
+/// Gives a day, whose journal takes this many commands of a member, each stage in turn.
+pub fn run(rt: &(impl Abort + AllocGlobal), limit: u32, stages: &[Stage]) -> Result<(), Fail> {
+    let mut day = Day::open(rt.alloc(), limit)?;
+    for stage in stages {
+        day.give_all(rt, stage.steps);
+        day.buys_are(rt, stage.live);
+    }
+    Ok(())
+}
 
 /// A desk under test. A clause sees nothing of it: the proof of a test is long where it follows what
 /// each call promises.
@@ -35,7 +58,7 @@ impl<A: Allocator + Copy> Day<A> {
         let accepted = self.desk.journal().len();
         let answer = self.desk.apply(command);
         match expected {
-            Some(refusal) => assert_eq!(rt; answer, Err(refusal)),
+            Some(refusal) => assert!(rt; answer == Err(refusal)),
             None => assert!(rt; answer.is_ok() || answer == Err(Refusal::OutOfMemory)),
         }
         let added = if answer.is_ok() { 1 } else { 0 };
@@ -52,7 +75,7 @@ impl<A: Allocator + Copy> Day<A> {
     }
 
     /// Gives each command, which has to answer the version or the refusal beside it.
-    pub fn give_all(&mut self, rt: &impl Abort, steps: &[(Command, Result<u64, Refusal>)]) {
+    pub fn give_all(&mut self, rt: &impl Abort, steps: &[Step]) {
         for (command, expected) in steps {
             assert_eq!(rt; self.give(rt, *command), *expected, "at {command:?}");
         }
@@ -66,14 +89,13 @@ impl<A: Allocator + Copy> Day<A> {
     /// Compares the live orders.
     pub fn orders_are(&self, rt: &impl Abort, expected: &[Order]) {
         match self.orders() {
-            Ok(orders) => assert_eq!(rt; orders.as_slice(), expected),
+            Ok(orders) => assert!(rt; orders.as_slice() == expected),
             Err(OutOfMemory) => panic!(rt; "no memory for the orders"),
         }
     }
 
-    /// Compares the live orders with limited buy orders for the day: the member, the reference, the
-    /// limit and the rest of each.
-    pub fn buys_are(&self, rt: &impl Abort, expected: &[(u32, u32, u32, u32)]) {
+    /// Compares the live orders with limited buy orders for the day.
+    pub fn buys_are(&self, rt: &impl Abort, expected: &[Bought]) {
         match self.orders() {
             Ok(orders) => are_buys(rt, &orders, expected),
             Err(OutOfMemory) => panic!(rt; "no memory for the orders"),
@@ -81,10 +103,15 @@ impl<A: Allocator + Copy> Day<A> {
     }
 }
 
-fn are_buys(rt: &impl Abort, orders: &[Order], expected: &[(u32, u32, u32, u32)]) {
+fn is_bought(order: &Order, expected: Bought) -> bool {
+    let (member, reference, limit, rest) = expected;
+    bought(member, reference, limit, rest) == Some(*order)
+}
+
+fn are_buys(rt: &impl Abort, orders: &[Order], expected: &[Bought]) {
     assert_eq!(rt; orders.len(), expected.len());
-    for (order, (member, reference, limit, rest)) in orders.iter().zip(expected) {
-        assert_eq!(rt; Some(*order), bought(*member, *reference, *limit, *rest));
+    for (order, expected) in orders.iter().zip(expected) {
+        assert!(rt; is_bought(order, *expected));
     }
 }
 

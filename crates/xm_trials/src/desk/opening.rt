@@ -1,6 +1,6 @@
 use super::settings;
-use crate::{Desk, OpenFault};
 use std::test::Fail;
+use xm_desk::{Desk, OpenFault};
 use xm_rules::{DeskSettings, Widths};
 
 #[test]
