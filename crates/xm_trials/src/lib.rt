@@ -9,6 +9,8 @@ mod day;
 #[cfg(test)]
 mod desk;
 #[cfg(test)]
+mod program;
+#[cfg(test)]
 mod refusing;
 #[cfg(test)]
 mod ticks;

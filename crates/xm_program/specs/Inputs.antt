@@ -1,7 +1,7 @@
 -- What reads of an input give.
 use Rattle.std.specs.Prelude.{ℕ, List, Option, None}
-use Rattle.xetra_day.specs.declared.inputs.Input.{Input}
-use Rattle.xetra_day.specs.declared.inputs.Input.TheVariants.{Opened, Unopened}
+use Rattle.xm_program.specs.declared.inputs.Input.{Input}
+use Rattle.xm_program.specs.declared.inputs.Input.TheVariants.{Opened, Unopened}
 
 module _ {F : Type 0} where
   -- the bytes that an input has left: its file's, and none that are known where there is no file

@@ -2,9 +2,9 @@
 
 use super::runtime::{Call, Stream};
 use super::{DAY, NO_ORDERS};
-use crate::run_program;
 use std::process::{Abort, ExitCode};
 use std::test::Fail;
+use xm_program::run_program;
 
 const STATEMENT: &str = "DAY 20260105
 SECURITY XYZ pre-trading

@@ -1,6 +1,6 @@
 //! The line that tells why a day has no statement.
 ghost use Rattle.std.specs.Prelude.{◌≡◌, Some};
-ghost use Rattle.xetra_day.specs.FaultLines.{cause_name, fault_line, open_name, told};
+ghost use Rattle.xm_program.specs.FaultLines.{cause_name, fault_line, open_name, told};
 
 use std::fmt;
 use xm_day::{DayFault, FileCause, FileFault, OpenFault};

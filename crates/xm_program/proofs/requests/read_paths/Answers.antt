@@ -1,9 +1,9 @@
 use Rattle.std.proofs.Common.{ap, ◌≡◌, ◌∙◌, true, map, string_bytes}
 use Rattle.clap.specs.Words.{App, app_of, fault_of, kind_of, takes}
 use Rattle.clap.specs.declared.error.kind.ErrorKind.TheVariants as kind
-use Rattle.xetra_day.specs.Requests.{day_app, paths_of}
-use Rattle.xetra_day.proofs.Runs.{err_from, fault-met, no_fault, of_words}
-use Rattle.xetra_day.proofs.requests.read_paths.Goals as goal
+use Rattle.xm_program.specs.Requests.{day_app, paths_of}
+use Rattle.xm_program.proofs.Runs.{err_from, fault-met, no_fault, of_words}
+use Rattle.xm_program.proofs.requests.read_paths.Goals as goal
 
 pub returns-in_err-matches-clause-err : goal.returns-in_err-matches-clause-err
 returns-in_err-matches-clause-err c =

@@ -3,7 +3,7 @@ ghost use Rattle.std.specs.Prelude.{◌≡◌, List, [], ℕ, IfOk, IfErr, IsSom
 ghost use Rattle.clap.specs.Words.{app_of, fault_of, kind_of, subcommand_rows_of, takes};
 ghost use Rattle.clap.specs.declared.builder.command.Command.TheViews.{out-Command as fields_of};
 ghost use Rattle.clap.specs.declared.error.kind.ErrorKind.TheVariants as kind;
-ghost use Rattle.xetra_day.specs.Requests.{AnswersWords, AsksRun, IsOfPaths, IsOfWords, IsRun, IsTold, answer_of, day_app, failure_status, paths_in, paths_of, run_app};
+ghost use Rattle.xm_program.specs.Requests.{AnswersWords, AsksRun, IsOfPaths, IsOfWords, IsRun, IsTold, answer_of, day_app, failure_status, paths_in, paths_of, run_app};
 
 use clap::error::ErrorKind;
 use clap::{Arg, ArgAction, ArgMatches, Command, Error};
@@ -56,7 +56,7 @@ impl Failure {
 }
 
 impl From<AllocError> for Failure {
-    ghost use Rattle.xetra_day.specs.declared.requests.Failure.TheVariants.{Day};
+    ghost use Rattle.xm_program.specs.declared.requests.Failure.TheVariants.{Day};
     ghost use Rattle.xm_day.specs.declared.faults.DayFault.TheVariants.{OutOfMemory};
 
     ghost from_gives = { λ _ failure. failure ≡ Day OutOfMemory };
@@ -67,7 +67,7 @@ impl From<AllocError> for Failure {
 }
 
 impl From<DayFault> for Failure {
-    ghost use Rattle.xetra_day.specs.declared.requests.Failure.TheVariants.{Day};
+    ghost use Rattle.xm_program.specs.declared.requests.Failure.TheVariants.{Day};
 
     ghost from_gives = { λ fault failure. failure ≡ Day fault };
 

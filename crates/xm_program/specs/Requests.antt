@@ -9,10 +9,10 @@ use Rattle.clap.specs.declared.error.Error.{Error}
 use Rattle.clap.specs.declared.error.kind.ErrorKind.{ErrorKind}
 use Rattle.clap.specs.declared.error.kind.ErrorKind.TheVariants as kind
 use Rattle.xm_day.specs.declared.faults.DayFault.TheVariants as day
-use Rattle.xetra_day.specs.declared.requests.Request.{Request}
-use Rattle.xetra_day.specs.declared.requests.Request.TheVariants.{Run, Help}
-use Rattle.xetra_day.specs.declared.requests.Failure.{Failure}
-use Rattle.xetra_day.specs.declared.requests.Failure.TheVariants.{Day, Words}
+use Rattle.xm_program.specs.declared.requests.Request.{Request}
+use Rattle.xm_program.specs.declared.requests.Request.TheVariants.{Run, Help}
+use Rattle.xm_program.specs.declared.requests.Failure.{Failure}
+use Rattle.xm_program.specs.declared.requests.Failure.TheVariants.{Day, Words}
 
 -- ---- the command line
 

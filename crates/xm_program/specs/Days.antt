@@ -4,7 +4,7 @@ use Rattle.xm_day.specs.Answers.{DayEnds}
 use Rattle.xm_day.specs.declared.report.DayReport.{DayReport}
 use Rattle.xm_day.specs.declared.faults.DayFault.{DayFault}
 use Rattle.xm_day.specs.declared.faults.DayFault.TheVariants.{WriteFailed}
-use Rattle.xetra_day.specs.FaultLines.{told}
+use Rattle.xm_program.specs.FaultLines.{told}
 
 -- what is told of a day that ended so; where its statement was written, but may not have gone out whole, that the writing
 -- failed

@@ -2,8 +2,8 @@ use Rattle.std.proofs.Common.{rules, ◌≡◌, Some, None, true, codes, refl, s
 use Rattle.std.specs.Str.{bytes_eq}
 use Rattle.clap.specs.Words.{first_of, found_of, rows_of, subcommand_rows_of}
 use Rattle.clap.proofs.WalkLemmas.{first_value-rows}
-use Rattle.xetra_day.proofs.Paths.{paths-met, subcommand-met}
-use Rattle.xetra_day.proofs.requests.paths_in.Goals as goal
+use Rattle.xm_program.proofs.Paths.{paths-met, subcommand-met}
+use Rattle.xm_program.proofs.requests.paths_in.Goals as goal
 
 pub returns-in_err-segment : goal.returns-in_err-segment
 returns-in_err-segment c =

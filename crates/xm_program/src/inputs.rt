@@ -17,7 +17,7 @@ pub enum Input<F> {
 }
 
 /// Opens the file at a path.
-pub fn open<R: Files>(rt: &R, path: &str) -> Input<R::File> {
+pub fn open_input<R: Files>(rt: &R, path: &str) -> Input<R::File> {
     match fs::open(rt, path) {
         Ok(file) => Input::Opened(file),
         Err(_) => Input::Unopened,
@@ -25,8 +25,8 @@ pub fn open<R: Files>(rt: &R, path: &str) -> Input<R::File> {
 }
 
 impl<F: Read> Read for Input<F> {
-    ghost use Rattle.xetra_day.specs.declared.inputs.Input.TheVariants.{Unopened};
-    ghost use Rattle.xetra_day.specs.Inputs.{bytes_left};
+    ghost use Rattle.xm_program.specs.declared.inputs.Input.TheVariants.{Unopened};
+    ghost use Rattle.xm_program.specs.Inputs.{bytes_left};
 
     ghost remaining = { bytes_left F.remaining };
 

@@ -3,8 +3,8 @@ use Rattle.std.proofs.lemmas.Result.{IfOk-weaker}
 use Rattle.clap.specs.Words.{app_of, new_app, rule_of, with_rule}
 use Rattle.clap.specs.Simple.{app_of_fields}
 use Rattle.clap.specs.declared.builder.command.Command.TheViews.{out-Command as fields_of}
-use Rattle.xetra_day.specs.Requests.{path_rule}
-use Rattle.xetra_day.proofs.requests.run_command.Goals as goal
+use Rattle.xm_program.specs.Requests.{path_rule}
+use Rattle.xm_program.proofs.requests.run_command.Goals as goal
 
 pub returns-clause-app : goal.returns-clause-app
 returns-clause-app c =

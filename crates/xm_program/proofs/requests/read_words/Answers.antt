@@ -1,9 +1,9 @@
 use Rattle.std.proofs.Common.{◌≡◌, Some, refl, map, string_bytes}
 use Rattle.clap.specs.Words.{fault_of, kind_of}
 use Rattle.clap.specs.declared.error.kind.ErrorKind.TheVariants as kind
-use Rattle.xetra_day.specs.Requests.{day_app, paths_of}
-use Rattle.xetra_day.proofs.Runs.{answer-memory, answered, some_pair, taken}
-use Rattle.xetra_day.proofs.requests.read_words.Goals as goal
+use Rattle.xm_program.specs.Requests.{day_app, paths_of}
+use Rattle.xm_program.proofs.Runs.{answer-memory, answered, some_pair, taken}
+use Rattle.xm_program.proofs.requests.read_words.Goals as goal
 
 pub returns-in-Ok-clause-run : goal.returns-in-Ok-clause-run
 returns-in-Ok-clause-run c = λ segment orders asks.

@@ -8,8 +8,8 @@ use Rattle.clap.specs.declared.error.kind.ErrorKind.{ErrorKind}
 use Rattle.clap.specs.declared.error.kind.ErrorKind.TheVariants as kind
 use Rattle.clap.proofs.OnLiterals.{clap_on_literals}
 use Rattle.xm_day.specs.declared.faults.DayFault.TheVariants as day
-use Rattle.xetra_day.specs.declared.requests.Failure.TheVariants.{Day}
-use Rattle.xetra_day.specs.Requests.{AnswersWords, AsksRun, IsOfWords, answer_at, answer_of, day_app, is_plain, paths_of}
+use Rattle.xm_program.specs.declared.requests.Failure.TheVariants.{Day}
+use Rattle.xm_program.specs.Requests.{AnswersWords, AsksRun, IsOfWords, answer_at, answer_of, day_app, is_plain, paths_of}
 
 false_of : (b : Bool) → not b ≡ true → b ≡ false
 false_of true h = absurd (cc)

@@ -1,0 +1,12 @@
+//! What the program `xetra-day` does with its command line: it runs a day of two files, or prints its help.
+#![tactic(auto)]
+
+mod fault_lines;
+mod inputs;
+mod program;
+mod requests;
+
+pub use crate::fault_lines::FaultLine;
+pub use crate::inputs::{Input, open_input};
+pub use crate::program::{run, run_program};
+pub use crate::requests::{Failure, Request, read_words};
