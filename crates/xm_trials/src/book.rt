@@ -39,7 +39,7 @@ fn order(side: Side, reference: u32, kind: OrderKind) -> Order {
 
 /// Puts in an order that the book can take.
 fn enter<A: Allocator>(rt: &impl Abort, book: &mut Entries<A>, order: Order) {
-    assert_eq!(rt; book.enter(order), Ok(true));
+    assert!(rt; matches!(book.enter(order), Ok(true)));
 }
 
 /// Compares the references of the active orders of a side, by priority.

@@ -63,7 +63,7 @@ fn replace_again<A: Allocator + Copy>(
         }
         Err(OutOfMemory) => {
             compare(rt, book, list);
-            assert_eq!(rt; book.replace(changed(rt, reference)), Ok(true));
+            assert!(rt; matches!(book.replace(changed(rt, reference)), Ok(true)));
             true
         }
     }
@@ -72,7 +72,7 @@ fn replace_again<A: Allocator + Copy>(
 fn orders_again<A: Allocator + Copy>(rt: &impl Abort, book: &Entries<A>, list: &Plain) -> bool {
     match book.orders() {
         Ok(orders) => {
-            assert_eq!(rt; orders.as_slice(), list.orders());
+            assert!(rt; orders.as_slice() == list.orders());
             false
         }
         Err(OutOfMemory) => {
@@ -85,7 +85,7 @@ fn orders_again<A: Allocator + Copy>(rt: &impl Abort, book: &Entries<A>, list: &
 fn of_member_again<A: Allocator + Copy>(rt: &impl Abort, book: &Entries<A>, list: &Plain) -> bool {
     match book.of_member(0) {
         Ok(references) => {
-            assert_eq!(rt; references.as_slice(), [3, 6].as_slice());
+            assert!(rt; references.as_slice() == [3, 6].as_slice());
             false
         }
         Err(OutOfMemory) => {
@@ -109,10 +109,13 @@ impl Refused {
     }
 
     fn count(&self, call: &str) -> usize {
-        self.calls
-            .iter()
-            .filter(|refused| **refused == call)
-            .count()
+        let mut count = 0usize;
+        for refused in &self.calls {
+            if *refused == call {
+                count = count.wrapping_add(1);
+            }
+        }
+        count
     }
 }
 

@@ -26,7 +26,7 @@ fn is_active(order: &Order, side: Side, phase: Phase) -> bool {
     order.side == side && takes_part(order.restriction, phase)
 }
 
-/// The lower, the higher in priority.
+/// The lower, the higher in priority; 0 for a market order alone.
 fn rank(order: &Order) -> u32 {
     match order.kind {
         OrderKind::Market => 0,
@@ -44,6 +44,14 @@ fn limit(order: &Order) -> Option<Price> {
     }
 }
 
+/// Whether an order has a lower rank than the first one of those before it, or there is none.
+fn is_before(order: &Order, first: &Option<Order>) -> bool {
+    match first {
+        None => true,
+        Some(first) => rank(order) < rank(first),
+    }
+}
+
 impl Plain {
     pub fn new(alloc: Global) -> Plain {
         Plain {
@@ -56,44 +64,49 @@ impl Plain {
     }
 
     pub fn find(&self, member: u32, reference: u32) -> Option<Order> {
-        self.orders
-            .iter()
-            .find(|order| is_named(order, member, reference))
-            .copied()
+        for order in &self.orders {
+            if is_named(order, member, reference) {
+                return Some(*order);
+            }
+        }
+        None
     }
 
     pub fn best(&self, side: Side, phase: Phase) -> Option<Order> {
-        self.orders
-            .iter()
-            .filter(|order| is_active(order, side, phase))
-            .min_by_key(|order| rank(order))
-            .copied()
-    }
-
-    pub fn next_after(&self, side: Side, phase: Phase, order: Order) -> Option<Order> {
-        let (index, from) = self.orders.iter().enumerate().find(|(_, other)| is_named(
-            other,
-            order.member,
-            order.reference,
-        ))?;
-        if !is_active(from, side, phase) {
-            return None;
-        }
-        let last = (rank(from), index);
-        self.orders
-            .iter()
-            .enumerate()
-            .filter(|(index, order)| is_active(order, side, phase) && last < (rank(order), *index))
-            .min_by_key(|(index, order)| (rank(order), *index))
-            .map(|(_, order)| *order)
+        self.first_from(side, phase, (0, 0))
     }
 
     pub fn best_limit(&self, side: Side, phase: Phase) -> Option<Price> {
-        self.orders
-            .iter()
-            .filter(|order| is_active(order, side, phase) && order.kind != OrderKind::Market)
-            .min_by_key(|order| rank(order))
-            .and_then(limit)
+        match self.first_from(side, phase, (1, 0)) {
+            None => None,
+            Some(order) => limit(&order),
+        }
+    }
+
+    pub fn next_after(&self, side: Side, phase: Phase, order: Order) -> Option<Order> {
+        for (index, from) in self.orders.iter().enumerate() {
+            if is_named(from, order.member, order.reference) {
+                if !is_active(from, side, phase) {
+                    return None;
+                }
+                return self.first_from(side, phase, (rank(from), index.wrapping_add(1)));
+            }
+        }
+        None
+    }
+
+    /// The active order that is first by rank, then by time, of those from this rank and index on.
+    fn first_from(&self, side: Side, phase: Phase, from: (u32, usize)) -> Option<Order> {
+        let mut first: Option<Order> = None;
+        for (index, order) in self.orders.iter().enumerate() {
+            if is_active(order, side, phase)
+                && from <= (rank(order), index)
+                && is_before(order, &first)
+            {
+                first = Some(*order);
+            }
+        }
+        first
     }
 
     /// Puts in an order of a name that is not there, where memory allows.
@@ -104,8 +117,12 @@ impl Plain {
     }
 
     pub fn remove(&mut self, member: u32, reference: u32) {
-        self.orders
-            .retain(|order| !is_named(order, member, reference));
+        for index in 0..self.orders.len() {
+            if is_named(&self.orders[index], member, reference) {
+                self.orders.remove(index);
+                return;
+            }
+        }
     }
 
     pub fn remove_all(&mut self, member: u32) {

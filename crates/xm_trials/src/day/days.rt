@@ -1,8 +1,9 @@
 use super::fixtures::{
     HEADER, NO_SECURITY, ORDERS, OneByteReader, SECOND, SEGMENT, ShortWriter, replaced,
 };
-use std::alloc::Global;
-use std::io::ErrorKind;
+use std::alloc::{AllocError, Global};
+use std::io::{ErrorKind, Read};
+use std::process::Abort;
 use std::test::Fail;
 use xm_day::{DayFault, DayReport, FileCause, FileFault, OpenFault, run_alone};
 
@@ -16,29 +17,41 @@ MEMBER AAA 0.0000
 MEMBER BBB 0.0000
 ";
 
-/// The answer of a day, and what was written.
-fn day_of(alloc: Global, segment: &str, orders: &str) -> (Result<DayReport, DayFault>, Vec<u8>) {
-    let mut out = Vec::new(alloc);
-    let answer = run_alone(
-        alloc,
-        &mut segment.as_bytes(),
-        &mut orders.as_bytes(),
-        &mut out,
-    );
-    (answer, out)
+/// The statement of the day of `ORDERS`, with this many refused rows.
+fn written(alloc: Global, refused: u64) -> Result<String, AllocError> {
+    format!(in alloc; "{STATEMENT}ROWS 5 {refused}\n")
+}
+
+/// Compares the answer of a day with the rows that it refused, and what it wrote.
+fn is_written(
+    rt: &(impl Abort + AllocGlobal),
+    segment: &mut impl Read,
+    orders: &mut impl Read,
+    refused: u64,
+) -> Result<(), Fail> {
+    let mut out = Vec::new(rt.alloc());
+    let report = run_alone(rt.alloc(), segment, orders, &mut out)?;
+    assert!(rt; (report.accepted, report.refused) == (5, refused));
+    assert!(rt; out.as_slice() == written(rt.alloc(), refused)?.as_bytes());
+    Ok(())
+}
+
+/// Compares the fault of a day, which writes nothing.
+fn has_fault(
+    rt: &(impl Abort + AllocGlobal),
+    segment: &mut impl Read,
+    orders: &mut impl Read,
+    fault: DayFault,
+) {
+    let mut out = Vec::new(rt.alloc());
+    let answer = run_alone(rt.alloc(), segment, orders, &mut out);
+    assert_eq!(rt; answer.err(), Some(fault));
+    assert!(rt; out.is_empty());
 }
 
 #[test]
 fn orders_before_and_in_the_opening_call(rt: HostRuntime) -> Result<(), Fail> {
-    let (answer, out) = day_of(rt.alloc(), SEGMENT, ORDERS);
-    let report = DayReport {
-        accepted: 5,
-        refused: 0,
-    };
-    assert_eq!(rt; answer, Ok(report));
-    let text = format!(in rt.alloc(); "{STATEMENT}ROWS 5 0\n")?;
-    assert_eq!(rt; out.as_slice(), text.as_bytes());
-    Ok(())
+    is_written(&rt, &mut SEGMENT.as_bytes(), &mut ORDERS.as_bytes(), 0)
 }
 
 /// A row for each refusal that an order file reaches, after `ORDERS`, and how many commands the
@@ -69,21 +82,24 @@ const REFUSED_ROWS: [(&str, u32, &str); 8] = [
 #[test]
 fn refused_rows_are_counted(rt: HostRuntime) -> Result<(), Fail> {
     let alloc = rt.alloc();
-    let report = DayReport {
-        accepted: 5,
-        refused: 1,
-    };
-    let text = format!(in alloc; "{STATEMENT}ROWS 5 1\n")?;
-    for (refusal, limit, row) in REFUSED_ROWS {
+    for (_refusal, limit, row) in REFUSED_ROWS {
         let journal = format!(in alloc; "journal = {limit}")?;
         let segment = replaced(alloc, SEGMENT, "journal = 100", journal.as_str())?;
         let orders = format!(in alloc; "{ORDERS}{row}\n")?;
-        let (answer, out) = day_of(alloc, segment.as_str(), orders.as_str());
-        assert_eq!(rt; answer, Ok(report), "{refusal}");
-        assert_eq!(rt; out.as_slice(), text.as_bytes(), "{refusal}");
+        is_written(&rt, &mut segment.as_bytes(), &mut orders.as_bytes(), 1)?;
     }
     Ok(())
 }
+
+const BAD_VALUE: DayFault = DayFault::Segment(FileFault {
+    line: 1,
+    cause: FileCause::BadValue,
+});
+
+const BAD_HEADER: DayFault = DayFault::Orders(FileFault {
+    line: 1,
+    cause: FileCause::BadHeader,
+});
 
 #[test]
 fn faults_in_order(rt: HostRuntime) -> Result<(), Fail> {
@@ -91,32 +107,35 @@ fn faults_in_order(rt: HostRuntime) -> Result<(), Fail> {
     let two = format!(in alloc; "{SEGMENT}\n{SECOND}")?;
     let wide = replaced(alloc, SEGMENT, "dynamic = 20", "dynamic = 40")?;
     let damaged = replaced(alloc, SEGMENT, "tick = 100", "tick = 0")?;
-    let segment_fault = FileFault {
-        line: 1,
-        cause: FileCause::BadValue,
-    };
-    let no_header = FileFault {
-        line: 1,
-        cause: FileCause::BadHeader,
-    };
     let faults = [
-        (damaged.as_str(), "", DayFault::Segment(segment_fault)),
-        (two.as_str(), "", DayFault::Orders(no_header)),
+        (damaged.as_str(), "", BAD_VALUE),
+        (two.as_str(), "", BAD_HEADER),
         (two.as_str(), HEADER, DayFault::Open(OpenFault::TooMany)),
         (NO_SECURITY, HEADER, DayFault::Open(OpenFault::NoSecurity)),
         (wide.as_str(), HEADER, DayFault::Open(OpenFault::BadWidths)),
     ];
     for (segment, orders, fault) in faults {
-        let (answer, out) = day_of(alloc, segment, orders);
-        assert_eq!(rt; answer, Err(fault));
-        assert!(rt; out.is_empty());
+        has_fault(&rt, &mut segment.as_bytes(), &mut orders.as_bytes(), fault);
     }
     Ok(())
 }
 
+/// Compares what a writer with this room holds, which then fails.
+fn fails_after(rt: &(impl Abort + AllocGlobal), start: &[u8], failure: Option<ErrorKind>) {
+    let mut out = ShortWriter::new(rt.alloc(), start.len(), failure);
+    let answer = run_alone(
+        rt.alloc(),
+        &mut SEGMENT.as_bytes(),
+        &mut ORDERS.as_bytes(),
+        &mut out,
+    );
+    assert!(rt; answer.err() == Some(DayFault::WriteFailed));
+    assert!(rt; out.bytes.as_slice() == start);
+}
+
 #[test]
 fn failing_writers(rt: HostRuntime) -> Result<(), Fail> {
-    let text = format!(in rt.alloc(); "{STATEMENT}ROWS 5 0\n")?;
+    let text = written(rt.alloc(), 0)?;
     let failures = [
         None,
         Some(ErrorKind::BrokenPipe),
@@ -124,72 +143,75 @@ fn failing_writers(rt: HostRuntime) -> Result<(), Fail> {
     ];
     for failure in failures {
         for room in 0..text.len() {
-            let mut out = ShortWriter::new(rt.alloc(), room, failure);
-            let answer = run_alone(
-                rt.alloc(),
-                &mut SEGMENT.as_bytes(),
-                &mut ORDERS.as_bytes(),
-                &mut out,
-            );
-            assert_eq!(rt; answer, Err(DayFault::WriteFailed));
-            assert_eq!(rt; out.bytes.as_slice(), &text.as_bytes()[..room]);
+            fails_after(&rt, &text.as_bytes()[..room], failure);
         }
     }
     Ok(())
 }
 
-/// The answer of a day whose readers give one byte a call and may fail, and what was written.
-fn slow_day(
-    alloc: Global,
-    segment: Option<(usize, ErrorKind)>,
-    orders: Option<(usize, ErrorKind)>,
-) -> (Result<DayReport, DayFault>, Vec<u8>) {
-    let mut out = Vec::new(alloc);
-    let mut segment = OneByteReader::new(SEGMENT, segment);
-    let mut orders = OneByteReader::new(ORDERS, orders);
-    let answer = run_alone(alloc, &mut segment, &mut orders, &mut out);
-    (answer, out)
+const READ_FAILED: FileFault = FileFault {
+    line: 0,
+    cause: FileCause::ReadFailed,
+};
+
+#[test]
+fn slow_readers(rt: HostRuntime) -> Result<(), Fail> {
+    let mut segment = OneByteReader::new(SEGMENT, None);
+    let mut orders = OneByteReader::new(ORDERS, None);
+    is_written(&rt, &mut segment, &mut orders, 0)
 }
 
 #[test]
-fn slow_and_failing_readers(rt: HostRuntime) -> Result<(), Fail> {
-    let text = format!(in rt.alloc(); "{STATEMENT}ROWS 5 0\n")?;
-    let (answer, out) = slow_day(rt.alloc(), None, None);
-    assert!(rt; answer.is_ok());
-    assert_eq!(rt; out.as_slice(), text.as_bytes());
-    let failed = FileFault {
-        line: 0,
-        cause: FileCause::ReadFailed,
-    };
+fn failing_readers_of_a_segment(rt: HostRuntime) {
     for kind in [ErrorKind::BrokenPipe, ErrorKind::Interrupted] {
         for call in 0..SEGMENT.len() + 1 {
-            let (answer, out) = slow_day(rt.alloc(), Some((call, kind)), None);
-            assert_eq!(rt; answer, Err(DayFault::Segment(failed)));
-            assert!(rt; out.is_empty());
-        }
-        for call in 0..ORDERS.len() + 1 {
-            let (answer, out) = slow_day(rt.alloc(), None, Some((call, kind)));
-            assert_eq!(rt; answer, Err(DayFault::Orders(failed)));
-            assert!(rt; out.is_empty());
+            let mut segment = OneByteReader::new(SEGMENT, Some((call, kind)));
+            let mut orders = OneByteReader::new(ORDERS, None);
+            has_fault(
+                &rt,
+                &mut segment,
+                &mut orders,
+                DayFault::Segment(READ_FAILED),
+            );
         }
     }
-    Ok(())
 }
+
+#[test]
+fn failing_readers_of_orders(rt: HostRuntime) {
+    for kind in [ErrorKind::BrokenPipe, ErrorKind::Interrupted] {
+        for call in 0..ORDERS.len() + 1 {
+            let mut segment = OneByteReader::new(SEGMENT, None);
+            let mut orders = OneByteReader::new(ORDERS, Some((call, kind)));
+            has_fault(
+                &rt,
+                &mut segment,
+                &mut orders,
+                DayFault::Orders(READ_FAILED),
+            );
+        }
+    }
+}
+
+const BAD_FIELD: FileFault = FileFault {
+    line: 3,
+    cause: FileCause::BadField,
+};
+
+const TEXTS: [(DayFault, &str); 5] = [
+    (
+        DayFault::Segment(BAD_FIELD),
+        "segment file, line 3: BadField",
+    ),
+    (DayFault::Orders(BAD_FIELD), "order file, line 3: BadField"),
+    (DayFault::Open(OpenFault::NoSecurity), "no security"),
+    (DayFault::OutOfMemory, "out of memory"),
+    (DayFault::WriteFailed, "write failed"),
+];
 
 #[test]
 fn fault_texts(rt: HostRuntime) -> Result<(), Fail> {
-    let fault = FileFault {
-        line: 3,
-        cause: FileCause::BadField,
-    };
-    let texts = [
-        (DayFault::Segment(fault), "segment file, line 3: BadField"),
-        (DayFault::Orders(fault), "order file, line 3: BadField"),
-        (DayFault::Open(OpenFault::NoSecurity), "no security"),
-        (DayFault::OutOfMemory, "out of memory"),
-        (DayFault::WriteFailed, "write failed"),
-    ];
-    for (fault, text) in texts {
+    for (fault, text) in TEXTS {
         let written = format!(in rt.alloc(); "{fault}")?;
         assert_eq!(rt; written.as_str(), text);
     }

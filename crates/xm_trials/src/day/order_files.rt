@@ -4,6 +4,7 @@ use super::fixtures::{
 };
 use std::alloc::Global;
 use std::io::{ErrorKind, Read};
+use std::process::Abort;
 use std::test::Fail;
 use xm_day::{FileCause, FileFault, MAX_BYTES, MAX_ROWS, Row, read_rows, read_segment};
 use xm_rules::{Command, Condition, Kind, Restriction, Side, Validity};
@@ -19,88 +20,138 @@ fn rows_of(
     Ok(read_rows(alloc, orders, &names, &config))
 }
 
-fn orders_fault(alloc: Global, orders: &[u8]) -> Result<Option<FileFault>, Fail> {
-    let mut reader = orders;
-    Ok(rows_of(alloc, SEGMENT, &mut reader)?.err())
+/// Compares the fault of an order file.
+fn has_fault(
+    rt: &(impl Abort + AllocGlobal),
+    orders: &mut impl Read,
+    line: u32,
+    cause: FileCause,
+) -> Result<(), Fail> {
+    let answer = rows_of(rt.alloc(), SEGMENT, orders)?;
+    assert_eq!(rt; answer.err(), fault(line, cause));
+    Ok(())
 }
 
-/// The rows of records after the header.
-fn rows_after_header(alloc: Global, records: &str) -> Result<Vec<Row>, Fail> {
-    let text = format!(in alloc; "{HEADER}{records}")?;
-    let mut reader = text.as_bytes();
-    Ok(rows_of(alloc, SEGMENT, &mut reader)??)
+/// Compares the rows of an order file.
+fn rows_are(
+    rt: &(impl Abort + AllocGlobal),
+    segment: &str,
+    orders: &mut impl Read,
+    expected: &[Row],
+) -> Result<(), Fail> {
+    let rows = rows_of(rt.alloc(), segment, orders)??;
+    assert!(rt; rows.as_slice() == expected);
+    Ok(())
 }
 
-fn plain_limit(member: u32, reference: u32, side: Side, limit: u32, quantity: u32) -> Command {
-    Command::Enter {
-        member,
-        reference,
-        side,
-        kind: Kind::Limit(limit),
-        quantity,
-        validity: Validity::Day,
-        restriction: Restriction::Free,
-        condition: Condition::Plain,
-    }
+/// A row of the first security.
+macro_rules! first {
+    ($command:expr) => {
+        Row {
+            security: 0,
+            command: $command,
+        }
+    };
 }
 
-fn of_first(command: Command) -> Row {
-    Row {
-        security: 0,
-        command,
-    }
+/// A row of the second security, or of an unknown one where there is one security.
+macro_rules! second {
+    ($command:expr) => {
+        Row {
+            security: 1,
+            command: $command,
+        }
+    };
 }
+
+/// The entry of a free order for the day.
+macro_rules! limited {
+    ($member:expr, $reference:expr, $side:expr, $limit:expr, $quantity:expr) => {
+        Command::Enter {
+            member: $member,
+            reference: $reference,
+            side: $side,
+            kind: Kind::Limit($limit),
+            quantity: $quantity,
+            validity: Validity::Day,
+            restriction: Restriction::Free,
+            condition: Condition::Plain,
+        }
+    };
+}
+
+macro_rules! cancel {
+    ($member:expr, $reference:expr) => {
+        Command::Cancel {
+            member: $member,
+            reference: $reference,
+        }
+    };
+}
+
+/// The rows of `ORDERS`.
+const OPENING_CALL: [Row; 5] = [
+    first!(limited!(0, 1, Side::Buy, 1000, 10)),
+    first!(limited!(1, 1, Side::Sell, 1010, 5)),
+    first!(Command::StartOpening),
+    first!(limited!(0, 2, Side::Buy, 995, 7)),
+    first!(cancel!(0, 1)),
+];
 
 #[test]
 fn rows_of_an_opening_call(rt: HostRuntime) -> Result<(), Fail> {
     let text = format!(in rt.alloc(); "\u{feff}{ORDERS}")?;
-    let mut reader = text.as_bytes();
-    let rows = rows_of(rt.alloc(), SEGMENT, &mut reader)??;
-    let cancel = Command::Cancel {
-        member: 0,
-        reference: 1,
-    };
-    let want = [
-        of_first(plain_limit(0, 1, Side::Buy, 1000, 10)),
-        of_first(plain_limit(1, 1, Side::Sell, 1010, 5)),
-        of_first(Command::StartOpening),
-        of_first(plain_limit(0, 2, Side::Buy, 995, 7)),
-        of_first(cancel),
-    ];
-    assert_eq!(rt; rows.as_slice(), want.as_slice());
-    Ok(())
+    rows_are(&rt, SEGMENT, &mut text.as_bytes(), &OPENING_CALL)
+}
+
+/// How many lines end in a text.
+fn lines_in(text: &[u8]) -> u32 {
+    let mut lines = 0u32;
+    for byte in text {
+        if *byte == b'\n' {
+            lines = lines.saturating_add(1);
+        }
+    }
+    lines
+}
+
+/// What an order file answers that is cut off before this byte of `ORDERS`: the number of its rows,
+/// or its fault.
+fn answer_of_prefix(prefix: &[u8], next: Option<u8>) -> Result<usize, FileFault> {
+    let lines = lines_in(prefix);
+    if prefix.len() + 1 < HEADER.len() {
+        Err(FileFault {
+            line: 1,
+            cause: FileCause::BadHeader,
+        })
+    } else if prefix.last() == Some(&b'\n') {
+        Ok(lines.saturating_sub(1) as usize)
+    } else if next == Some(b'\n') {
+        Ok(lines as usize)
+    } else {
+        Err(FileFault {
+            line: lines.saturating_add(1),
+            cause: FileCause::Syntax,
+        })
+    }
+}
+
+/// The number of the rows of an order file, or its fault.
+fn count_of(alloc: Global, orders: &[u8]) -> Result<Result<usize, FileFault>, Fail> {
+    let mut reader = orders;
+    match rows_of(alloc, SEGMENT, &mut reader)? {
+        Ok(rows) => Ok(Ok(rows.len())),
+        Err(fault) => Ok(Err(fault)),
+    }
 }
 
 #[test]
 fn prefixes_of_an_order_file(rt: HostRuntime) -> Result<(), Fail> {
     let text = ORDERS.as_bytes();
-    let header = HEADER.len().saturating_sub(1);
     for end in 0..text.len() {
         let prefix = &text[..end];
-        let whole = prefix.iter().filter(|byte| **byte == b'\n').count() as u32;
-        let ends_whole = prefix.last() == Some(&b'\n') || text.get(end) == Some(&b'\n');
-        let mut reader = prefix;
-        let answer = rows_of(rt.alloc(), SEGMENT, &mut reader)?;
-        let got = match answer {
-            Ok(rows) => Ok(rows.len()),
-            Err(fault) => Err(fault),
-        };
-        let want = if end < header {
-            Err(FileFault {
-                line: 1,
-                cause: FileCause::BadHeader,
-            })
-        } else if prefix.last() == Some(&b'\n') {
-            Ok(whole.saturating_sub(1) as usize)
-        } else if ends_whole {
-            Ok(whole as usize)
-        } else {
-            Err(FileFault {
-                line: whole + 1,
-                cause: FileCause::Syntax,
-            })
-        };
-        assert_eq!(rt; got, want, "{end}");
+        let answer = answer_of_prefix(prefix, text.get(end).copied());
+        assert!(rt; count_of(rt.alloc(), prefix)? == answer, "{end}");
     }
     Ok(())
 }
@@ -134,147 +185,135 @@ const BAD_FIELDS: [&str; 22] = [
 /// Records that have another number of fields than the header.
 const OTHER_LENGTHS: [&str; 2] = ["open,,,*,,,,,,,", "open,,,*,,,,,,,,,"];
 
-/// The fault of an order file with this record, after a good one and before one of another length.
-fn record_fault(alloc: Global, record: &str) -> Result<Option<FileFault>, Fail> {
-    let text = format!(in alloc; "{HEADER}\ncancel,AAA,1,XYZ,,,,,,,,\n\n{record}\n?\n")?;
-    orders_fault(alloc, text.as_bytes())
+/// Compares the fault of order files with one of these records, after a good one and before one of another
+/// length.
+fn have_faults(
+    rt: &(impl Abort + AllocGlobal),
+    records: &[&str],
+    cause: FileCause,
+) -> Result<(), Fail> {
+    for record in records {
+        let text = format!(in rt.alloc(); "{HEADER}\ncancel,AAA,1,XYZ,,,,,,,,\n\n{record}\n?\n")?;
+        has_fault(rt, &mut text.as_bytes(), 3, cause)?;
+    }
+    Ok(())
 }
 
 #[test]
 fn damaged_records(rt: HostRuntime) -> Result<(), Fail> {
-    for record in BAD_FIELDS {
-        let got = record_fault(rt.alloc(), record)?;
-        assert_eq!(rt; got, fault(3, FileCause::BadField), "{record}");
-    }
-    for record in OTHER_LENGTHS {
-        let got = record_fault(rt.alloc(), record)?;
-        assert_eq!(rt; got, fault(3, FileCause::Syntax), "{record}");
-    }
-    Ok(())
+    have_faults(&rt, &BAD_FIELDS, FileCause::BadField)?;
+    have_faults(&rt, &OTHER_LENGTHS, FileCause::Syntax)
 }
 
 #[test]
 fn a_damaged_header(rt: HostRuntime) -> Result<(), Fail> {
     let titles = replaced(rt.alloc(), HEADER, "member", "Member")?;
-    assert_eq!(rt;
-        orders_fault(rt.alloc(), titles.as_bytes())?,
-        fault(1, FileCause::BadHeader)
-    );
-    Ok(())
+    has_fault(&rt, &mut titles.as_bytes(), 1, FileCause::BadHeader)
+}
+
+/// A header and a record, which needn't be text.
+fn file_of(alloc: Global, record: &[u8]) -> Result<Vec<u8>, Fail> {
+    let mut text = HEADER.as_bytes().to_vec(alloc)?;
+    text.extend_from_slice(record)?;
+    Ok(text)
 }
 
 #[test]
 fn a_field_that_is_no_text(rt: HostRuntime) -> Result<(), Fail> {
-    let mut text = HEADER.as_bytes().to_vec(rt.alloc())?;
-    text.extend_from_slice(b"open,,,*,\xff,,,,,,,\n")?;
-    assert_eq!(rt;
-        orders_fault(rt.alloc(), text.as_slice())?,
-        fault(2, FileCause::BadField)
-    );
-    Ok(())
+    let text = file_of(rt.alloc(), b"open,,,*,\xff,,,,,,,\n")?;
+    has_fault(&rt, &mut text.as_slice(), 2, FileCause::BadField)
 }
 
-#[test]
-fn unknown_names_and_bad_prices(rt: HostRuntime) -> Result<(), Fail> {
-    let rows = rows_after_header(
-        rt.alloc(),
-        "open,,,XYZ,,,,,,,,
+const UNKNOWN_AND_BAD: &[u8] = b"open,,,XYZ,,,,,,,,
 enter,aaa,1,*,buy,limit,0.0001,,4294967295,,,
 enter,BBB,1,XYZ,sell,limit,0.0001,,0,,,
 enter,BBB,1,XYZ,sell,limit,0.00001,,0,,,
 enter,BBB,1,XYZ,sell,limit,0,,0,,,
 enter,BBB,1,XYZ,sell,limit,1000000000,,0,,,
 \"cancel\",\"B\"\"B\",1,\"X
-Z\",,,,,,,,",
-    )?;
-    let refused = of_first(plain_limit(1, 1, Side::Sell, 0, 0));
-    let want = [
-        of_first(Command::StartOpening),
-        Row {
-            security: 1,
-            command: plain_limit(2, 1, Side::Buy, 1, u32::MAX),
-        },
-        refused,
-        refused,
-        refused,
-        refused,
-        Row {
-            security: 1,
-            command: Command::Cancel {
-                member: 2,
-                reference: 1,
-            },
-        },
-    ];
-    assert_eq!(rt; rows.as_slice(), want.as_slice());
-    Ok(())
+Z\",,,,,,,,";
+
+/// The rows of `UNKNOWN_AND_BAD`.
+const REFUSED: [Row; 7] = [
+    first!(Command::StartOpening),
+    second!(limited!(2, 1, Side::Buy, 1, u32::MAX)),
+    first!(limited!(1, 1, Side::Sell, 0, 0)),
+    first!(limited!(1, 1, Side::Sell, 0, 0)),
+    first!(limited!(1, 1, Side::Sell, 0, 0)),
+    first!(limited!(1, 1, Side::Sell, 0, 0)),
+    second!(cancel!(2, 1)),
+];
+
+#[test]
+fn unknown_names_and_bad_prices(rt: HostRuntime) -> Result<(), Fail> {
+    let text = file_of(rt.alloc(), UNKNOWN_AND_BAD)?;
+    rows_are(&rt, SEGMENT, &mut text.as_slice(), &REFUSED)
 }
 
 #[test]
 fn a_name_that_is_no_text(rt: HostRuntime) -> Result<(), Fail> {
-    let mut text = HEADER.as_bytes().to_vec(rt.alloc())?;
-    text.extend_from_slice(b"cancel,A\xffA,1,XYZ,,,,,,,,")?;
-    let mut reader = text.as_slice();
-    let rows = rows_of(rt.alloc(), SEGMENT, &mut reader)??;
-    let unknown = Command::Cancel {
-        member: 2,
-        reference: 1,
-    };
-    assert_eq!(rt; rows.as_slice(), [of_first(unknown)].as_slice());
-    Ok(())
+    let text = file_of(rt.alloc(), b"cancel,A\xffA,1,XYZ,,,,,,,,")?;
+    let unknown = [first!(cancel!(2, 1))];
+    rows_are(&rt, SEGMENT, &mut text.as_slice(), &unknown)
 }
+
+/// An opening of all securities, where there are two.
+const ALL: [Row; 2] = [
+    first!(Command::StartOpening),
+    second!(Command::StartOpening),
+];
 
 #[test]
 fn all_securities(rt: HostRuntime) -> Result<(), Fail> {
-    let orders = format!(in rt.alloc(); "{HEADER}open,,,*,,,,,,,,")?;
+    let orders = file_of(rt.alloc(), b"open,,,*,,,,,,,,")?;
     let two = format!(in rt.alloc(); "{SEGMENT}{SECOND}")?;
-    let mut reader = orders.as_bytes();
-    let rows = rows_of(rt.alloc(), two.as_str(), &mut reader)??;
-    let second = Row {
-        security: 1,
-        command: Command::StartOpening,
-    };
-    assert_eq!(rt;
-        rows.as_slice(),
-        [of_first(Command::StartOpening), second].as_slice()
-    );
-    let mut reader = orders.as_bytes();
-    assert!(rt; rows_of(rt.alloc(), NO_SECURITY, &mut reader)??.is_empty());
-    Ok(())
+    rows_are(&rt, two.as_str(), &mut orders.as_slice(), &ALL)?;
+    rows_are(&rt, NO_SECURITY, &mut orders.as_slice(), &[])
+}
+
+/// A segment of eight securities.
+fn eight_securities(alloc: Global) -> Result<String, Fail> {
+    let mut segment = String::from_str(alloc, "date = 0\nmembers = []\n")?;
+    for name in ["A", "B", "C", "D", "E", "F", "G", "H"] {
+        let security = replaced(alloc, SECOND, "UVW", name)?;
+        segment.push_str(security.as_str())?;
+    }
+    Ok(segment)
+}
+
+/// An order file that opens all securities 125,000 times.
+fn many_openings(alloc: Global) -> Result<String, Fail> {
+    let mut orders = String::from_str(alloc, HEADER)?;
+    for _ in 0..125_000 {
+        orders.push_str("open,,,*,,,,,,,,\n")?;
+    }
+    Ok(orders)
 }
 
 #[test]
 fn more_than_a_million_rows(rt: HostRuntime) -> Result<(), Fail> {
-    let mut segment = String::from_str(rt.alloc(), "date = 0\nmembers = []\n")?;
-    for name in ["A", "B", "C", "D", "E", "F", "G", "H"] {
-        let security = replaced(rt.alloc(), SECOND, "UVW", name)?;
-        segment.push_str(security.as_str())?;
-    }
-    let mut orders = String::from_str(rt.alloc(), HEADER)?;
-    for _ in 0..125_000 {
-        orders.push_str("open,,,*,,,,,,,,\n")?;
-    }
-    let mut reader = orders.as_bytes();
-    let rows = rows_of(rt.alloc(), segment.as_str(), &mut reader)??;
+    let segment = eight_securities(rt.alloc())?;
+    let mut orders = many_openings(rt.alloc())?;
+    let rows = rows_of(rt.alloc(), segment.as_str(), &mut orders.as_bytes())??;
     assert_eq!(rt; rows.len(), MAX_ROWS);
     orders.push_str("open,,,A,,,,,,,,\n")?;
-    let mut reader = orders.as_bytes();
-    let answer = rows_of(rt.alloc(), segment.as_str(), &mut reader)?;
-    assert_eq!(rt; answer.err(), fault(125_002, FileCause::TooManyRows));
+    let answer = rows_of(rt.alloc(), segment.as_str(), &mut orders.as_bytes())?;
+    assert!(rt; answer.err() == fault(125_002, FileCause::TooManyRows));
     Ok(())
 }
 
 #[test]
-fn slow_and_failing_readers(rt: HostRuntime) -> Result<(), Fail> {
+fn a_slow_reader(rt: HostRuntime) -> Result<(), Fail> {
     let mut slow = OneByteReader::new(ORDERS, None);
-    let rows = rows_of(rt.alloc(), SEGMENT, &mut slow)??;
-    let want = rows_of(rt.alloc(), SEGMENT, &mut ORDERS.as_bytes())??;
-    assert_eq!(rt; rows.as_slice(), want.as_slice());
+    rows_are(&rt, SEGMENT, &mut slow, &OPENING_CALL)
+}
+
+#[test]
+fn failing_readers(rt: HostRuntime) -> Result<(), Fail> {
     for kind in [ErrorKind::BrokenPipe, ErrorKind::Interrupted] {
         for call in 0..ORDERS.len() + 1 {
             let mut reader = OneByteReader::new(ORDERS, Some((call, kind)));
-            let answer = rows_of(rt.alloc(), SEGMENT, &mut reader)?;
-            assert_eq!(rt; answer.err(), fault(0, FileCause::ReadFailed));
+            has_fault(&rt, &mut reader, 0, FileCause::ReadFailed)?;
         }
     }
     Ok(())
@@ -282,13 +321,10 @@ fn slow_and_failing_readers(rt: HostRuntime) -> Result<(), Fail> {
 
 #[test]
 fn order_files_at_the_limit(rt: HostRuntime) -> Result<(), Fail> {
-    let faults = [
-        (MAX_BYTES, fault(1, FileCause::BadHeader)),
-        (MAX_BYTES + 1, fault(0, FileCause::TooLong)),
-    ];
-    for (left, fault) in faults {
-        let answer = rows_of(rt.alloc(), SEGMENT, &mut Filler { left })?;
-        assert_eq!(rt; answer.err(), fault);
-    }
-    Ok(())
+    let mut longest = Filler { left: MAX_BYTES };
+    has_fault(&rt, &mut longest, 1, FileCause::BadHeader)?;
+    let mut longer = Filler {
+        left: MAX_BYTES + 1,
+    };
+    has_fault(&rt, &mut longer, 0, FileCause::TooLong)
 }

@@ -1,39 +1,67 @@
 use super::fault;
 use super::fixtures::{Filler, NO_SECURITY, OneByteReader, SECOND, SEGMENT, replaced};
-use std::alloc::Global;
-use std::io::ErrorKind;
+use std::io::{ErrorKind, Read};
+use std::process::Abort;
 use std::test::Fail;
-use xm_day::{FileCause, FileFault, MAX_BYTES, read_segment};
+use xm_day::{FileCause, MAX_BYTES, Names, Securities, SecurityConfig, read_segment};
 
-fn segment_fault(alloc: Global, text: &[u8]) -> Option<FileFault> {
-    let mut reader = text;
-    read_segment(alloc, &mut reader).err()
+/// Compares the fault of a segment file.
+fn has_fault(
+    rt: &(impl Abort + AllocGlobal),
+    segment: &mut impl Read,
+    line: u32,
+    cause: FileCause,
+) {
+    let answer = read_segment(rt.alloc(), segment);
+    assert_eq!(rt; answer.err(), fault(line, cause));
 }
+
+/// The tick, the reference, the dynamic, the static and the wide width, and the limit of the journal.
+fn numbers_of(security: &SecurityConfig) -> [u32; 6] {
+    let widths = security.widths;
+    [
+        security.tick.get(),
+        security.reference.get(),
+        widths.dynamic,
+        widths.statics,
+        widths.wide,
+        security.limit.get(),
+    ]
+}
+
+fn settings_are(rt: &impl Abort, securities: &Securities, expected: &[[u32; 6]]) {
+    assert_eq!(rt; securities.as_slice().len(), expected.len());
+    for (security, numbers) in securities.as_slice().iter().zip(expected) {
+        assert!(rt; numbers_of(security) == *numbers);
+    }
+}
+
+/// Compares the names at the first indices.
+fn members_are(rt: &impl Abort, names: &Names, expected: &[Option<&str>]) {
+    for (name, index) in expected.iter().zip(0..) {
+        assert!(rt; names.member(index) == *name);
+    }
+}
+
+/// Compares the names at the first indices.
+fn securities_are(rt: &impl Abort, names: &Names, expected: &[Option<&str>]) {
+    for (name, index) in expected.iter().zip(0..) {
+        assert!(rt; names.security(index) == *name);
+    }
+}
+
+const SETTINGS: [[u32; 6]; 2] = [[100, 1000, 20, 50, 40, 100], [1, 5000, 0, u32::MAX, 0, 1]];
 
 #[test]
 fn a_segment_is_read(rt: HostRuntime) -> Result<(), Fail> {
     let text = format!(in rt.alloc(); "\u{feff}{SEGMENT}{SECOND}")?;
     let mut reader = text.as_bytes();
     let (config, names) = read_segment(rt.alloc(), &mut reader)?;
-    assert_eq!(rt; config.today, 20_260_105);
-    assert_eq!(rt; config.members, 2);
-    assert_eq!(rt; names.members(), 2);
-    assert_eq!(rt; names.securities(), 2);
-    assert_eq!(rt; names.member(1), Some("BBB"));
-    assert_eq!(rt; names.member(2), None);
-    assert_eq!(rt; names.security(0), Some("XYZ"));
-    assert_eq!(rt; names.security(1), Some("UVW"));
-    assert_eq!(rt; names.security(2), None);
-    let settings = config.securities.into_vec();
-    assert_eq!(rt; settings.len(), 2);
-    assert_eq!(rt; settings[0].tick.get(), 100);
-    assert_eq!(rt; settings[0].reference.get(), 1000);
-    assert_eq!(rt; settings[0].widths.dynamic, 20);
-    assert_eq!(rt; settings[0].widths.statics, 50);
-    assert_eq!(rt; settings[0].widths.wide, 40);
-    assert_eq!(rt; settings[0].limit.get(), 100);
-    assert_eq!(rt; settings[1].reference.get(), 5000);
-    assert_eq!(rt; settings[1].widths.statics, u32::MAX);
+    assert!(rt; (config.today, config.members) == (20_260_105, 2));
+    assert!(rt; (names.members(), names.securities()) == (2, 2));
+    members_are(&rt, &names, &[Some("AAA"), Some("BBB"), None]);
+    securities_are(&rt, &names, &[Some("XYZ"), Some("UVW"), None]);
+    settings_are(&rt, &config.securities, &SETTINGS);
     Ok(())
 }
 
@@ -42,51 +70,32 @@ fn empty_lists_are_read(rt: HostRuntime) -> Result<(), Fail> {
     let mut reader = NO_SECURITY.as_bytes();
     let (config, names) = read_segment(rt.alloc(), &mut reader)?;
     assert_eq!(rt; config.members, 0);
-    assert!(rt; config.securities.as_slice().is_empty());
-    assert_eq!(rt; names.member(0), None);
+    settings_are(&rt, &config.securities, &[]);
+    members_are(&rt, &names, &[None]);
     Ok(())
 }
 
-#[test]
-fn damaged_top_keys(rt: HostRuntime) -> Result<(), Fail> {
-    let damaged = [
-        ("date = 20260105", "", FileCause::MissingKey),
-        ("date", "dates", FileCause::MissingKey),
-        ("date", "colour = 1\ndate", FileCause::UnknownKey),
-        ("20260105", "100000000", FileCause::BadValue),
-        ("20260105", "-1", FileCause::BadValue),
-        ("20260105", "\"20260105\"", FileCause::BadValue),
-        ("\"AAA\"", "\"aaa\"", FileCause::BadValue),
-        ("\"AAA\"", "\"\"", FileCause::BadValue),
-        ("\"AAA\"", "\"ABCDEFGHIJ123\"", FileCause::BadValue),
-        ("\"AAA\"", "1", FileCause::BadValue),
-        ("[\"AAA\", \"BBB\"]", "\"AAA\"", FileCause::BadValue),
-        ("\"BBB\"", "\"AAA\"", FileCause::DuplicateName),
-        ("members =", "members", FileCause::Syntax),
-        ("[[security]]", "[security]", FileCause::BadValue),
-    ];
-    for (old, new, cause) in damaged {
-        let text = replaced(rt.alloc(), SEGMENT, old, new)?;
-        assert_eq!(rt;
-            segment_fault(rt.alloc(), text.as_bytes()),
-            fault(0, cause),
-            "{new}"
-        );
-    }
-    let no_table = b"date = 0\nmembers = [\"AAA\", \"AAA\"]\nsecurity = [1]\n";
-    assert_eq!(rt;
-        segment_fault(rt.alloc(), no_table),
-        fault(0, FileCause::BadValue)
-    );
-    assert_eq!(rt;
-        segment_fault(rt.alloc(), b"date = \xff"),
-        fault(0, FileCause::Syntax)
-    );
-    Ok(())
-}
+/// What a key or a value is replaced by, and the cause that is then told.
+type Damage = (&'static str, &'static str, FileCause);
 
-/// What a key or a value of a security is replaced by, and the cause that is then told.
-const DAMAGED_SECURITIES: [(&str, &str, FileCause); 15] = [
+const DAMAGED_TOP_KEYS: [Damage; 14] = [
+    ("date = 20260105", "", FileCause::MissingKey),
+    ("date", "dates", FileCause::MissingKey),
+    ("date", "colour = 1\ndate", FileCause::UnknownKey),
+    ("20260105", "100000000", FileCause::BadValue),
+    ("20260105", "-1", FileCause::BadValue),
+    ("20260105", "\"20260105\"", FileCause::BadValue),
+    ("\"AAA\"", "\"aaa\"", FileCause::BadValue),
+    ("\"AAA\"", "\"\"", FileCause::BadValue),
+    ("\"AAA\"", "\"ABCDEFGHIJ123\"", FileCause::BadValue),
+    ("\"AAA\"", "1", FileCause::BadValue),
+    ("[\"AAA\", \"BBB\"]", "\"AAA\"", FileCause::BadValue),
+    ("\"BBB\"", "\"AAA\"", FileCause::DuplicateName),
+    ("members =", "members", FileCause::Syntax),
+    ("[[security]]", "[security]", FileCause::BadValue),
+];
+
+const DAMAGED_SECURITIES: [Damage; 15] = [
     ("tick = 100\n", "", FileCause::MissingKey),
     ("tick = 100", "colour = 1", FileCause::MissingKey),
     (
@@ -108,60 +117,68 @@ const DAMAGED_SECURITIES: [(&str, &str, FileCause); 15] = [
     ("\"XYZ\"", "\"X Z\"", FileCause::BadValue),
 ];
 
-#[test]
-fn damaged_securities(rt: HostRuntime) -> Result<(), Fail> {
-    for (old, new, cause) in DAMAGED_SECURITIES {
+/// Compares the faults of the segment file with each damage.
+fn have_faults(rt: &(impl Abort + AllocGlobal), line: u32, damages: &[Damage]) -> Result<(), Fail> {
+    for (old, new, cause) in damages {
         let text = replaced(rt.alloc(), SEGMENT, old, new)?;
-        assert_eq!(rt;
-            segment_fault(rt.alloc(), text.as_bytes()),
-            fault(1, cause),
-            "{new}"
-        );
+        has_fault(rt, &mut text.as_bytes(), line, *cause);
     }
     Ok(())
+}
+
+#[test]
+fn damaged_top_keys(rt: HostRuntime) -> Result<(), Fail> {
+    have_faults(&rt, 0, &DAMAGED_TOP_KEYS)
+}
+
+const NO_TABLE: &[u8] = b"date = 0\nmembers = [\"AAA\", \"AAA\"]\nsecurity = [1]\n";
+
+#[test]
+fn no_table_and_no_text(rt: HostRuntime) {
+    has_fault(&rt, &mut &NO_TABLE[..], 0, FileCause::BadValue);
+    has_fault(&rt, &mut &b"date = \xff"[..], 0, FileCause::Syntax);
+}
+
+#[test]
+fn damaged_securities(rt: HostRuntime) -> Result<(), Fail> {
+    have_faults(&rt, 1, &DAMAGED_SECURITIES)
 }
 
 #[test]
 fn a_damaged_second_security(rt: HostRuntime) -> Result<(), Fail> {
     let second = replaced(rt.alloc(), SECOND, "journal = 1", "journal = 0")?;
     let text = format!(in rt.alloc(); "{SEGMENT}{second}")?;
-    assert_eq!(rt;
-        segment_fault(rt.alloc(), text.as_bytes()),
-        fault(2, FileCause::BadValue)
-    );
+    has_fault(&rt, &mut text.as_bytes(), 2, FileCause::BadValue);
     let second = replaced(rt.alloc(), SECOND, "UVW", "XYZ")?;
     let text = format!(in rt.alloc(); "{SEGMENT}{second}{SECOND}")?;
-    assert_eq!(rt;
-        segment_fault(rt.alloc(), text.as_bytes()),
-        fault(2, FileCause::DuplicateName)
-    );
+    has_fault(&rt, &mut text.as_bytes(), 2, FileCause::DuplicateName);
     Ok(())
 }
 
 #[test]
-fn slow_and_failing_readers(rt: HostRuntime) -> Result<(), Fail> {
+fn a_slow_reader(rt: HostRuntime) -> Result<(), Fail> {
     let (config, names) = read_segment(rt.alloc(), &mut OneByteReader::new(SEGMENT, None))?;
     assert_eq!(rt; config.today, 20_260_105);
-    assert_eq!(rt; names.security(0), Some("XYZ"));
+    securities_are(&rt, &names, &[Some("XYZ")]);
+    Ok(())
+}
+
+#[test]
+fn failing_readers(rt: HostRuntime) {
     for kind in [ErrorKind::BrokenPipe, ErrorKind::Interrupted] {
         for call in 0..SEGMENT.len() + 1 {
             let mut reader = OneByteReader::new(SEGMENT, Some((call, kind)));
-            let answer = read_segment(rt.alloc(), &mut reader);
-            assert_eq!(rt; answer.err(), fault(0, FileCause::ReadFailed));
+            has_fault(&rt, &mut reader, 0, FileCause::ReadFailed);
         }
     }
-    Ok(())
 }
 
 #[test]
-fn segment_files_at_the_limit(rt: HostRuntime) -> Result<(), Fail> {
-    let causes = [
-        (MAX_BYTES, FileCause::Syntax),
-        (MAX_BYTES + 1, FileCause::TooLong),
-    ];
-    for (left, cause) in causes {
-        let answer = read_segment(rt.alloc(), &mut Filler { left });
-        assert_eq!(rt; answer.err(), fault(0, cause));
-    }
-    Ok(())
+fn segment_files_at_the_limit(rt: HostRuntime) {
+    let mut longest = Filler { left: MAX_BYTES };
+    has_fault(&rt, &mut longest, 0, FileCause::Syntax);
+    let mut longer = Filler {
+        left: MAX_BYTES + 1,
+    };
+    has_fault(&rt, &mut longer, 0, FileCause::TooLong);
 }
