@@ -79,8 +79,8 @@ impl Refused {
         day: &mut Day<A>,
         like: &mut Day<B>,
     ) {
-        for command in COMMANDS {
-            self.give(rt, day, like, command);
+        for command in COMMANDS.as_slice() {
+            self.give(rt, day, like, *command);
         }
         assert!(rt; like.journal() == COMMANDS.as_slice());
         assert!(rt; like.phase() == Phase::Call(Auction::Opening, CallStage::Ordinary));

@@ -19,8 +19,8 @@ const COMMANDS: [Command; 4] = [
 #[test]
 fn orders_before_and_in_the_opening_call(rt: HostRuntime) -> Result<(), Fail> {
     let mut day = Day::open(rt.alloc(), 100)?;
-    for command in COMMANDS {
-        assert!(rt; day.give(&rt, command).is_ok());
+    for command in COMMANDS.as_slice() {
+        assert!(rt; day.give(&rt, *command).is_ok());
     }
     day.buys_are(&rt, &[(1, 2, 990, 7)]);
     assert_eq!(rt; day.reference_prices(), (1000, 1000));
@@ -59,9 +59,9 @@ const REPLIES: [(Command, u64, Phase); 3] = [
 #[test]
 fn replies_before_and_in_the_opening_call(rt: HostRuntime) -> Result<(), Fail> {
     let mut day = Day::open(rt.alloc(), 100)?;
-    for (command, version, phase) in REPLIES {
-        assert!(rt; day.apply(&rt, command) == Ok(reply(version, phase)));
-        assert!(rt; day.phase() == phase);
+    for (command, version, phase) in REPLIES.as_slice() {
+        assert!(rt; day.apply(&rt, *command) == Ok(reply(*version, *phase)));
+        assert!(rt; day.phase() == *phase);
     }
     Ok(())
 }
