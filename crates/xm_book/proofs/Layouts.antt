@@ -14,7 +14,7 @@ use Rattle.std.proofs.lemmas.Map.Entries.{lookup-filter-keys}
 use Rattle.std.proofs.lemmas.List.Sums.{count_by-le-length, sum_by-set}
 use Rattle.slab.specs.Slab.{Slab, get, slab_len, HasRoomFor, Updates, with_value}
 use Rattle.indexmap.specs.IndexMap as index
-use Rattle.xm_book.specs.Counted.{Gains}
+use Rattle.xm_book.specs.Reserved.{Gains}
 use Rattle.xm_book.specs.Layout.{IsLaidOut, Lies, listed_entry, has_name, is_earlier, is_of, is_of_another, key_of, listing, pair_eq, queue_for, queue_of, stamp_of, unless_of, with_queue}
 use Rattle.xm_book.specs.Places.{place_of, same_place}
 use Rattle.xm_book.specs.Ranks.{Listed, QueueView, has_time, insert_rank, listed_order, precedes, rank_of, ranked}
@@ -25,7 +25,7 @@ use Rattle.xm_book.specs.declared.places.Place.{Place}
 use Rattle.xm_book.specs.declared.queue.Rank.{Rank}
 use Rattle.xm_book.specs.declared.queues.Queues.{Queues}
 use Rattle.xm_book.proofs.Changes.{index-is, keep-all, keeps, key_of-kept, key_of-others, key_of-push, length-kept, lie-kept, lie-others, lie-push, lie-reduced, map-filter, of_others, orders-kept, others, others-timed, own_names-kept, own_names-push, own_names-reduced, parted, reduced, reduced-key, reduced-map, reduced-rank, reduced-rises, reduced-stamps, rests-kept, rests-push, rests-reduced, rises-kept, rises-push, some_none, stamps-others}
-use Rattle.xm_book.proofs.Counted.{Gains-length, count_one, weight}
+use Rattle.xm_book.proofs.Reserved.{Gains-length, count_one, weight}
 use Rattle.xm_book.proofs.Listings.{StandsAlone, all-each, any-map, find-map, found, has_name-is, keyed-at, listing-is, no_key, none-found, some-found, some-is, stands_alone}
 use Rattle.xm_book.proofs.Ranks.{ranked-contains, ranked-length, ranked-map, ranked-push, ranked-filter}
 use Rattle.xm_book.proofs.Retained.{count-unless, get-unless}

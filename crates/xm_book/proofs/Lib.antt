@@ -1,6 +1,6 @@
 pub mod Agreeing
 pub mod Changes
-pub mod Counted
+pub mod Reserved
 pub mod FirstOf
 pub mod Firsts
 pub mod Inserts

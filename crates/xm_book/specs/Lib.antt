@@ -1,9 +1,9 @@
-pub mod Counted
 pub mod Layout
 pub mod Lends
 pub mod Places
 pub mod Queues
 pub mod Ranks
+pub mod Reserved
 pub mod Sorted
 pub mod TimeList
 pub mod Trades

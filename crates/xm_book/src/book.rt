@@ -53,7 +53,7 @@ pub struct Book<A: Allocator> {
     queues: Queues<A>,
     names: Names<A>,
     // For each there is room for one more order in the other parts.
-    places: Places<A>,
+    places: Places,
     // The number of the next add.
     adds: u64,
 }
@@ -154,7 +154,7 @@ impl<A: Allocator + Copy> Book<A> {
             stamps: Vec::new(alloc),
             queues: Queues::new(alloc),
             names: IndexMap::new(alloc),
-            places: Places::new(alloc),
+            places: Places::new(),
             adds: 0,
         }
     }
@@ -211,10 +211,7 @@ impl<A: Allocator> Book<A> {
         self.stamps.reserve(more)?;
         self.names.reserve(more)?;
         self.queues.of_mut(place.side).reserve()?;
-        if let Err(error) = self.places.add(place) {
-            self.queues.of_mut(place.side).release();
-            return Err(error.into());
-        }
+        self.places.add(place);
         Ok(())
     }
 

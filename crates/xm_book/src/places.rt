@@ -1,13 +1,12 @@
 //! Places of a book.
-ghost use Rattle.std.specs.Prelude.{◌≡◌, ◌+◌, ◌<◌, ◌^◌, [], IsTrue, length, OnErr, OnOk};
+ghost use Rattle.std.specs.Prelude.{◌≡◌, ◌+◌, ◌<◌, ◌^◌, [], IsTrue, length};
 ghost use Rattle.std.specs.List.{list_any};
-ghost use Rattle.xm_book.specs.Counted.{Gains};
 ghost use Rattle.xm_book.specs.Places.{place_of, same_place};
+ghost use Rattle.xm_book.specs.Reserved.{Gains};
 
-use indexmap::IndexMap;
-use std::alloc::{AllocError, Allocator};
-use std::hash::{BuildHasherDefault, FoldHasher};
 use std::marker::Model;
+use std::mem;
+use std::snapshot::Snapshot;
 use xm_rules::{Order, OrderKind, Side};
 
 /// What is reserved for an order that is to come: room for it in the queue of its side and in the index of names.
@@ -34,39 +33,46 @@ impl Place {
     }
 }
 
-/// Places, each as often as it is reserved.
+/// What was done last to the reserved places, and what before. A snapshot has no bytes.
 #[derive(Drop)]
-pub struct Places<A: Allocator> {
-    counts: IndexMap<Place, usize, BuildHasherDefault<FoldHasher>, A>,
+enum Change {
+    Nothing,
+    Reserved(Snapshot<Place>, Snapshot<Change>),
+    Released(Snapshot<Place>, Snapshot<Change>),
+}
+
+/// Places, each as often as it is reserved. How many there are is kept; which they are, a clause alone sees, and so it
+/// costs neither memory nor a search.
+#[derive(Drop)]
+pub struct Places {
+    last: Change,
     total: usize,
 }
 
-impl<A: Allocator> Model for Places<A> {
-    ghost use Rattle.std.specs.Prelude.{List};
+impl Model for Places {
+    ghost use Rattle.std.specs.Prelude.{◌≡◌, List, length};
     ghost use Rattle.xm_book.specs.declared.places.Place.{Place};
 
     ghost Value = { List Place };
 
-    ghost use Rattle.xm_book.specs.Counted.{flat, IsCounted};
+    ghost use Rattle.xm_book.specs.Reserved.{held};
 
-    ghost view = { λ p. flat p.counts.entries };
+    ghost view = { λ p. held p.last };
 
-    ghost invariant = { λ p. IsCounted p.counts.entries p.total };
+    ghost invariant = { λ p. p.total ≡ length (held p.last) };
 }
 
-impl<A: Allocator + Copy> Places<A> {
-    /// No place, which takes no memory.
-    pub fn new(alloc: A) -> Places<A>
+impl Places {
+    /// No place.
+    pub fn new() -> Places
         ensures { result ≡ [] }
     {
         Places {
-            counts: IndexMap::new(alloc),
+            last: Change::Nothing,
             total: 0,
         }
     }
-}
 
-impl<A: Allocator> Places<A> {
     /// How many places are reserved.
     pub fn len(&self) -> usize
         ensures { result ≡ length self.now }
@@ -75,15 +81,13 @@ impl<A: Allocator> Places<A> {
     }
 
     /// Reserves a place once more.
-    pub fn add(&mut self, place: &Place) -> Result<(), AllocError>
+    pub fn add(&mut self, place: &Place)
         requires { length self.old < 2 ^ 63 }
-        ensures ok { OnOk result (Gains place.now self.old self.new) }
-        ensures err { OnErr result (self.new ≡ self.old) }
+        ensures { Gains place.now self.old self.new }
     {
-        let count = self.counts.get(place).copied().unwrap_or(0);
-        self.counts.insert(*place, count + 1)?;
+        let before = mem::replace(&mut self.last, Change::Nothing);
+        self.last = Change::Reserved(Snapshot::of(place), Snapshot::of(&before));
         self.total += 1;
-        Ok(())
     }
 
     /// Gives up a place once.
@@ -91,12 +95,8 @@ impl<A: Allocator> Places<A> {
         requires { IsTrue (list_any (same_place place.now) self.old) }
         ensures { Gains place.now self.new self.old }
     {
-        let count = self.counts.get(place).copied().unwrap_or(0);
-        if count > 1 {
-            self.counts.insert(*place, count - 1).unwrap();
-        } else {
-            self.counts.swap_remove(place);
-        }
+        let before = mem::replace(&mut self.last, Change::Nothing);
+        self.last = Change::Released(Snapshot::of(place), Snapshot::of(&before));
         self.total -= 1;
     }
 }

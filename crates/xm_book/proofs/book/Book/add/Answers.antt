@@ -5,7 +5,7 @@ use Rattle.xm_book.specs.Layout.{listing, with_queue}
 use Rattle.xm_book.specs.Places.{place_of}
 use Rattle.xm_book.specs.Ranks.{Listed, QueueView, has_time, insert_rank, listed_order}
 use Rattle.xm_book.specs.TimeList.{is_known, is_reserved}
-use Rattle.xm_book.proofs.Counted.{Gains-same}
+use Rattle.xm_book.proofs.Reserved.{Gains-same}
 use Rattle.xm_book.proofs.Layouts.{added, laid_out, listing-of, queue_reserved}
 use Rattle.xm_book.proofs.Ranks.{ranked-later}
 use Rattle.xm_book.proofs.book.Book.add.Goals as goal

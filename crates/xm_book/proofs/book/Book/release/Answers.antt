@@ -1,7 +1,7 @@
 use Rattle.std.proofs.Common.{refl, ap, ◌∙◌}
 use Rattle.xm_book.specs.Layout.{listing}
 use Rattle.xm_book.specs.TimeList.{is_reserved}
-use Rattle.xm_book.proofs.Counted.{Gains-same}
+use Rattle.xm_book.proofs.Reserved.{Gains-same}
 use Rattle.xm_book.proofs.Layouts.{queue_reserved, queued-released, released}
 use Rattle.xm_book.proofs.book.Book.release.Goals as goal
 

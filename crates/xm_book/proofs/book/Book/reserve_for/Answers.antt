@@ -1,10 +1,10 @@
-use Rattle.std.proofs.Common.{◌≡◌, ◌+◌, ◌-◌, map, ap, ◌∙◌, arith}
+use Rattle.std.proofs.Common.{◌+◌, map, ap, ◌∙◌, arith}
 use Rattle.std.proofs.lemmas.List.{length-map}
-use Rattle.xm_book.specs.Layout.{listing, queue_of, with_queue}
+use Rattle.xm_book.specs.Layout.{listing, with_queue}
 use Rattle.xm_book.specs.Ranks.{QueueView, listed_order}
 use Rattle.xm_book.specs.TimeList.{TimeList}
-use Rattle.xm_book.proofs.Counted.{Gains-same}
-use Rattle.xm_book.proofs.Layouts.{grown, grown-entries, grown-stamps, laid_out, listing-of, queue_of-with, queue_within, queued-reserved, queued-same, reserved, taken_back, with_queue-twice}
+use Rattle.xm_book.proofs.Reserved.{Gains-same}
+use Rattle.xm_book.proofs.Layouts.{grown, grown-entries, grown-stamps, laid_out, listing-of, queue_within, queued-reserved, queued-same, reserved}
 use Rattle.xm_book.proofs.book.Book.reserve_for.Goals as goal
 
 pub invariant_of-self : goal.invariant_of-self
@@ -48,24 +48,8 @@ invariant_of-self-in_err-reserve-4 g c =
     laid_out xs b.places c.reserve.new.self c.reserve-2.new.self (with_queue side b.queues c.reserve-4.new.self) c.reserve-3.new.self b.adds
     (queued-same xs b.places c.reserve.new.self c.reserve-2.new.self b.queues c.reserve-3.new.self b.adds h side c.reserve-4.new.self (c.in_err-reserve-4.ensures.err ∙ c.of_mut.ensures.value))
 
-pub invariant_of-self-in-Err : goal.invariant_of-self-in-Err
-invariant_of-self-in-Err g c =
-    let b = c.self.inside in
-    let xs = listing b.entries b.stamps.items in
-    let h = grown xs b.places b.entries b.stamps b.queues b.names b.adds c.self.invariant c.reserve.new.self c.reserve.ensures.rest_kept c.reserve.ensures.capacity
-    c.reserve-2.new.self c.reserve-2.ensures.items c.reserve-2.ensures.len c.reserve-2.ensures.capacity c.reserve-3.new.self c.reserve-3.ensures.entries c.reserve-3.ensures.room.0 in
-    let side = c.args.place.now.side in
-    let q = queue_of side b.queues in
-    let room : c.reserve-4.new.self ≡ record { side = q.side; ranks = q.ranks; reserved = q.reserved + 1 } =
-    c.in_ok-reserve-4.ensures.ok ∙ ap (λ (q : QueueView). let r : QueueView = record { side = q.side; ranks = q.ranks; reserved = q.reserved + 1 } in r) c.of_mut.ensures.value in
-    let lent = c.of_mut-in-Err.ensures.value ∙ queue_of-with b.queues c.reserve-4.new.self c.reserve-4.new.self side ∙ room in
-    let back : c.release.new.self ≡ q = c.release.ensures ∙ ap (λ (q : QueueView). let r : QueueView = record { side = q.side; ranks = q.ranks; reserved = q.reserved - 1 } in r) lent ∙ taken_back q in
-    rw (c.in-Err.ensures.err, with_queue-twice b.queues c.reserve-4.new.self c.release.new.self side)
-    (laid_out xs b.places c.reserve.new.self c.reserve-2.new.self (with_queue side b.queues c.release.new.self) c.reserve-3.new.self b.adds
-    (queued-same xs b.places c.reserve.new.self c.reserve-2.new.self b.queues c.reserve-3.new.self b.adds h side c.release.new.self back))
-
-pub invariant_of-self-in_default : goal.invariant_of-self-in_default
-invariant_of-self-in_default g c =
+pub invariant_of-self-2 : goal.invariant_of-self-2
+invariant_of-self-2 g c =
     let b = c.self.inside in
     let xs = listing b.entries b.stamps.items in
     let h = grown xs b.places b.entries b.stamps b.queues b.names b.adds c.self.invariant c.reserve.new.self c.reserve.ensures.rest_kept c.reserve.ensures.capacity
@@ -77,7 +61,7 @@ invariant_of-self-in_default g c =
     let slots = c.in_ok-reserve.ensures.room in
     let stamps = c.in_ok-reserve-2.ensures.ok in
     let names = c.in_ok-reserve-3.ensures.ok in
-    let gain = c.in_default.ensures.ok in
+    let gain = c.add.ensures in
     let queued = queued-reserved xs b.places c.reserve.new.self c.reserve-2.new.self b.queues c.reserve-3.new.self b.adds h p c.add.new.self gain in
     laid_out xs c.add.new.self c.reserve.new.self c.reserve-2.new.self (with_queue side b.queues c.reserve-4.new.self) c.reserve-3.new.self b.adds
     (rw room (reserved xs b.places c.reserve.new.self c.reserve-2.new.self b.queues c.reserve-3.new.self b.adds h p c.add.new.self _ gain (omega (arith, length-map xs listed_order))
@@ -92,5 +76,5 @@ returns-clause-ok g c =
     let same = listing-of xs b.places c.reserve.new.self c.reserve-2.new.self b.queues c.reserve-3.new.self b.adds h in
     rw (← c.self.view_is) (record {
       rest = ap (λ l. let t : TimeList = record { orders = map listed_order l; reserved = c.add.new.self; adds = b.adds } in t) same;
-      places = Gains-same c.args.place.now b.places c.add.new.self c.in_default.ensures.ok;
+      places = Gains-same c.args.place.now b.places c.add.new.self c.add.ensures;
     })
