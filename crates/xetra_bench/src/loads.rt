@@ -3,6 +3,7 @@
 ghost use Rattle.std.specs.Prelude.{◌<◌, ◌≤◌, IfOk};
 
 use std::alloc::Global;
+use std::marker::Model;
 use xm_desk::Desk;
 use xm_rules::{Command, Condition, DeskSettings, Kind, Restriction, Side, Validity, Widths};
 use xm_ticks::{JournalLimit, Price, TickSize};
@@ -54,48 +55,77 @@ impl Part {
     }
 }
 
-/// A desk without orders, of one member.
-pub fn open(alloc: Global) -> Result<Desk<Global>, LoadFault> {
-    let settings = match (
-        TickSize::new(100),
-        Price::new(1000),
-        JournalLimit::new(1_000_000),
-    ) {
-        (Some(tick), Some(reference), Some(limit)) => DeskSettings {
-            today: 20260105,
-            members: 1,
-            tick,
-            reference,
-            widths: Widths {
-                dynamic: 20,
-                statics: 50,
-                wide: 40,
-            },
-            limit,
-        },
-        _ => return Err(LoadFault),
-    };
-    Desk::open(alloc, settings).map_err(|_| LoadFault)
+/// A desk under load. A clause sees nothing of it: what follows what each call promises is long to prove, and a load
+/// asks for none of it.
+#[derive(Drop)]
+pub struct Loaded {
+    desk: Desk<Global>,
 }
 
-/// Gives the desk each of the commands of a part, and answers how many it accepted.
-pub fn give(desk: &mut Desk<Global>, part: Part, commands: u32) -> Result<u32, LoadFault>
-    ensures { IfOk result (λ accepted. accepted ≤ commands) }
-{
-    if commands > 1_000_000 {
-        return Err(LoadFault);
+impl Model for Loaded {
+    ghost Value = { Unit };
+
+    ghost view = { λ _. tt };
+}
+
+impl Loaded {
+    /// A desk without orders, of one member.
+    pub fn open(alloc: Global) -> Result<Loaded, LoadFault> {
+        let settings = settings().ok_or(LoadFault)?;
+        match Desk::open(alloc, settings) {
+            Ok(desk) => Ok(Loaded { desk }),
+            Err(_) => Err(LoadFault),
+        }
     }
-    let mut accepted = 0;
-    for place in 0..commands {
-        let command = part.command(place, commands);
-        if !command.is_served(desk.phase()) {
+
+    /// Gives the desk each of the commands of a part, and answers how many it accepted.
+    pub fn give(&mut self, part: Part, commands: u32) -> Result<u32, LoadFault>
+        ensures { IfOk result (λ accepted. accepted ≤ commands) }
+    {
+        if commands > 1_000_000 {
             return Err(LoadFault);
         }
-        if desk.apply(command).is_ok() {
-            accepted += 1;
+        let mut accepted = 0;
+        for place in 0..commands {
+            if self.is_accepted(part.command(place, commands))? {
+                accepted += 1;
+            }
+        }
+        Ok(accepted)
+    }
+
+    /// Gives the desk a command that it serves, and answers whether it accepted it.
+    fn is_accepted(&mut self, command: Command) -> Result<bool, LoadFault> {
+        if command.is_served(self.desk.phase()) {
+            Ok(self.desk.apply(command).is_ok())
+        } else {
+            Err(LoadFault)
         }
     }
-    Ok(accepted)
+
+    /// How many orders are live.
+    pub fn orders(&self) -> Result<usize, LoadFault> {
+        match self.desk.orders() {
+            Ok(orders) => Ok(orders.len()),
+            Err(_) => Err(LoadFault),
+        }
+    }
+}
+
+/// The settings of a day of one member.
+fn settings() -> Option<DeskSettings> {
+    Some(DeskSettings {
+        today: 20260105,
+        members: 1,
+        tick: TickSize::new(100)?,
+        reference: Price::new(1000)?,
+        widths: Widths {
+            dynamic: 20,
+            statics: 50,
+            wide: 40,
+        },
+        limit: JournalLimit::new(1_000_000)?,
+    })
 }
 
 /// An entry: the orders lie on both sides, at 100 limits of each.

@@ -4,7 +4,7 @@
 
 mod loads;
 
-use crate::loads::{LoadFault, give, open, parts};
+use crate::loads::{LoadFault, Loaded, parts};
 use std::env;
 use std::process::ExitCode;
 use std::rt::{Clock, Env};
@@ -45,10 +45,10 @@ fn is_measured<R: Env + AllocGlobal>(rt: &R) -> Result<bool, LoadFault> {
 
 /// Prints how many commands of each part of a load were accepted, and how many orders it left.
 fn count<R: AllocGlobal + Print>(rt: &R, orders: u32) -> Result<(), LoadFault> {
-    let mut desk = open(rt.alloc())?;
+    let mut loaded = Loaded::open(rt.alloc())?;
     for (part, commands) in parts(orders) {
-        let accepted = give(&mut desk, part, commands)?;
-        let left = desk.orders().map_err(|_| LoadFault)?.len();
+        let accepted = loaded.give(part, commands)?;
+        let left = loaded.orders()?;
         println!(rt;
             "{} {orders} orders: {accepted} accepted, {left} left",
             part.name()
@@ -60,10 +60,10 @@ fn count<R: AllocGlobal + Print>(rt: &R, orders: u32) -> Result<(), LoadFault> {
 
 /// Prints the nanoseconds that a command of each part of a load took.
 fn measure<R: AllocGlobal + Print + Clock>(rt: &R, orders: u32) -> Result<(), LoadFault> {
-    let mut desk = open(rt.alloc())?;
+    let mut loaded = Loaded::open(rt.alloc())?;
     for (part, commands) in parts(orders) {
         let start = Instant::now(rt).map_err(|_| LoadFault)?;
-        give(&mut desk, part, commands)?;
+        loaded.give(part, commands)?;
         let taken = start.elapsed(rt).map_err(|_| LoadFault)?;
         let nanoseconds = taken
             .as_nanos()
