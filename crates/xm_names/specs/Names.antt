@@ -1,0 +1,32 @@
+-- The names of members: a member's own references, each with a key.
+use Rattle.std.specs.Prelude.{ℕ, nat_eq, List, Option, Some, None}
+use Rattle.std.specs.Map as map
+
+-- the keys of one member's references, and how many names more there is room for
+pub record NamesOfMember : Type 0 where
+  pub entries : List (ℕ × ℕ)
+  pub room : ℕ
+
+-- the key of a reference
+abbrev pub key_of : ℕ → NamesOfMember → Option ℕ
+key_of reference names = map.lookup (nat_eq reference) names.entries
+
+abbrev pub key_among : ℕ → Option NamesOfMember → Option ℕ
+key_among reference None = None
+key_among reference (Some names) = key_of reference names
+
+abbrev pub room_among : Option NamesOfMember → ℕ
+room_among None = 0
+room_among (Some names) = names.room
+
+-- the names of a member, where it has had any
+abbrev pub names_of : List (ℕ × NamesOfMember) → ℕ → Option NamesOfMember
+names_of names member = map.lookup (nat_eq member) names
+
+-- the key of the name of this member and reference
+abbrev pub lookup : List (ℕ × NamesOfMember) → ℕ → ℕ → Option ℕ
+lookup names member reference = key_among reference (names_of names member)
+
+-- how many names of this member more there is room for
+abbrev pub room : List (ℕ × NamesOfMember) → ℕ → ℕ
+room names member = room_among (names_of names member)

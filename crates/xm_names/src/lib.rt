@@ -1,0 +1,7 @@
+//! The key of each member and reference, with room that is reserved by member.
+#![tactic(auto)]
+
+mod member_names;
+mod names;
+
+pub use crate::names::Names;

@@ -1,0 +1,105 @@
+//! The names of all members.
+ghost use Rattle.std.specs.Prelude.{◌≡◌, ℕ, ◌+◌, ◌-◌, ◌<◌, ◌==◌, ◌&&◌, None, Some, IfNone, IfSome, OnErr, OnOk, if◌then◌else◌};
+ghost use Rattle.xm_names.specs.Names.{lookup, room};
+
+use crate::member_names::MemberNames;
+use indexmap::IndexMap;
+use std::alloc::{AllocError, Allocator};
+use std::hash::BuildHasher;
+use std::marker::Model;
+
+/// The key of each member and reference, found by both, and by member alone. The order in which a member's names come out
+/// is open. Each member that has had a name keeps its table.
+#[derive(Drop)]
+pub struct Names<S: BuildHasher, A: Allocator> {
+    members: IndexMap<u32, MemberNames<S, A>, S, A>,
+}
+
+impl<S: BuildHasher, A: Allocator> Model for Names<S, A> {
+    ghost use Rattle.std.specs.Prelude.{ℕ, List};
+    ghost use Rattle.xm_names.specs.Names.{NamesOfMember};
+
+    ghost Value = { List (ℕ × NamesOfMember) };
+
+    ghost view = { λ n. n.members.entries };
+}
+
+impl<S: BuildHasher + Copy, A: Allocator + Copy> Names<S, A> {
+    /// No name and no room, which takes no memory.
+    pub fn new(alloc: A, hasher: S) -> Names<S, A>
+        ensures names { (m r : ℕ) → lookup result m r ≡ None }
+        ensures room { (m : ℕ) → room result m ≡ 0 }
+    {
+        Names {
+            members: IndexMap::with_hasher(alloc, hasher),
+        }
+    }
+
+    /// Makes room for one name more of this member.
+    pub fn reserve(&mut self, member: u32) -> Result<(), AllocError>
+        ensures names { (m r : ℕ) → lookup self.new m r ≡ lookup self.old m r }
+        ensures room { OnOk result ((m : ℕ) → room self.new m ≡ (if m == member then room self.old m + 1 else room self.old m)) }
+        ensures err { OnErr result (self.new ≡ self.old) }
+    {
+        if let Some(names) = self.members.get_mut(&member) {
+            return names.reserve();
+        }
+        let mut names = MemberNames::new(*self.members.allocator(), *self.members.hasher());
+        names.reserve()?;
+        self.members.insert(member, names)?;
+        Ok(())
+    }
+}
+
+impl<S: BuildHasher, A: Allocator> Names<S, A> {
+    /// Gives up the room for one name of this member.
+    pub fn release(&mut self, member: u32)
+        requires { 0 < room self.old member }
+        ensures names { (m r : ℕ) → lookup self.new m r ≡ lookup self.old m r }
+        ensures room { (m : ℕ) → room self.new m ≡ (if m == member then room self.old m - 1 else room self.old m) }
+    {
+        if let Some(names) = self.members.get_mut(&member) {
+            names.release();
+        }
+    }
+
+    /// The key of a name.
+    pub fn get(&self, member: u32, reference: u32) -> Option<usize>
+        ensures { result ≡ lookup self.now member reference }
+    {
+        self.members.get(&member)?.get(reference)
+    }
+
+    /// Gives a name that is not there its key, in room that was reserved for its member.
+    pub fn insert(&mut self, member: u32, reference: u32, key: usize)
+        requires room { 0 < room self.old member }
+        requires absent { lookup self.old member reference ≡ None }
+        ensures names { (m r : ℕ) → lookup self.new m r ≡ (if m == member && r == reference then Some key else lookup self.old m r) }
+        ensures room { (m : ℕ) → room self.new m ≡ (if m == member then room self.old m - 1 else room self.old m) }
+    {
+        if let Some(names) = self.members.get_mut(&member) {
+            names.insert(reference, key);
+        }
+    }
+
+    /// Takes a name out, and answers its key. The room stays.
+    pub fn remove(&mut self, member: u32, reference: u32) -> Option<usize>
+        ensures key { result ≡ lookup self.old member reference }
+        ensures names { (m r : ℕ) → lookup self.new m r ≡ (if m == member && r == reference then None else lookup self.old m r) }
+        ensures room { (m : ℕ) → room self.new m ≡ room self.old m }
+    {
+        self.members.get_mut(&member)?.remove(reference)
+    }
+
+    /// Takes any one name of this member out, and answers its reference and its key, or `None` where the member has no name.
+    /// The room stays.
+    pub fn pop(&mut self, member: u32) -> Option<(u32, usize)>
+        ensures none { IfNone result ((r : ℕ) → lookup self.old member r ≡ None) }
+        ensures key { IfSome result (λ name. lookup self.old member name.0 ≡ Some name.1) }
+        ensures left { IfSome result (λ name. (m r : ℕ) → lookup self.new m r ≡ (if m == member && r == name.0 then None else lookup self.old m r)) }
+        ensures unchanged { IfNone result (self.new ≡ self.old) }
+        ensures room { (m : ℕ) → room self.new m ≡ room self.old m }
+    {
+        self.members.get_mut(&member)?.pop()
+    }
+}
