@@ -24,9 +24,9 @@ abbrev pub names_of : List (ℕ × NamesOfMember) → ℕ → Option NamesOfMemb
 names_of names member = map.lookup (nat_eq member) names
 
 -- the key of the name of this member and reference
-abbrev pub lookup : List (ℕ × NamesOfMember) → ℕ → ℕ → Option ℕ
+unfoldable pub lookup : List (ℕ × NamesOfMember) → ℕ → ℕ → Option ℕ
 lookup names member reference = key_among reference (names_of names member)
 
 -- how many names of this member more there is room for
-abbrev pub room : List (ℕ × NamesOfMember) → ℕ → ℕ
+unfoldable pub room : List (ℕ × NamesOfMember) → ℕ → ℕ
 room names member = room_among (names_of names member)

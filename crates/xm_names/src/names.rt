@@ -1,4 +1,6 @@
 //! The names of all members.
+#![tactic(auto, unfolding(crate::specs::Names::lookup, crate::specs::Names::room))]
+
 ghost use Rattle.std.specs.Prelude.{◌≡◌, ℕ, ◌+◌, ◌-◌, ◌<◌, ◌==◌, ◌&&◌, None, Some, IfNone, IfSome, OnErr, OnOk, if◌then◌else◌};
 ghost use Rattle.xm_names.specs.Names.{lookup, room};
 
