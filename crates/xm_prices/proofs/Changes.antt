@@ -1,0 +1,91 @@
+-- A change of one bit, and of the places that stand for its word.
+use Rattle.std.proofs.Common.{◌≡◌, ◌≢◌, ◌↔◌, ℕ, ◌+◌, ◌/◌, ◌%◌, ◌<◌, ◌≤◌, List, ◌∙◌, ap, sym, inl, inr, arith}
+use Rattle.std.specs.Int.{bit_at}
+use Rattle.std.proofs.lemmas.Bool.{cases_eq}
+use Rattle.std.proofs.lemmas.Nat.Bits.{bit_at-zero}
+use Rattle.xm_prices.specs.Words.{word}
+use Rattle.xm_prices.specs.Marks.{mark, IsPut, IsReady, IsChanged, IsTied}
+use Rattle.xm_prices.proofs.Stored.{same_room}
+
+module _ (old new : List (List ℕ)) (p v : ℕ) (small : p < 1065220) (ready : IsReady old p v) (put : IsPut old new p v) where
+  top : (j : ℕ) → 1065220 ≤ j → mark new j ≡ 0
+  top j beyond = put.same j (λ e. omega arith) ∙ ready.top j beyond
+
+  -- each other word is tied
+  tied : (w : ℕ) → w < 16644 → w ≢ p / 64 → IsTied new w
+  tied w below differs =
+      elim (cases_eq (1048576 + w) p) [
+        | inl same ↦ rw (same, put.marked, put.others w differs) (ready.stands w same)
+        | inr apart ↦ rw (put.same (1048576 + w) apart, put.others w differs) (ready.tied w below apart)
+      ]
+
+  -- a word of which a bit has been set has a bit
+  used : v ≡ 1 → 0 < word new (p / 64)
+  used one =
+      elim (cases_eq (word new (p / 64)) 0) [
+        | inl none ↦ absurd (let bit = sym put.marked ∙ ap (λ (n : ℕ). bit_at n (p % 64)) none ∙ bit_at-zero (p % 64) in omega arith)
+        | inr some ↦ omega arith
+      ]
+
+  -- nothing above has to change
+  pub changed_last : (p / 64 < 16644 → (word old (p / 64) ≡ 0) ↔ (word new (p / 64) ≡ 0)) → IsChanged old new p v
+  changed_last stayed = record {
+    sound = record {
+      tied = λ w below.
+          elim (cases_eq w (p / 64)) [
+            | inl same ↦
+                let apart : 1048576 + w ≢ p = λ e. omega arith in
+                let before : IsTied old (p / 64) = rw same at (ready.tied w below apart) in
+                let place = rw same at (put.same (1048576 + w) apart) in
+                let both = stayed (omega arith) in
+                rw (same, place)
+                (record {
+                  used = λ m.
+                      elim (cases_eq (word new (p / 64)) 0) [
+                        | inl none ↦ absurd (let some = before.used m in let clear = both.1 none in omega arith)
+                        | inr some ↦ omega arith
+                      ];
+                  empty = λ m. both.0 (before.empty m);
+                })
+            | inr differs ↦ tied w below differs
+          ];
+      top = top;
+    };
+    marked = put.marked;
+    same = λ j e differs. put.same j differs;
+    others = λ w low differs. put.others w differs;
+    shape = put.shape;
+  }
+
+  module _ (below : p / 64 < 16644) where
+    pub ready_up : (0 < word new (p / 64) → word old (p / 64) ≡ 0) → IsReady new (1048576 + p / 64) v
+    ready_up turned = record {
+      there = same_room old new put.shape ((1048576 + p / 64) / 64) (ready.upper ((1048576 + p / 64) / 64) (omega arith) (omega arith));
+      upper = λ w high within. same_room old new put.shape w (ready.upper w high within);
+      tied = λ w within differs. tied w within (λ e. differs (omega arith));
+      top = top;
+      stands = λ w e.
+          let same : w ≡ p / 64 = omega arith in
+          rw same
+          (record {
+            used = used;
+            empty = λ clear.
+                elim (cases_eq (word new (p / 64)) 0) [
+                  | inl none ↦ none
+                  | inr some ↦ put.empty clear (turned (omega arith))
+                ];
+          });
+    }
+
+    pub changed_up : (next : List (List ℕ)) → IsChanged new next (1048576 + p / 64) v → IsChanged old next p v
+    changed_up next up =
+        let here : word next (p / 64) ≡ word new (p / 64) = up.others (p / 64) (omega arith) (λ e. omega arith) in
+        record {
+          sound = up.sound;
+          marked = ap (λ (n : ℕ). bit_at n (p % 64)) here ∙ put.marked;
+          same = λ j e differs.
+              let moved : mark next j ≡ mark new j = rw e (ap (λ (n : ℕ). bit_at n (j % 64)) here) in
+              moved ∙ put.same j differs;
+          others = λ w low differs. up.others w (omega arith) (λ e. omega arith) ∙ put.others w differs;
+          shape = record { len = up.shape.len ∙ put.shape.len; pages = λ i. up.shape.pages i ∙ put.shape.pages i };
+        }

@@ -1,0 +1,5 @@
+pub mod Map
+pub mod Marks
+pub mod Set
+pub mod Slots
+pub mod Words
