@@ -4,7 +4,7 @@
 
 mod loads;
 
-use crate::loads::{LoadFault, Loaded, parts};
+use crate::loads::{LoadFault, Loaded, Part, parts};
 use std::env;
 use std::process::ExitCode;
 use std::rt::{Clock, Env};
@@ -46,34 +46,67 @@ fn is_measured<R: Env + AllocGlobal>(rt: &R) -> Result<bool, LoadFault> {
 /// Prints how many commands of each part of a load were accepted, and how many orders it left.
 fn count<R: AllocGlobal + Print>(rt: &R, orders: u32) -> Result<(), LoadFault> {
     let mut loaded = Loaded::open(rt.alloc())?;
-    for (part, commands) in parts(orders) {
-        let accepted = loaded.give(part, commands)?;
+    for (part, commands) in &parts(orders) {
+        let accepted = loaded.give(*part, *commands)?;
         let left = loaded.orders()?;
-        println!(rt;
-            "{} {orders} orders: {accepted} accepted, {left} left",
-            part.name()
-        )
-        .map_err(|_| LoadFault)?;
+        tell_counts(rt, *part, orders, accepted, left)?;
     }
     Ok(())
+}
+
+fn tell_counts<R: Print>(
+    rt: &R,
+    part: Part,
+    orders: u32,
+    accepted: u32,
+    left: usize,
+) -> Result<(), LoadFault> {
+    let name = part.name();
+    match println!(rt; "{name} {orders} orders: {accepted} accepted, {left} left") {
+        Ok(()) => Ok(()),
+        Err(_) => Err(LoadFault),
+    }
 }
 
 /// Prints the nanoseconds that a command of each part of a load took.
 fn measure<R: AllocGlobal + Print + Clock>(rt: &R, orders: u32) -> Result<(), LoadFault> {
     let mut loaded = Loaded::open(rt.alloc())?;
-    for (part, commands) in parts(orders) {
-        let start = Instant::now(rt).map_err(|_| LoadFault)?;
-        loaded.give(part, commands)?;
-        let taken = start.elapsed(rt).map_err(|_| LoadFault)?;
-        let nanoseconds = taken
-            .as_nanos()
-            .checked_div(u128::from(commands))
-            .ok_or(LoadFault)?;
-        println!(rt;
-            "{} {orders} orders: {nanoseconds} ns a command",
-            part.name()
-        )
-        .map_err(|_| LoadFault)?;
+    for (part, commands) in &parts(orders) {
+        let nanoseconds = nanoseconds_of(rt, &mut loaded, *part, *commands)?;
+        tell_nanoseconds(rt, *part, orders, nanoseconds)?;
     }
     Ok(())
+}
+
+/// The nanoseconds that a command of a part took.
+fn nanoseconds_of<R: Clock>(
+    rt: &R,
+    loaded: &mut Loaded,
+    part: Part,
+    commands: u32,
+) -> Result<u128, LoadFault> {
+    let Ok(start) = Instant::now(rt) else {
+        return Err(LoadFault);
+    };
+    loaded.give(part, commands)?;
+    match start.elapsed(rt) {
+        Ok(taken) => taken
+            .as_nanos()
+            .checked_div(u128::from(commands))
+            .ok_or(LoadFault),
+        Err(_) => Err(LoadFault),
+    }
+}
+
+fn tell_nanoseconds<R: Print>(
+    rt: &R,
+    part: Part,
+    orders: u32,
+    nanoseconds: u128,
+) -> Result<(), LoadFault> {
+    let name = part.name();
+    match println!(rt; "{name} {orders} orders: {nanoseconds} ns a command") {
+        Ok(()) => Ok(()),
+        Err(_) => Err(LoadFault),
+    }
 }

@@ -1,7 +1,5 @@
 //! Tests of the public calls of other crates. They stand in a crate of their own, so that a crate is
 //! proved once and not again with its tests.
-//! Tests of the queues, the names, the book and the day, over their public calls. They stand in a crate of their own,
-//! so that a crate is proved once and not again with its tests.
 #![tactic(auto)]
 
 #[cfg(test)]
@@ -11,7 +9,13 @@ mod day;
 #[cfg(test)]
 mod desk;
 #[cfg(test)]
+mod names;
+#[cfg(test)]
+mod prices;
+#[cfg(test)]
 mod program;
+#[cfg(test)]
+mod queues;
 #[cfg(test)]
 mod refusing;
 #[cfg(test)]
