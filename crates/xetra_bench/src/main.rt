@@ -46,6 +46,10 @@ fn is_measured<R: Env + AllocGlobal>(rt: &R) -> Result<bool, LoadFault> {
 /// Prints how many commands of each part of a load were accepted, and how many orders it left.
 fn count<R: AllocGlobal + Print>(rt: &R, orders: u32) -> Result<(), LoadFault> {
     let mut loaded = Loaded::open(rt.alloc())?;
+    count_parts(rt, &mut loaded, orders)
+}
+
+fn count_parts<R: Print>(rt: &R, loaded: &mut Loaded, orders: u32) -> Result<(), LoadFault> {
     for (part, commands) in &parts(orders) {
         let accepted = loaded.give(*part, *commands)?;
         let left = loaded.orders()?;
@@ -71,8 +75,16 @@ fn tell_counts<R: Print>(
 /// Prints the nanoseconds that a command of each part of a load took.
 fn measure<R: AllocGlobal + Print + Clock>(rt: &R, orders: u32) -> Result<(), LoadFault> {
     let mut loaded = Loaded::open(rt.alloc())?;
+    measure_parts(rt, &mut loaded, orders)
+}
+
+fn measure_parts<R: Print + Clock>(
+    rt: &R,
+    loaded: &mut Loaded,
+    orders: u32,
+) -> Result<(), LoadFault> {
     for (part, commands) in &parts(orders) {
-        let nanoseconds = nanoseconds_of(rt, &mut loaded, *part, *commands)?;
+        let nanoseconds = nanoseconds_of(rt, loaded, *part, *commands)?;
         tell_nanoseconds(rt, *part, orders, nanoseconds)?;
     }
     Ok(())
