@@ -1,4 +1,6 @@
+pub mod Callers
 mod Changes
+mod Leveled
 mod Lookups
 mod Members
 mod NextBits

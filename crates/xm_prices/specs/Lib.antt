@@ -1,3 +1,4 @@
+pub mod Levels
 pub mod Map
 pub mod Marks
 pub mod Set

@@ -3,12 +3,14 @@
 #![tactic(auto)]
 
 mod bits;
+mod levels;
 mod map;
 mod marks;
 mod page;
 mod set;
 mod words;
 
+pub use crate::levels::Levels;
 pub use crate::map::PriceMap;
 pub use crate::marks::PRICES;
 pub use crate::set::PriceSet;

@@ -9,6 +9,8 @@ mod day;
 #[cfg(test)]
 mod desk;
 #[cfg(test)]
+mod ladders;
+#[cfg(test)]
 mod names;
 #[cfg(test)]
 mod prices;

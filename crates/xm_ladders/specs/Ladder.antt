@@ -1,0 +1,63 @@
+-- The levels of one side and restriction, as a clause sees them.
+use Rattle.std.specs.Prelude.{◌≡◌, ◌==◌, ℕ, ◌<◌, ◌≤◌, Bool, true, false, List, [], Option, Some, None, IfSome, IsSome}
+use Rattle.xm_ladders.specs.declared.level.Level.{Level}
+use Rattle.xm_prices.specs.Levels as levels
+use Rattle.xm_queues.specs.Queue.{IsQueue}
+use Rattle.xm_queues.specs.declared.links.Link.{Link}
+use Rattle.xm_rules.specs.Sides.{reaches}
+use Rattle.xm_rules.specs.declared.orders.OrderKind.{OrderKind}
+use Rattle.xm_rules.specs.declared.orders.OrderKind.TheVariants.{Market, Limit}
+use Rattle.xm_rules.specs.declared.orders.Side.{Side}
+use Rattle.xm_ticks.specs.declared.numbers.TheConstants.{MAX_PRICE}
+
+pub record LadderView : Type 0 where
+  pub market : Level
+  pub limits : levels.LevelsView Level
+
+abbrev pub same_kind : OrderKind → OrderKind → Bool
+same_kind Market Market = true
+same_kind (Limit p) (Limit q) = p == q
+same_kind _ _ = false
+
+-- the level of a limit that has an order
+abbrev pub limit_level : LadderView → ℕ → Option Level
+limit_level l p = levels.level_at l.limits p
+
+-- the level of orders of a kind
+abbrev pub level_of : LadderView → OrderKind → Option Level
+level_of l Market = Some l.market
+level_of l (Limit p) = limit_level l p
+
+-- orders of this kind can come and go with no memory, as far as their limit goes
+abbrev pub HasKind : LadderView → OrderKind → Type 0
+HasKind l Market = Unit {0}
+HasKind l (Limit p) = levels.HasPrice l.limits p
+
+-- so many levels more can be made with no memory, for orders of this kind
+abbrev pub HasLevels : LadderView → OrderKind → ℕ → Type 0
+HasLevels l Market n = Unit {0}
+HasLevels l (Limit p) n = levels.HasRoom l.limits n
+
+-- there is no level, or one without an order
+abbrev pub IsCleared : Option Level → Type 0
+IsCleared None = Unit {0}
+IsCleared (Some l) = ((links : List Link) → IsQueue links l.ends []) × ((l.orders ≡ 0) × (l.units ≡ 0))
+
+-- a level with an order, at a price
+abbrev pub IsHeld : ℕ → Level → Type 0
+IsHeld p l = (0 < l.orders) × ((1 ≤ p) × (p ≤ MAX_PRICE))
+
+-- each level has an order, and its limit is a price
+abbrev pub HasOrders : levels.LevelsView Level → Type 0
+HasOrders limits = (p : ℕ) → IfSome (levels.level_at limits p) (IsHeld p)
+
+-- the best of the limits that have an order
+pub record IsBestLimit (side : Side) (l : LadderView) (p : ℕ) : Type 0 where
+  pub there : IsSome (limit_level l p)
+  pub best : (q : ℕ) → reaches side p q ≡ false → limit_level l q ≡ None
+
+-- the best of those that are worse than another
+pub record IsNextLimit (side : Side) (after : ℕ) (l : LadderView) (p : ℕ) : Type 0 where
+  pub worse : reaches side p after ≡ false
+  pub there : IsSome (limit_level l p)
+  pub best : (q : ℕ) → reaches side q after ≡ false → reaches side p q ≡ false → limit_level l q ≡ None

@@ -1,0 +1,3 @@
+pub mod Ladder
+pub mod Ladders
+pub mod Lends

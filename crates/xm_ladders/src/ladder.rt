@@ -1,0 +1,120 @@
+//! The levels of one side and restriction.
+ghost use Rattle.std.specs.Prelude.{◌≡◌, if◌then◌else◌, ℕ, ◌+◌, ◌<◌, IfNone, IfSome, IsSome, None, Some, OnOk, false};
+ghost use Rattle.xm_ladders.specs.Ladder.{HasKind, HasLevels, IsBestLimit, IsCleared, IsNextLimit, level_of, limit_level, same_kind};
+ghost use Rattle.xm_rules.specs.Sides.{reaches};
+ghost use Rattle.xm_rules.specs.declared.orders.OrderKind.{OrderKind};
+
+use crate::level::Level;
+use std::alloc::{AllocError, Allocator};
+use std::marker::Model;
+use xm_prices::Levels;
+use xm_rules::{OrderKind, Side};
+use xm_ticks::Price;
+
+/// The market orders of one side and restriction, and a level for each limit that has an order. `reserve` makes room,
+/// and nothing else takes memory.
+#[derive(Drop)]
+pub struct Ladder<A: Allocator + Copy> {
+    market: Level,
+    limits: Levels<Level, A>,
+}
+
+impl<A: Allocator + Copy> Model for Ladder<A> {
+    ghost use Rattle.xm_ladders.specs.Ladder.{HasOrders, LadderView};
+
+    ghost Value = { LadderView };
+
+    ghost view = { λ l. record { market = l.market; limits = l.limits } };
+
+    ghost invariant = { λ l. HasOrders l.limits };
+}
+
+impl<A: Allocator + Copy> Ladder<A> {
+    /// A ladder without an order, which has taken no memory.
+    pub fn new(alloc: A) -> Ladder<A>
+        ensures { (kind : OrderKind) → IsCleared (level_of result kind) }
+    {
+        Ladder {
+            market: Level::empty(),
+            limits: Levels::new(alloc),
+        }
+    }
+
+    /// Makes all the room that orders of a kind need, which stays, and room for so many levels more.
+    pub fn reserve(&mut self, kind: OrderKind, levels: usize) -> Result<(), AllocError>
+        ensures kind { OnOk result (HasKind self.new kind) }
+        ensures room { OnOk result (HasLevels self.new kind levels) }
+        ensures kinds_kept { (k : OrderKind) → HasKind self.old k → HasKind self.new k }
+        ensures room_kept { (k : OrderKind) (n : ℕ) → HasLevels self.old k n → HasLevels self.new k n }
+        ensures same { (k : OrderKind) → level_of self.new k ≡ level_of self.old k }
+    {
+        match kind {
+            OrderKind::Market => Ok(()),
+            OrderKind::Limit(limit) => self.limits.reserve(limit.get(), levels),
+        }
+    }
+
+    /// The level of orders of a kind.
+    pub fn level(&self, kind: OrderKind) -> Option<Level>
+        ensures { result ≡ level_of self.now kind }
+    {
+        match kind {
+            OrderKind::Market => Some(self.market),
+            OrderKind::Limit(limit) => self.limits.get(limit.get()),
+        }
+    }
+
+    /// Puts a level with an order in place of the one that was there. One that is new takes room.
+    pub fn put(&mut self, kind: OrderKind, level: Level)
+        requires kind { HasKind self.old kind }
+        requires orders { 0 < level.orders }
+        requires room { level_of self.old kind ≡ None → HasLevels self.old kind 1 }
+        ensures levels { (k : OrderKind) → level_of self.new k ≡ (if same_kind k kind then Some level else level_of self.old k) }
+        ensures kinds_kept { (k : OrderKind) → HasKind self.old k → HasKind self.new k }
+        ensures room_used { (k : OrderKind) (n : ℕ) → HasLevels self.old k (n + 1) → HasLevels self.new k n }
+        ensures room_kept { IsSome (level_of self.old kind) → (k : OrderKind) (n : ℕ) → HasLevels self.old k n → HasLevels self.new k n }
+    {
+        match kind {
+            OrderKind::Market => self.market = level,
+            OrderKind::Limit(limit) => self.limits.put(limit.get(), level),
+        }
+    }
+
+    /// Leaves a level without an order.
+    pub fn clear(&mut self, kind: OrderKind)
+        requires { HasKind self.old kind }
+        ensures cleared { IsCleared (level_of self.new kind) }
+        ensures others { (k : OrderKind) → same_kind k kind ≡ false → level_of self.new k ≡ level_of self.old k }
+        ensures kinds_kept { (k : OrderKind) → HasKind self.old k → HasKind self.new k }
+        ensures room_kept { (k : OrderKind) (n : ℕ) → HasLevels self.old k n → HasLevels self.new k n }
+    {
+        match kind {
+            OrderKind::Market => self.market = Level::empty(),
+            OrderKind::Limit(limit) => self.limits.remove(limit.get()),
+        }
+    }
+
+    /// The best limit that has an order: the highest on the buy side, the lowest on the sell side.
+    pub fn best_limit(&self, side: Side) -> Option<Price>
+        ensures some { IfSome result (IsBestLimit side self.now) }
+        ensures none { IfNone result ((p : ℕ) → limit_level self.now p ≡ None) }
+    {
+        let price = match side {
+            Side::Buy => self.limits.last(),
+            Side::Sell => self.limits.first(),
+        };
+        Price::new(price?)
+    }
+
+    /// The best limit that is worse than another and has an order.
+    pub fn next_limit(&self, side: Side, after: Price) -> Option<Price>
+        ensures some { IfSome result (IsNextLimit side after self.now) }
+        ensures none { IfNone result ((p : ℕ) → reaches side p after ≡ false → limit_level self.now p ≡ None) }
+    {
+        let price = match side {
+            Side::Buy => self.limits.next_below(after.get()),
+            Side::Sell => self.limits.next_above(after.get()),
+        };
+        Price::new(price?)
+    }
+}
