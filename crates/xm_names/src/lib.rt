@@ -3,5 +3,7 @@
 
 mod member_names;
 mod names;
+mod seed;
 
 pub use crate::names::Names;
+pub use crate::seed::Seed;
