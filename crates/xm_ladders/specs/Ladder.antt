@@ -51,13 +51,17 @@ IsHeld p l = (0 < l.orders) × ((1 ≤ p) × (p ≤ MAX_PRICE))
 abbrev pub HasOrders : levels.LevelsView Level → Type 0
 HasOrders limits = (p : ℕ) → IfSome (levels.level_at limits p) (IsHeld p)
 
+-- there is a level, and it has an order
+abbrev pub HasOrder : Option Level → Type 0
+HasOrder o = IsSome o × IfSome o (λ (l : Level). 0 < l.orders)
+
 -- the best of the limits that have an order
 pub record IsBestLimit (side : Side) (l : LadderView) (p : ℕ) : Type 0 where
-  pub there : IsSome (limit_level l p)
+  pub there : HasOrder (limit_level l p)
   pub best : (q : ℕ) → reaches side p q ≡ false → limit_level l q ≡ None
 
 -- the best of those that are worse than another
 pub record IsNextLimit (side : Side) (after : ℕ) (l : LadderView) (p : ℕ) : Type 0 where
   pub worse : reaches side p after ≡ false
-  pub there : IsSome (limit_level l p)
+  pub there : HasOrder (limit_level l p)
   pub best : (q : ℕ) → reaches side q after ≡ false → reaches side p q ≡ false → limit_level l q ≡ None
