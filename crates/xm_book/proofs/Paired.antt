@@ -4,9 +4,10 @@ use Rattle.std.specs.List.{list_any}
 use Rattle.std.specs.Prelude.{nat_le, nat_lt}
 use Rattle.std.proofs.lemmas.Bool.{and_parts, leb-true, lt-ltb, le-ltb, not-true}
 use Rattle.std.proofs.lemmas.Bool.Decides.{nat_tests}
-use Rattle.xm_book.specs.Ranks.{Listed, rises, listed_order, rank_of, is_rank_ahead}
+use Rattle.xm_book.specs.Fronts.{goes_ahead}
+use Rattle.xm_book.specs.Listing.{listed_order, rises}
 use Rattle.xm_book.specs.TimeList.{have_own_names}
-use Rattle.xm_book.specs.declared.queue.Rank.{Rank}
+use Rattle.xm_book.specs.declared.listing.Listed.{Listed}
 use Rattle.xm_rules.specs.Active.{Positioned, positioned_from}
 use Rattle.xm_rules.specs.Orders.{is_named}
 use Rattle.xm_rules.specs.Priority.{is_better, is_ahead}
@@ -24,9 +25,6 @@ paired position (x ∷ xs) = record { position = position; listed = x } ∷ pair
 
 abbrev pub placed_of : Paired → Positioned
 placed_of z = record { position = z.position; order = z.listed.order }
-
-abbrev pub rank_at : Paired → Rank
-rank_at z = rank_of z.listed
 
 pub placed_paired : (position : ℕ) (xs : List Listed) → positioned_from position (map listed_order xs) ≡ map placed_of (paired position xs)
 placed_paired position [] = refl
@@ -94,8 +92,8 @@ same_order z w (inr (inl e)) = lt-ltb z.listed.time w.listed.time e.time ∙ sym
 same_order z w (inr (inr e)) =
     le-ltb z.listed.time w.listed.time (let h = e.time in omega arith) ∙ sym (le-ltb z.position w.position (let h = e.position in omega arith))
 
--- so the ranks of two are in the same order of priority as the orders
-pub same_priority : (side : Side) (z w : Paired) → Apart z w → is_rank_ahead side (rank_at z) (rank_at w) ≡ is_ahead side (placed_of z) (placed_of w)
+-- so two are in the same order of priority by either
+pub same_priority : (side : Side) (z w : Paired) → Apart z w → goes_ahead side z.listed w.listed ≡ is_ahead side (placed_of z) (placed_of w)
 same_priority side z w a =
     ap (λ (b : Bool). is_better side z.listed.order.kind w.listed.order.kind || (not (is_better side w.listed.order.kind z.listed.order.kind) && b)) (same_order z w a)
 

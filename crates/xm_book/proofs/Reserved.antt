@@ -1,8 +1,8 @@
 -- What a change leaves of the reserved places.
-use Rattle.std.proofs.Common.{◌≡◌, ℕ, ◌+◌, Bool, true, false, ◌||◌, if◌then◌else◌, List, [], ◌∷◌, length, count_by, refl, sym, ap, ◌∙◌, arith}
+use Rattle.std.proofs.Common.{◌≡◌, ◌≤◌, ℕ, ◌+◌, Bool, true, false, ◌||◌, if◌then◌else◌, List, [], ◌∷◌, length, count_by, refl, sym, ap, ◌∙◌, arith}
 use Rattle.std.specs.List.{list_any}
 use Rattle.std.specs.declared.snapshot.Snapshot.{Snapshot}
-use Rattle.std.proofs.lemmas.List.Sums.{sum_by-cons}
+use Rattle.std.proofs.lemmas.List.Sums.{count_by-le-length, sum_by-cons}
 use Rattle.xm_book.specs.Places.{SamePlaces, same_place}
 use Rattle.xm_book.specs.Reserved.{Gains, after, held, without_one}
 use Rattle.xm_book.specs.declared.places.Change.{Change, fold-Change, fold-roll-Change}
@@ -60,3 +60,6 @@ counted p (q ∷ qs) f h = count-left p q qs (same_place p q) refl f (counted p 
 
 pub Gains-left : (p : Place) (qs : List Place) → list_any (same_place p) qs ≡ true → Gains p (without_one p qs) qs
 Gains-left p qs h = record { counts = λ f. counted p qs f h ∙ sym (count_one f p (without_one p qs)) }
+
+pub counted-within : (f : Place → Bool) (ps : List Place) → count_by f ps ≤ length ps
+counted-within f ps = count_by-le-length f ps

@@ -1,9 +1,13 @@
-pub mod Layout
-pub mod Lends
+pub mod Fronts
+pub mod Indexed
+pub mod Levels
+pub mod Listing
 pub mod Places
+pub mod Queued
 pub mod Queues
-pub mod Ranks
 pub mod Reserved
-pub mod Sorted
+pub mod Slots
 pub mod TimeList
+pub mod Timeline
 pub mod Trades
+pub mod Vacancies

@@ -1,19 +1,13 @@
 -- Places that are reserved in a book, and lists of them in which the order doesn't count.
-use Rattle.std.specs.Prelude.{◌≡◌, Bool, true, false, ◌&&◌, ◌==◌, List, length, count_by}
+use Rattle.std.specs.Prelude.{◌≡◌, Bool, ◌&&◌, ◌==◌, List, length, count_by}
 use Rattle.xm_book.specs.declared.places.Place.{Place}
+use Rattle.xm_ladders.specs.Ladder.{same_kind}
 use Rattle.xm_rules.specs.Sides.{same_side}
 use Rattle.xm_rules.specs.declared.orders.Order.{Order}
-use Rattle.xm_rules.specs.declared.orders.OrderKind.{OrderKind}
-use Rattle.xm_rules.specs.declared.orders.OrderKind.TheVariants.{Market, Limit}
 
 -- the place that an order takes
 abbrev pub place_of : Order → Place
 place_of o = record { side = o.side; kind = o.kind; member = o.member; reference = o.reference }
-
-abbrev pub same_kind : OrderKind → OrderKind → Bool
-same_kind Market Market = true
-same_kind (Limit p) (Limit q) = p == q
-same_kind _ _ = false
 
 abbrev pub same_place : Place → Place → Bool
 same_place p q = same_side p.side q.side && same_kind p.kind q.kind && p.member == q.member && p.reference == q.reference

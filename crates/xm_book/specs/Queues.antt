@@ -1,10 +1,14 @@
 -- The active orders of a side in order of priority.
-use Rattle.std.specs.Prelude.{ℕ, not, List, filter, find, Option, Some, None, option_map}
+use Rattle.std.specs.Prelude.{ℕ, not, List, filter, find, sum_by, Option, Some, None, option_map}
 use Rattle.std.specs.List.{list_any}
-use Rattle.xm_rules.specs.Active.{Positioned, active}
+use Rattle.xm_ladders.specs.Ladder.{same_kind}
+use Rattle.xm_rules.specs.Active.{Positioned, active, limits}
 use Rattle.xm_rules.specs.Orders.{is_named}
 use Rattle.xm_rules.specs.Priority.{is_ahead}
+use Rattle.xm_rules.specs.Sides.{best, reaches}
 use Rattle.xm_rules.specs.declared.orders.Order.{Order}
+use Rattle.xm_rules.specs.declared.orders.OrderKind.{OrderKind}
+use Rattle.xm_rules.specs.declared.orders.OrderKind.TheVariants.{Market, Limit}
 use Rattle.xm_rules.specs.declared.orders.Side.{Side}
 use Rattle.xm_rules.specs.declared.phases.Phase.{Phase}
 
@@ -29,3 +33,23 @@ abbrev pub next_order : Phase → Side → ℕ → ℕ → List Order → Option
 next_order phase side member reference orders =
     let queue = active phase side orders in
     order_at (first_behind side queue (find (λ (i : Positioned). is_named member reference i.order) queue))
+
+-- the units that rest in the orders of one kind: in the market orders, or at one limit
+abbrev pub units_at : OrderKind → List Positioned → ℕ
+units_at kind queue = sum_by (λ (i : Positioned). i.order.rest) (filter (λ (i : Positioned). same_kind kind i.order.kind) queue)
+
+-- the units that rest in the active market orders of a side
+abbrev pub market_sum : Phase → Side → List Order → ℕ
+market_sum phase side orders = units_at Market (active phase side orders)
+
+-- the limits that are worse than this one; all of them where there is none
+abbrev pub limits_after : Side → Option ℕ → List Positioned → List ℕ
+limits_after side None queue = limits queue
+limits_after side (Some p) queue = filter (λ q. not (reaches side q p)) (limits queue)
+
+-- the best limit of the active orders of a side that is worse than this one, or the best of all where there is none, with
+-- the units that rest at it
+abbrev pub level_after : Phase → Side → Option ℕ → List Order → Option (ℕ × ℕ)
+level_after phase side after orders =
+    let queue = active phase side orders in
+    option_map (λ (p : ℕ). (p, units_at (Limit p) queue)) (best side (limits_after side after queue))

@@ -2,9 +2,12 @@
 #![tactic(auto)]
 
 mod book;
+mod entry;
+mod levels;
+mod listing;
+mod order_queues;
 mod places;
-mod queue;
-mod queues;
+mod slots;
 mod trades;
 
 pub use crate::book::Book;

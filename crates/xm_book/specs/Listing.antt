@@ -1,0 +1,34 @@
+-- Orders in time order, with their keys and the numbers of their adds.
+use Rattle.std.specs.Prelude.{ℕ, ◌+◌, ◌==◌, Bool, ◌&&◌, not, if◌then◌else◌, nat_le, List, [], ◌∷◌, map, find, Option, option_map}
+use Rattle.xm_book.specs.declared.entry.Entry.{Entry}
+use Rattle.xm_book.specs.declared.listing.Listed.{Listed}
+use Rattle.xm_rules.specs.Orders.{is_named}
+use Rattle.xm_rules.specs.declared.orders.Order.{Order}
+
+abbrev pub listed_order : Listed → Order
+listed_order x = x.order
+
+abbrev pub listed_entry : Listed → Entry
+listed_entry x = record { order = x.order; time = x.time }
+
+abbrev pub keys_in : List Listed → List ℕ
+keys_in xs = map (λ (x : Listed). x.key) xs
+
+abbrev pub is_other_key : ℕ → Listed → Bool
+is_other_key key x = not (x.key == key)
+
+-- the order of the key has another rest
+abbrev pub reduced_at : ℕ → ℕ → Listed → Listed
+reduced_at key rest x = if x.key == key then (let o = x.order in record x { order = record o { rest = rest } }) else x
+
+-- times that rise strictly, the first of which is no lower than the first number, and the last lower than the second
+abbrev pub rises : ℕ → List Listed → ℕ → Bool
+rises low [] high = nat_le low high
+rises low (x ∷ xs) high = nat_le low x.time && rises (x.time + 1) xs high
+
+abbrev pub has_name : ℕ → ℕ → Listed → Bool
+has_name member reference x = is_named member reference x.order
+
+-- the key of the order of a name
+abbrev pub key_of : ℕ → ℕ → List Listed → Option ℕ
+key_of member reference xs = option_map (λ (x : Listed). x.key) (find (has_name member reference) xs)

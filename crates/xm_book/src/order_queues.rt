@@ -1,0 +1,424 @@
+//! The orders of a book in their queues.
+ghost use Rattle.std.specs.Prelude.{◌≡◌, ◌+◌, ◌++◌, ◌∷◌, [], ◌<◌, ◌≤◌, ◌^◌, ◌&&◌, Contains, IfOk, IsTrue, OnErr, OnOk, Some, filter, length, map, option_copied, sum_by, true};
+ghost use Rattle.std.specs.List.{list_any};
+ghost use Rattle.xm_book.specs.Fronts.{IsBestOf, IsFirstOf, better_of_two, earlier_of_two, goes_ahead, has_kind, has_kind_later, has_worse, is_any, is_earlier, is_in, is_on};
+ghost use Rattle.xm_book.specs.Listing.{is_other_key, keys_in, listed_entry, listed_order, reduced_at, rises};
+ghost use Rattle.xm_book.specs.Places.{place_of, same_place};
+ghost use Rattle.xm_book.specs.Queues.{units_at};
+ghost use Rattle.xm_book.specs.Reserved.{Gains};
+ghost use Rattle.xm_book.specs.Slots.{is_of};
+ghost use Rattle.xm_book.specs.declared.listing.Listed.{Listed};
+ghost use Rattle.xm_queues.specs.Keys.{AreDistinct};
+ghost use Rattle.xm_rules.specs.Active.{active, is_active};
+ghost use Rattle.xm_rules.specs.Commands.{is_in_range};
+
+use crate::entry::Entry;
+use crate::levels::{level_for, put_level, reserve_levels, set_level};
+use crate::listing::{Listed, Listing};
+use crate::places::{Place, Places};
+use crate::slots::Slots;
+use std::alloc::{AllocError, Allocator};
+use std::marker::Model;
+use xm_ladders::Ladders;
+use xm_queues::Queues;
+use xm_rules::{Order, OrderKind, OutOfMemory, Phase, Restriction, Side};
+use xm_ticks::Price;
+
+/// The orders of a book under their keys, each in the queue of its side, restriction and limit.
+#[derive(Drop)]
+pub struct OrderQueues<A: Allocator + Copy> {
+    entries: Slots<A>,
+    links: Queues<A>,
+    ladders: Ladders<A>,
+    // For each there is room for one more order in the other parts.
+    places: Places,
+    // The number of the next add.
+    adds: u64,
+    // The orders in time order.
+    listing: Listing,
+}
+
+impl<A: Allocator + Copy> Model for OrderQueues<A> {
+    ghost use Rattle.xm_book.specs.Queued.{IsKept, QueuedView};
+
+    ghost Value = { QueuedView };
+
+    ghost view = { λ q. record { orders = q.listing; reserved = q.places; adds = q.adds } };
+
+    ghost invariant = { λ q. IsKept q.listing q.places q.adds q.entries q.links q.ladders };
+}
+
+impl<A: Allocator + Copy> OrderQueues<A> {
+    /// No order, and no room, which takes no memory.
+    pub fn new(alloc: A) -> OrderQueues<A>
+        ensures { result ≡ record { orders = []; reserved = []; adds = 0 } }
+    {
+        OrderQueues {
+            entries: Slots::new(alloc),
+            links: Queues::new(alloc),
+            ladders: Ladders::new(alloc),
+            places: Places::new(),
+            adds: 0,
+            listing: Listing::new(),
+        }
+    }
+
+    /// How many orders there are.
+    pub fn len(&self) -> usize
+        ensures { result ≡ length self.now.orders }
+    {
+        self.entries.len()
+    }
+
+    /// The order under a key, with the number of its add.
+    pub fn get(&self, key: usize) -> Option<&Entry>
+        ensures { (x : Listed) → Contains self.now.orders x → x.key ≡ key → option_copied result ≡ Some (listed_entry x) }
+    {
+        self.entries.get(key)
+    }
+
+    /// Reserves a place.
+    pub fn reserve(&mut self, place: &Place) -> Result<(), AllocError>
+        requires { length self.old.orders + length self.old.reserved < 2000000 }
+        ensures place { OnOk result (Gains place.now self.old.reserved self.new.reserved) }
+        ensures rest { self.new ≡ record self.old { reserved = self.new.reserved } }
+        ensures err { OnErr result (self.new ≡ self.old) }
+    {
+        let orders = self.entries.len() + self.places.len() + 1;
+        let capacity = capacity_for(orders, self.entries.capacity());
+        self.links.reserve_key(capacity - 1)?;
+        self.entries.grow_to(capacity)?;
+        reserve_levels(&mut self.ladders, place, self.places.len() + 1)?;
+        self.places.add(place);
+        Ok(())
+    }
+
+    /// Gives up a reserved place.
+    pub fn release(&mut self, place: &Place)
+        requires { IsTrue (list_any (same_place place.now) self.old.reserved) }
+        ensures place { Gains place.now self.new.reserved self.old.reserved }
+        ensures rest { self.new ≡ record self.old { reserved = self.new.reserved } }
+    {
+        self.places.release(place);
+    }
+
+    /// An order joins its queue last, in its reserved place, and the answer is its key.
+    pub fn push(&mut self, order: &Order) -> usize
+        requires reserved { IsTrue (list_any (same_place (place_of order.now)) self.old.reserved) }
+        requires rest { IsTrue (is_in_range order.now.rest) }
+        requires adds { self.old.adds < 2 ^ 63 }
+        ensures orders { self.new.orders ≡ self.old.orders ++ record { key = result; time = self.old.adds; order = order.now } ∷ [] }
+        ensures used { Gains (place_of order.now) self.new.reserved self.old.reserved }
+        ensures adds { self.new.adds ≡ self.old.adds + 1 }
+    {
+        let order = *order;
+        let time = self.adds;
+        let key = self.entries.insert(Entry { order, time });
+        let mut level = level_for(&self.ladders, &order);
+        self.links.push_back(&mut level.ends, key);
+        level.orders += 1;
+        level.units += u64::from(order.rest);
+        put_level(&mut self.ladders, &order, level);
+        self.listing.join(&Listed { key, time, order });
+        self.places.release(&Place::of(&order));
+        self.adds += 1;
+        key
+    }
+
+    /// The order of a key leaves.
+    pub fn take(&mut self, key: usize) -> Order
+        requires { Contains (keys_in self.old.orders) key }
+        ensures order { (x : Listed) → Contains self.old.orders x → x.key ≡ key → result ≡ x.order }
+        ensures left { self.new ≡ record self.old { orders = filter (is_other_key key) self.old.orders } }
+        ensures distinct { AreDistinct (keys_in self.old.orders) }
+    {
+        let entry = self.entries.remove(key);
+        let mut level = level_for(&self.ladders, &entry.order);
+        self.links.unlink(&mut level.ends, key);
+        level.orders -= 1;
+        level.units -= u64::from(entry.order.rest);
+        set_level(&mut self.ladders, &entry.order, level);
+        self.listing.leave(key);
+        entry.order
+    }
+
+    /// Gives the order of a key a rest that is at least 1 and no higher than the present one. It keeps its place.
+    pub fn reduce(&mut self, key: usize, rest: u32)
+        requires there { Contains (keys_in self.old.orders) key }
+        requires rest { AreDistinct (keys_in self.old.orders) → (x : Listed) → Contains self.old.orders x → x.key ≡ key → (1 ≤ rest) × (rest ≤ x.order.rest) }
+        ensures reduced { self.new ≡ record self.old { orders = map (reduced_at key rest) self.old.orders } }
+        ensures distinct { AreDistinct (keys_in self.old.orders) }
+    {
+        match self.entries.get(key) {
+            None => {}
+            Some(entry) => {
+                let mut entry = *entry;
+                let mut level = level_for(&self.ladders, &entry.order);
+                level.units -= u64::from(entry.order.rest - rest);
+                put_level(&mut self.ladders, &entry.order, level);
+                entry.order.rest = rest;
+                self.entries.replace(key, entry);
+                self.listing.reduce(key, rest);
+            }
+        }
+    }
+}
+
+/// The capacity for so many orders: the present one where it is enough, or else at least twice that.
+fn capacity_for(orders: usize, capacity: usize) -> usize
+    requires { orders ≤ 2000000 }
+    ensures holds { orders ≤ result }
+    ensures grows { capacity ≤ result }
+{
+    if orders <= capacity {
+        capacity
+    } else {
+        orders.max(2 * capacity).max(4)
+    }
+}
+
+impl<A: Allocator + Copy> OrderQueues<A> {
+    /// The orders in time order, each with the number of its add: those of a member, or all where no member is named, or
+    /// `OutOfMemory` where the answer can't be held.
+    pub fn in_time(&self, member: Option<u32>) -> Result<Vec<Entry, A>, OutOfMemory>
+        ensures { IfOk result (λ entries. entries.items ≡ filter (is_of member) (map listed_entry self.now.orders)) }
+    {
+        let mut entries = self.entries.entries_of(member)?;
+        entries.sort_unstable_by_key(|entry| entry.time);
+        Ok(entries)
+    }
+}
+
+/// The earlier of two entries.
+fn earlier_of_two<'a>(first: Option<&'a Entry>, second: Option<&'a Entry>) -> Option<&'a Entry>
+    ensures { option_copied result ≡ earlier_of_two (option_copied first.entry) (option_copied second.entry) }
+{
+    match first {
+        None => second,
+        Some(a) => match second {
+            None => Some(a),
+            Some(b) => { if b.time < a.time { Some(b) } else { Some(a) } }
+        },
+    }
+}
+
+/// The better of two limits.
+fn better_of_two(side: Side, first: Option<Price>, second: Option<Price>) -> Option<Price>
+    ensures { result ≡ better_of_two side first second }
+{
+    match first {
+        None => second,
+        Some(p) => match second {
+            None => Some(p),
+            Some(q) => {
+                if side.reaches(p.get(), q.get()) {
+                    Some(p)
+                } else {
+                    Some(q)
+                }
+            }
+        },
+    }
+}
+
+/// What is asked by level and by priority. Each answer is put together from those of the four restrictions, since the
+/// orders of each stand in a ladder of their own. In continuous trading the free orders alone are active, so one ladder
+/// is asked.
+impl<A: Allocator + Copy> OrderQueues<A> {
+    /// The units that rest in the active orders of a side and kind.
+    pub fn units_at(&self, side: Side, phase: Phase, kind: &OrderKind) -> u64
+        ensures { result ≡ units_at kind.now (active phase side (map listed_order self.now.orders)) }
+    {
+        let free = self.units_in(side, phase, Restriction::Free, kind);
+        if phase.is_continuous() {
+            return free;
+        }
+        let opening = self.units_in(side, phase, Restriction::OpeningOnly, kind);
+        let auctions = self.units_in(side, phase, Restriction::AuctionsOnly, kind);
+        let closing = self.units_in(side, phase, Restriction::ClosingOnly, kind);
+        free + opening + auctions + closing
+    }
+
+    /// The best limit of the active orders of a side that is worse than this one, or the best of all.
+    pub fn limit_after(&self, side: Side, phase: Phase, after: &Option<Price>) -> Option<Price>
+        ensures { IsBestOf side (is_on phase side (has_worse side after.now)) self.now.orders result }
+    {
+        let free = self.limit_in(side, phase, Restriction::Free, after);
+        if phase.is_continuous() {
+            return free;
+        }
+        let opening = self.limit_in(side, phase, Restriction::OpeningOnly, after);
+        let auctions = self.limit_in(side, phase, Restriction::AuctionsOnly, after);
+        let closing = self.limit_in(side, phase, Restriction::ClosingOnly, after);
+        let early = better_of_two(side, free, opening);
+        let late = better_of_two(side, auctions, closing);
+        better_of_two(side, early, late)
+    }
+
+    /// The best active order of a side in priority.
+    pub fn first(&self, side: Side, phase: Phase) -> Option<&Entry>
+        ensures first { IsFirstOf (goes_ahead side) (is_on phase side is_any) self.now.orders (option_copied result) }
+        ensures rise { rises 0 self.now.orders self.now.adds ≡ true }
+    {
+        let _ = &self.listing;
+        match self.front(side, phase, &OrderKind::Market) {
+            Some(entry) => Some(entry),
+            None => self.first_limited(side, phase, &None),
+        }
+    }
+
+    /// The active order of a side that is next in priority after the order of a key; nothing where that order isn't an
+    /// active one of the side.
+    pub fn next_after(&self, side: Side, phase: Phase, key: usize) -> Option<&Entry>
+        requires { Contains (keys_in self.now.orders) key }
+        ensures next { (x : Listed) → Contains self.now.orders x → x.key ≡ key
+            → IsFirstOf (goes_ahead side) (λ y. is_on phase side is_any x && is_on phase side (goes_ahead side x) y) self.now.orders (option_copied result) }
+        ensures rise { rises 0 self.now.orders self.now.adds ≡ true }
+    {
+        let entry = self.entries.get(key)?;
+        if entry.order.side != side || !entry.order.restriction.is_active(phase) {
+            return None;
+        }
+        match self.later(phase, key, entry) {
+            Some(later) => Some(later),
+            None => self.first_limited(side, phase, &entry.order.kind.limit()),
+        }
+    }
+
+    /// The units that rest in the orders of one restriction, where it is active.
+    fn units_in(&self, side: Side, phase: Phase, restriction: Restriction, kind: &OrderKind) -> u64
+        ensures units { result ≡ sum_by (λ (x : Listed). x.order.rest) (filter (is_in phase side restriction (has_kind kind.now)) self.now.orders) }
+        ensures few { result ≤ 2000000000000 }
+    {
+        if !restriction.is_active(phase) {
+            return 0;
+        }
+        match self.ladders.of(side).of(restriction).level(*kind) {
+            None => 0,
+            Some(level) => level.units,
+        }
+    }
+
+    /// The best limit of the orders of one restriction, where it is active, that is worse than this one.
+    fn limit_in(
+        &self,
+        side: Side,
+        phase: Phase,
+        restriction: Restriction,
+        after: &Option<Price>,
+    ) -> Option<Price>
+        ensures { IsBestOf side (is_in phase side restriction (has_worse side after.now)) self.now.orders result }
+    {
+        if !restriction.is_active(phase) {
+            return None;
+        }
+        let ladder = self.ladders.of(side).of(restriction);
+        match after {
+            None => ladder.best_limit(side),
+            Some(limit) => ladder.next_limit(side, *limit),
+        }
+    }
+
+    /// The earliest active order of a side and kind.
+    fn front(&self, side: Side, phase: Phase, kind: &OrderKind) -> Option<&Entry>
+        ensures { IsFirstOf is_earlier (is_on phase side (has_kind kind.now)) self.now.orders (option_copied result) }
+    {
+        let free = self.front_in(side, phase, Restriction::Free, kind);
+        if phase.is_continuous() {
+            return free;
+        }
+        let opening = self.front_in(side, phase, Restriction::OpeningOnly, kind);
+        let auctions = self.front_in(side, phase, Restriction::AuctionsOnly, kind);
+        let closing = self.front_in(side, phase, Restriction::ClosingOnly, kind);
+        let early = earlier_of_two(free, opening);
+        let late = earlier_of_two(auctions, closing);
+        earlier_of_two(early, late)
+    }
+
+    /// The earliest order of one restriction, where it is active, on a side and of a kind.
+    fn front_in(
+        &self,
+        side: Side,
+        phase: Phase,
+        restriction: Restriction,
+        kind: &OrderKind,
+    ) -> Option<&Entry>
+        ensures { IsFirstOf is_earlier (is_in phase side restriction (has_kind kind.now)) self.now.orders (option_copied result) }
+    {
+        if !restriction.is_active(phase) {
+            return None;
+        }
+        let level = self.ladders.of(side).of(restriction).level(*kind)?;
+        let key = level.ends.front()?;
+        self.entries.get(key)
+    }
+
+    /// The best active order of a side whose limit is worse than this one, or the best that has a limit.
+    fn first_limited(&self, side: Side, phase: Phase, after: &Option<Price>) -> Option<&Entry>
+        ensures { IsFirstOf (goes_ahead side) (is_on phase side (has_worse side after.now)) self.now.orders (option_copied result) }
+    {
+        let limit = self.limit_after(side, phase, after)?;
+        self.front(side, phase, &OrderKind::Limit(limit))
+    }
+
+    /// The earliest active order of the side and kind of an order that is later than it.
+    fn later(&self, phase: Phase, key: usize, entry: &Entry) -> Option<&Entry>
+        requires { (x : Listed) × Contains self.now.orders x × (x.key ≡ key) × (entry.now ≡ listed_entry x) }
+        ensures { IsFirstOf is_earlier (is_on phase entry.now.order.side (has_kind_later entry.now.order.kind entry.now.time)) self.now.orders (option_copied result) }
+    {
+        let free = self.later_in(phase, Restriction::Free, key, entry);
+        if phase.is_continuous() {
+            return free;
+        }
+        let opening = self.later_in(phase, Restriction::OpeningOnly, key, entry);
+        let auctions = self.later_in(phase, Restriction::AuctionsOnly, key, entry);
+        let closing = self.later_in(phase, Restriction::ClosingOnly, key, entry);
+        let early = earlier_of_two(free, opening);
+        let late = earlier_of_two(auctions, closing);
+        earlier_of_two(early, late)
+    }
+
+    /// The same among the orders of one restriction, where it is active. In the order's own queue it is the next. In
+    /// another, which is asked in calls alone, it is looked for from the front on.
+    fn later_in(
+        &self,
+        phase: Phase,
+        restriction: Restriction,
+        key: usize,
+        entry: &Entry,
+    ) -> Option<&Entry>
+        requires { (x : Listed) × Contains self.now.orders x × (x.key ≡ key) × (entry.now ≡ listed_entry x) }
+        ensures { IsFirstOf is_earlier (is_in phase entry.now.order.side restriction (has_kind_later entry.now.order.kind entry.now.time)) self.now.orders (option_copied result) }
+    {
+        if !restriction.is_active(phase) {
+            return None;
+        }
+        if restriction == entry.order.restriction {
+            let next = self.links.next(key)?;
+            return self.entries.get(next);
+        }
+        self.first_later(phase, restriction, entry)
+    }
+
+    /// The earliest order of a restriction, which is active, that is later than an order, of the same side and kind.
+    fn first_later(&self, phase: Phase, restriction: Restriction, entry: &Entry) -> Option<&Entry>
+        requires { is_active phase restriction ≡ true }
+        ensures { IsFirstOf is_earlier (is_in phase entry.now.order.side restriction (has_kind_later entry.now.order.kind entry.now.time)) self.now.orders (option_copied result) }
+    {
+        let level = self
+            .ladders
+            .of(entry.order.side)
+            .of(restriction)
+            .level(entry.order.kind)?;
+        let mut key = level.ends.front();
+        for _step in 0..level.orders {
+            let at = key?;
+            let other = self.entries.get(at)?;
+            if entry.time < other.time {
+                return Some(other);
+            }
+            key = self.links.next(at);
+        }
+        None
+    }
+}
