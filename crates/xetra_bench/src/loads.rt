@@ -5,6 +5,7 @@ ghost use Rattle.std.specs.Prelude.{◌<◌, ◌≤◌, IfOk};
 use std::alloc::Global;
 use std::marker::Model;
 use xm_desk::Desk;
+use xm_names::Seed;
 use xm_rules::{Command, Condition, DeskSettings, Kind, Restriction, Side, Validity, Widths};
 use xm_ticks::{JournalLimit, Price, TickSize};
 
@@ -72,7 +73,7 @@ impl Loaded {
     /// A desk without orders, of one member.
     pub fn open(alloc: Global) -> Result<Loaded, LoadFault> {
         let settings = settings().ok_or(LoadFault)?;
-        match Desk::open(alloc, settings) {
+        match Desk::open(alloc, Seed::fixed(), settings) {
             Ok(desk) => Ok(Loaded { desk }),
             Err(_) => Err(LoadFault),
         }

@@ -12,6 +12,7 @@ use crate::segment::read_segment;
 use crate::statements::statement;
 use std::alloc::Global;
 use std::io;
+use xm_names::Seed;
 
 /// Runs the day of a segment whose file is read: reads the order file, takes its rows, and writes
 /// the statement. The checks come in this order.
@@ -21,6 +22,7 @@ use std::io;
 /// out is a proper prefix of the statement. A refused row is counted and changes nothing.
 pub fn run_orders<R: io::Read, W: io::Write>(
     alloc: Global,
+    seed: Seed,
     config: &SegmentConfig,
     names: &Names,
     orders: &mut R,
@@ -35,7 +37,7 @@ pub fn run_orders<R: io::Read, W: io::Write>(
         Ok(rows) => rows,
         Err(fault) => return Err(DayFault::Orders(fault)),
     };
-    let mut desks = open_desks(alloc, config)?;
+    let mut desks = open_desks(alloc, seed, config)?;
     let report = take_rows(desks.as_mut_slice(), rows.as_slice())?;
     statement(alloc, desks.as_slice(), names, &report, out)?;
     Ok(report)
@@ -48,6 +50,7 @@ pub fn run_orders<R: io::Read, W: io::Write>(
 /// `run_orders`, in their order.
 pub fn run_alone<S: io::Read, R: io::Read, W: io::Write>(
     alloc: Global,
+    seed: Seed,
     segment: &mut S,
     orders: &mut R,
     out: &mut W,
@@ -59,5 +62,5 @@ pub fn run_alone<S: io::Read, R: io::Read, W: io::Write>(
         Ok(segment) => segment,
         Err(fault) => return Err(DayFault::Segment(fault)),
     };
-    run_orders(alloc, &config, &names, orders, out)
+    run_orders(alloc, seed, &config, &names, orders, out)
 }

@@ -12,10 +12,15 @@ use crate::report::DayReport;
 use crate::rows::Row;
 use std::alloc::{AllocError, Allocator, Global};
 use xm_desk::{Desk, MAX_MEMBERS, OpenFault, are_widths};
+use xm_names::Seed;
 use xm_rules::{DeskSettings, OutOfMemory, Refusal};
 
 /// Opens a desk for each security of a segment.
-pub fn open_desks(alloc: Global, config: &SegmentConfig) -> Result<Vec<Desk<Global>>, OpenFault>
+pub fn open_desks(
+    alloc: Global,
+    seed: Seed,
+    config: &SegmentConfig,
+) -> Result<Vec<Desk<Global>>, OpenFault>
     ensures opened { IfOk result (λ desks. desks.items ≡ map (journal_of config.now) config.now.securities) }
     ensures sound { OnOk result (segment_fault config.now ≡ None) }
     ensures refused { IfErr result (λ fault. fault ≢ OpenFault.OutOfMemory → segment_fault config.now ≡ Some fault) }
@@ -24,16 +29,20 @@ pub fn open_desks(alloc: Global, config: &SegmentConfig) -> Result<Vec<Desk<Glob
     if let Some(fault) = segment_fault(config) {
         return Err(fault);
     }
-    desks_of(alloc, config).map_err(|_| OpenFault::OutOfMemory)
+    desks_of(alloc, seed, config).map_err(|_| OpenFault::OutOfMemory)
 }
 
 /// The desks of a segment without a fault.
-fn desks_of(alloc: Global, config: &SegmentConfig) -> Result<Vec<Desk<Global>>, AllocError>
+fn desks_of(
+    alloc: Global,
+    seed: Seed,
+    config: &SegmentConfig,
+) -> Result<Vec<Desk<Global>>, AllocError>
     ensures { IfOk result (λ desks. desks.items ≡ map (journal_of config.now) config.now.securities) }
 {
     let mut desks = Vec::new(alloc);
     for security in config.securities.as_slice() {
-        match Desk::open(alloc, settings_of(config, security)) {
+        match Desk::open(alloc, seed, settings_of(config, security)) {
             Ok(desk) => desks.push(desk)?,
             Err(_) => return Err(AllocError),
         }

@@ -122,7 +122,7 @@ fn push_security<A: Allocator, B: Allocator + Copy>(
 }
 
 /// The phase and the reference prices of a security, in which nothing was traded so far.
-fn push_heading<A: Allocator, B: Allocator>(
+fn push_heading<A: Allocator, B: Allocator + Copy>(
     text: &mut Vec<u8, A>,
     desk: &Desk<B>,
     names: &Names,

@@ -7,7 +7,7 @@ use crate::unsettled::Unsettled;
 use std::alloc::Allocator;
 use xm_rules::{Auction, CallStage, Phase};
 
-impl<A: Allocator> Unsettled<A> {
+impl<A: Allocator + Copy> Unsettled<A> {
     /// The call of an auction begins.
     pub fn start_call(&mut self, auction: Auction)
         ensures { self.new ≡ record self.old { state = record self.old.state { phase = Call auction Ordinary } } }

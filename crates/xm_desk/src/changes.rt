@@ -12,7 +12,7 @@ ghost use Rattle.xm_rules.specs.declared.commands.Command.TheVariants.{Change};
 use crate::unsettled::Unsettled;
 use std::alloc::Allocator;
 
-impl<A: Allocator> Unsettled<A> {
+impl<A: Allocator + Copy> Unsettled<A> {
     /// An order takes a new quantity, and a new limit where one is given: it keeps its priority, or
     /// leaves the book and comes in again.
     pub fn change(&mut self, member: u32, reference: u32, quantity: u32, limit: Option<u32>)

@@ -10,18 +10,19 @@ use crate::market::Market;
 use crate::opening::{OpenFault, open_fault};
 use std::alloc::Allocator;
 use std::marker::Model;
+use xm_names::Seed;
 use xm_rules::{Command, DeskSettings, Order, OutOfMemory, Phase, Refusal, Reply};
 use xm_ticks::Price;
 
 /// One security. A clause sees it as its journal: the settings that it was opened with, and the
 /// commands that it accepted. The journal is lawful, and the state is its replay.
 #[derive(Drop)]
-pub struct Desk<A: Allocator> {
+pub struct Desk<A: Allocator + Copy> {
     market: Market<A>,
     journal: Vec<Command, A>,
 }
 
-impl<A: Allocator> Model for Desk<A> {
+impl<A: Allocator + Copy> Model for Desk<A> {
     ghost use Rattle.std.specs.Prelude.{◌≡◌, true};
     ghost use Rattle.xm_desk.specs.declared.unsettled.Hand.TheVariants.{Empty};
     ghost use Rattle.xm_rules.specs.Served.{HasNoTrades, HoldsNoStops, IsOutsideContinuousTrading};
@@ -45,8 +46,9 @@ impl<A: Allocator + Copy> Desk<A> {
     /// A desk before the day.
     ///
     /// More than 1,000 members are `TooMany`. A width outside 1 to 999 thousandths, or a dynamic
-    /// one that is not below the wide one, is `BadWidths`.
-    pub fn open(alloc: A, settings: DeskSettings) -> Result<Desk<A>, OpenFault>
+    /// one that is not below the wide one, is `BadWidths`. The names of orders are hashed by the seed, on which no
+    /// answer depends.
+    pub fn open(alloc: A, seed: Seed, settings: DeskSettings) -> Result<Desk<A>, OpenFault>
         ensures opened { IfOk result (λ desk. desk ≡ record { settings = settings; commands = [] }) }
         ensures sound { OnOk result (open_fault settings ≡ None) }
         ensures refused { IfErr result (λ fault. fault ≢ OpenFault.OutOfMemory → open_fault settings ≡ Some fault) }
@@ -56,7 +58,7 @@ impl<A: Allocator + Copy> Desk<A> {
             return Err(fault);
         }
         Ok(Desk {
-            market: Market::new(alloc, settings),
+            market: Market::new(alloc, seed, settings),
             journal: Vec::new(alloc),
         })
     }
@@ -67,9 +69,7 @@ impl<A: Allocator + Copy> Desk<A> {
     {
         self.market.orders()
     }
-}
 
-impl<A: Allocator> Desk<A> {
     /// Takes a command into the journal and answers its reply. A refused one changes nothing.
     ///
     /// The command must be served in the desk's phase, see `Command::is_served`. The refusal is

@@ -11,7 +11,7 @@ use std::alloc::Allocator;
 use xm_book::Place;
 use xm_rules::{Command, OutOfMemory};
 
-impl<A: Allocator> Unsettled<A> {
+impl<A: Allocator + Copy> Unsettled<A> {
     /// Reserves all that an accepted command may need in the book. The state is unchanged.
     pub fn reserve_for(&mut self, command: &Command) -> Result<(), OutOfMemory>
         requires hand { self.old.hand ≡ Empty }

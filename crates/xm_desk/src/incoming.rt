@@ -15,7 +15,7 @@ use crate::unsettled::{Hand, Unsettled};
 use std::alloc::Allocator;
 use xm_rules::Order;
 
-impl<A: Allocator> Unsettled<A> {
+impl<A: Allocator + Copy> Unsettled<A> {
     /// The order of an entry comes in.
     pub fn enter(&mut self, entry: &Entry)
         requires hand { self.old.hand ≡ Kept (place_of (order_in entry.now)) }

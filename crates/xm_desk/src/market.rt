@@ -14,16 +14,17 @@ use crate::unsettled::{Hand, Unsettled};
 use std::alloc::Allocator;
 use std::marker::Model;
 use xm_book::Book;
+use xm_names::Seed;
 use xm_rules::{Command, DeskSettings, Order, OutOfMemory, Phase, Refusal, Reply};
 use xm_ticks::Price;
 
 /// A security after the commands that it accepted. No stop is pending.
 #[derive(Drop)]
-pub struct Market<A: Allocator> {
+pub struct Market<A: Allocator + Copy> {
     inside: Unsettled<A>,
 }
 
-impl<A: Allocator> Model for Market<A> {
+impl<A: Allocator + Copy> Model for Market<A> {
     ghost use Rattle.std.specs.Prelude.{◌≡◌, []};
     ghost use Rattle.xm_desk.specs.Settled.{Settled};
 
@@ -36,7 +37,7 @@ impl<A: Allocator> Model for Market<A> {
 
 impl<A: Allocator + Copy> Market<A> {
     /// A security before the day.
-    pub fn new(alloc: A, settings: DeskSettings) -> Market<A>
+    pub fn new(alloc: A, seed: Seed, settings: DeskSettings) -> Market<A>
         ensures { result ≡ record { state = opening settings; hand = Empty } }
     {
         Market {
@@ -44,7 +45,7 @@ impl<A: Allocator + Copy> Market<A> {
                 settings,
                 accepted: 0,
                 phase: Phase::PreTrading,
-                book: Book::new(alloc),
+                book: Book::new(alloc, seed),
                 tape: Tape::new(alloc, settings.reference),
                 hand: Hand::Empty,
             },
@@ -57,9 +58,7 @@ impl<A: Allocator + Copy> Market<A> {
     {
         self.inside.book.orders()
     }
-}
 
-impl<A: Allocator> Market<A> {
     /// Why a command is refused, memory aside.
     pub fn refusal_of(&self, command: &Command) -> Option<Refusal>
         ensures { result ≡ refusal_of self.now.state command.now }
@@ -122,7 +121,7 @@ impl<A: Allocator> Market<A> {
     }
 }
 
-impl<A: Allocator> Unsettled<A> {
+impl<A: Allocator + Copy> Unsettled<A> {
     /// The reply to a command that traded nothing.
     fn reply(&self, first_trade: u64) -> Reply
         ensures { result ≡ record {

@@ -11,7 +11,7 @@ use xm_rules::{
     Command, Order, OrderKind, PHASE_COMMANDS_MORE, Refusal, Side, is_given_in_range, is_in_range,
 };
 
-impl<A: Allocator> Unsettled<A> {
+impl<A: Allocator + Copy> Unsettled<A> {
     /// Why a command is refused, memory aside: the first of its checks that fails.
     #[tactic(auto, unfolding(xm_rules::specs::Refusals::refusal_of))]
     pub fn refusal_of(&self, command: &Command) -> Option<Refusal>

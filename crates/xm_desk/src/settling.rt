@@ -5,7 +5,7 @@ ghost use Rattle.xm_rules.specs.Settling.{settle};
 use crate::unsettled::Unsettled;
 use std::alloc::Allocator;
 
-impl<A: Allocator> Unsettled<A> {
+impl<A: Allocator + Copy> Unsettled<A> {
     /// Takes the reached stops. No stop is held yet, so none is reached.
     pub fn settle(&mut self)
         ensures { self.new ≡ record self.old { state = settle self.old.state self.old.pending; pending = [] } }

@@ -29,7 +29,7 @@ pub enum Hand {
 /// All that changes orders, trades and stops stands on this. A clause sees a state of the model,
 /// the pending stops, and the order in hand. No stop is held or pending yet.
 #[derive(Drop)]
-pub struct Unsettled<A: Allocator> {
+pub struct Unsettled<A: Allocator + Copy> {
     pub settings: DeskSettings,
     pub accepted: u64,
     pub phase: Phase,
@@ -38,7 +38,7 @@ pub struct Unsettled<A: Allocator> {
     pub hand: Hand,
 }
 
-impl<A: Allocator> Model for Unsettled<A> {
+impl<A: Allocator + Copy> Model for Unsettled<A> {
     ghost use Rattle.std.specs.Prelude.{◌≡◌, ◌+◌, ◌≤◌, [], length};
     ghost use Rattle.xm_book.specs.Places.{SamePlaces};
     ghost use Rattle.xm_desk.specs.Settled.{Unsettled, joined_in, places_in};
@@ -68,7 +68,7 @@ impl<A: Allocator> Model for Unsettled<A> {
     } };
 }
 
-impl<A: Allocator> Unsettled<A> {
+impl<A: Allocator + Copy> Unsettled<A> {
     /// The price of the last trade, or the opening reference.
     pub fn ref1(&self) -> Price
         ensures { result ≡ ref1 self.now.state }

@@ -11,12 +11,14 @@ use clap::Error;
 use std::alloc::Global;
 use std::io::{Read, Write};
 use std::process::ExitCode;
+use std::random::RandomSource;
 use std::rt::{Env, Files};
 use std::{env, io};
 use xm_day::DayFault;
+use xm_names::Seed;
 
 /// Does what the command line asks for, tells on standard error where it can't, and gives the status to end with.
-pub fn run_program<R: Env + AllocGlobal + Files + Print + Eprint>(rt: &R) -> ExitCode
+pub fn run_program<R: Env + AllocGlobal + Files + Print + Eprint + RandomSource>(rt: &R) -> ExitCode
     ensures { exit_status result ≤ 2 }
 {
     let ended = answer(rt);
@@ -24,7 +26,7 @@ pub fn run_program<R: Env + AllocGlobal + Files + Print + Eprint>(rt: &R) -> Exi
 }
 
 /// Does what the command line asks for. Words that ask for help are never a mistake.
-fn answer<R: Env + AllocGlobal + Files + Print>(rt: &R) -> Result<(), Failure>
+fn answer<R: Env + AllocGlobal + Files + Print + RandomSource>(rt: &R) -> Result<(), Failure>
     ensures { IfErr result IsTold }
 {
     let words = read_command_line(rt)?;
@@ -32,7 +34,14 @@ fn answer<R: Env + AllocGlobal + Files + Print>(rt: &R) -> Result<(), Failure>
         Request::Run { segment, orders } => {
             let mut segment = inputs::open_input(rt, segment);
             let mut orders = inputs::open_input(rt, orders);
-            run(rt.alloc(), &mut segment, &mut orders, &mut io::writer(rt))?;
+            let seed = Seed::drawn(rt);
+            run(
+                rt.alloc(),
+                seed,
+                &mut segment,
+                &mut orders,
+                &mut io::writer(rt),
+            )?;
         }
         Request::Help(text) => print_help(rt, text)?,
     }
@@ -62,6 +71,7 @@ fn read_command_line<R: Env + AllocGlobal>(rt: &R) -> Result<Vec<String>, Failur
 /// Writes the statement of the day in two files, and sees that all of it went out.
 pub fn run<S: Read, O: Read, W: Write>(
     alloc: Global,
+    seed: Seed,
     segment: &mut S,
     orders: &mut O,
     out: &mut W,
@@ -69,7 +79,7 @@ pub fn run<S: Read, O: Read, W: Write>(
     ensures ends { RunEnds (S.remaining segment.old) (O.remaining orders.old) (W.contents out.old) (W.contents out.new) result }
     ensures untouched { IfErr result (λ fault. fault ≢ DayFault.WriteFailed → out.new ≡ out.old) }
 {
-    match xm_day::run_alone(alloc, segment, orders, out) {
+    match xm_day::run_alone(alloc, seed, segment, orders, out) {
         Ok(_) => out.flush().map_err(|_| DayFault::WriteFailed),
         Err(fault) => Err(told(fault)),
     }

@@ -1,0 +1,6 @@
+use Rattle.std.proofs.Common.{◌≤◌, refl, arith}
+use Rattle.xm_desk.proofs.market.Market.new.Goals as goal
+
+pub invariant_of-result : goal.invariant_of-result
+invariant_of-result g c =
+    rw (c.new.ensures, c.new-2.ensures) (record { opening = refl; reserved = record { length = refl; counts = λ p. refl }; adds = omega arith; few = omega arith })
