@@ -1,6 +1,7 @@
 mod comparing;
 mod entries;
 mod growths;
+mod levels;
 mod plain;
 mod priority;
 mod side_by_side;
@@ -38,12 +39,12 @@ fn order(side: Side, reference: u32, kind: OrderKind) -> Order {
 }
 
 /// Puts in an order that the book can take.
-fn enter<A: Allocator>(rt: &impl Abort, book: &mut Entries<A>, order: Order) {
+fn enter<A: Allocator + Copy>(rt: &impl Abort, book: &mut Entries<A>, order: Order) {
     assert!(rt; matches!(book.enter(order), Ok(true)));
 }
 
 /// Compares the references of the active orders of a side, by priority.
-fn compare_walk<A: Allocator>(
+fn compare_walk<A: Allocator + Copy>(
     rt: &impl Abort,
     book: &Entries<A>,
     side: Side,

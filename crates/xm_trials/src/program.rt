@@ -10,6 +10,7 @@ use std::io::{Read, Write};
 use std::process::Abort;
 use std::test::Fail;
 use xm_day::{DayFault, FileCause, FileFault, OpenFault};
+use xm_names::Seed;
 use xm_program::{Failure, FaultLine, Input, Request, open_input, read_words, run};
 
 const DAY: &[u8] = b"date = 20260105
@@ -234,9 +235,21 @@ fn unopened_files_fail_in_turn(rt: HostRuntime) {
     assert!(rt; missing.read(&mut [0; 8]).is_err());
     let mut orders: Input<File> = Input::Unopened;
     let mut out = Vec::new(rt.alloc());
-    let both = run(rt.alloc(), &mut missing, &mut orders, &mut out);
+    let both = run(
+        rt.alloc(),
+        Seed::fixed(),
+        &mut missing,
+        &mut orders,
+        &mut out,
+    );
     assert!(rt; both == Err(DayFault::Segment(at!(0, FileCause::ReadFailed))));
-    let one = run(rt.alloc(), &mut &DAY[..], &mut orders, &mut out);
+    let one = run(
+        rt.alloc(),
+        Seed::fixed(),
+        &mut &DAY[..],
+        &mut orders,
+        &mut out,
+    );
     assert!(rt; one == Err(DayFault::Orders(at!(0, FileCause::ReadFailed))));
     assert!(rt; out.is_empty());
 }
@@ -244,11 +257,18 @@ fn unopened_files_fail_in_turn(rt: HostRuntime) {
 #[test]
 fn an_unflushed_statement_is_not_written(rt: HostRuntime) {
     let mut out = Vec::new(rt.alloc());
-    let written = run(rt.alloc(), &mut &DAY[..], &mut &NO_ORDERS[..], &mut out);
+    let written = run(
+        rt.alloc(),
+        Seed::fixed(),
+        &mut &DAY[..],
+        &mut &NO_ORDERS[..],
+        &mut out,
+    );
     assert!(rt; written.is_ok());
     assert!(rt; !out.is_empty());
     let unflushed = run(
         rt.alloc(),
+        Seed::fixed(),
         &mut &DAY[..],
         &mut &NO_ORDERS[..],
         &mut Unflushed,

@@ -5,6 +5,7 @@ use super::{CLOSING, INTRADAY, OPENING};
 use std::alloc::Allocator;
 use std::process::Abort;
 use xm_rules::{Order, Phase, Side};
+use xm_ticks::Price;
 
 /// Compares what each reader answers.
 pub fn compare<A: Allocator + Copy>(rt: &impl Abort, book: &Entries<A>, list: &Plain) {
@@ -55,13 +56,18 @@ pub fn compare_member<A: Allocator + Copy>(
 }
 
 /// Compares what a phase shows of both sides.
-pub fn compare_sides<A: Allocator>(rt: &impl Abort, book: &Entries<A>, list: &Plain, phase: Phase) {
+pub fn compare_sides<A: Allocator + Copy>(
+    rt: &impl Abort,
+    book: &Entries<A>,
+    list: &Plain,
+    phase: Phase,
+) {
     for side in [Side::Buy, Side::Sell] {
         compare_side(rt, book, list, side, phase);
     }
 }
 
-fn compare_side<A: Allocator>(
+fn compare_side<A: Allocator + Copy>(
     rt: &impl Abort,
     book: &Entries<A>,
     list: &Plain,
@@ -70,13 +76,31 @@ fn compare_side<A: Allocator>(
 ) {
     same(rt, book.best(side, phase), list.best(side, phase));
     assert!(rt; book.best_limit(side, phase) == list.best_limit(side, phase));
+    assert_eq!(rt; book.market_sum(side, phase), list.market_sum(side, phase));
+    compare_level(rt, book, list, side, phase, None);
+    for price in 99..113 {
+        compare_level(rt, book, list, side, phase, Price::new(price));
+    }
     for order in list.orders() {
         compare_next(rt, book, list, side, phase, order);
     }
 }
 
+/// Compares the best levels that are worse than a limit, or of all.
+fn compare_level<A: Allocator + Copy>(
+    rt: &impl Abort,
+    book: &Entries<A>,
+    list: &Plain,
+    side: Side,
+    phase: Phase,
+    after: Option<Price>,
+) {
+    let level = list.level_after(side, phase, after);
+    assert!(rt; book.level_after(side, phase, after) == level);
+}
+
 /// Compares what comes after the order of a name, which may be unknown.
-pub fn compare_next<A: Allocator>(
+pub fn compare_next<A: Allocator + Copy>(
     rt: &impl Abort,
     book: &Entries<A>,
     list: &Plain,

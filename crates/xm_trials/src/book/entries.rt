@@ -7,18 +7,19 @@ ghost use Rattle.xm_rules.specs.Commands.{is_in_range};
 use std::alloc::Allocator;
 use std::marker::Model;
 use xm_book::{Book, Place};
+use xm_names::Seed;
 use xm_rules::{Order, OutOfMemory, Phase, Side};
 use xm_ticks::Price;
 
 /// A book with no reserved place, which takes up to 1,000,000 orders in all. What its calls answer
 /// is for a test to compare, so they promise nothing.
 #[derive(Drop)]
-pub struct Entries<A: Allocator> {
+pub struct Entries<A: Allocator + Copy> {
     book: Book<A>,
     entered: u64,
 }
 
-impl<A: Allocator> Model for Entries<A> {
+impl<A: Allocator + Copy> Model for Entries<A> {
     ghost use Rattle.std.specs.Prelude.{◌≡◌, ◌≤◌, List, []};
     ghost use Rattle.xm_rules.specs.declared.orders.Order.{Order};
 
@@ -36,7 +37,7 @@ impl<A: Allocator> Model for Entries<A> {
 impl<A: Allocator + Copy> Entries<A> {
     pub fn new(alloc: A) -> Entries<A> {
         Entries {
-            book: Book::new(alloc),
+            book: Book::new(alloc, Seed::fixed()),
             entered: 0,
         }
     }
@@ -48,9 +49,7 @@ impl<A: Allocator + Copy> Entries<A> {
     pub fn of_member(&self, member: u32) -> Result<Vec<u32, A>, OutOfMemory> {
         self.book.of_member(member)
     }
-}
 
-impl<A: Allocator> Entries<A> {
     pub fn len(&self) -> usize {
         self.book.len()
     }
@@ -69,6 +68,19 @@ impl<A: Allocator> Entries<A> {
 
     pub fn best_limit(&self, side: Side, phase: Phase) -> Option<Price> {
         self.book.best_limit(side, phase)
+    }
+
+    pub fn market_sum(&self, side: Side, phase: Phase) -> u64 {
+        self.book.market_sum(side, phase)
+    }
+
+    pub fn level_after(
+        &self,
+        side: Side,
+        phase: Phase,
+        after: Option<Price>,
+    ) -> Option<(Price, u64)> {
+        self.book.level_after(side, phase, after)
     }
 
     /// Puts in an order, and answers whether the book can take it: not one of a known name, nor one
@@ -130,7 +142,7 @@ fn is_in_range(rest: u32) -> bool
     1 <= rest && rest <= 1_000_000
 }
 
-fn join<A: Allocator>(book: &mut Book<A>, order: Order) -> Result<(), OutOfMemory>
+fn join<A: Allocator + Copy>(book: &mut Book<A>, order: Order) -> Result<(), OutOfMemory>
     requires name { is_known order.member order.reference book.old ≡ false }
     requires rest { IsTrue (is_in_range order.rest) }
     requires few { length book.old.orders < 1999999 }
@@ -145,7 +157,7 @@ fn join<A: Allocator>(book: &mut Book<A>, order: Order) -> Result<(), OutOfMemor
     Ok(())
 }
 
-fn exchange<A: Allocator>(book: &mut Book<A>, order: Order) -> Result<(), OutOfMemory>
+fn exchange<A: Allocator + Copy>(book: &mut Book<A>, order: Order) -> Result<(), OutOfMemory>
     requires rest { IsTrue (is_in_range order.rest) }
     requires few { length book.old.orders < 1999999 }
     requires adds { book.old.adds < 2 ^ 63 }
@@ -161,7 +173,10 @@ fn exchange<A: Allocator>(book: &mut Book<A>, order: Order) -> Result<(), OutOfM
 }
 
 // Reserves a place and gives it up.
-fn reserve_and_release<A: Allocator>(book: &mut Book<A>, place: &Place) -> Result<(), OutOfMemory>
+fn reserve_and_release<A: Allocator + Copy>(
+    book: &mut Book<A>,
+    place: &Place,
+) -> Result<(), OutOfMemory>
     requires { length book.old.orders + length book.old.reserved < 2000000 }
     ensures rest { book.new ≡ record book.old { reserved = book.new.reserved } }
     ensures places { SamePlaces book.new.reserved book.old.reserved }
@@ -172,7 +187,7 @@ fn reserve_and_release<A: Allocator>(book: &mut Book<A>, place: &Place) -> Resul
 }
 
 // Reserves a place, and meanwhile once more.
-fn reserve_twice<A: Allocator>(book: &mut Book<A>, place: &Place) -> Result<(), OutOfMemory>
+fn reserve_twice<A: Allocator + Copy>(book: &mut Book<A>, place: &Place) -> Result<(), OutOfMemory>
     requires few { length book.old.orders < 1999999 }
     requires unreserved { book.old.reserved ≡ [] }
     ensures adds { book.new.adds ≡ book.old.adds }

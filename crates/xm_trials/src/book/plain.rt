@@ -30,10 +30,15 @@ fn is_active(order: &Order, side: Side, phase: Phase) -> bool {
 fn rank(order: &Order) -> u32 {
     match order.kind {
         OrderKind::Market => 0,
-        OrderKind::Limit(price) => match order.side {
-            Side::Buy => u32::MAX - price.get(),
-            Side::Sell => price.get(),
-        },
+        OrderKind::Limit(price) => limit_rank(order.side, price),
+    }
+}
+
+/// The lower, the better.
+fn limit_rank(side: Side, price: Price) -> u32 {
+    match side {
+        Side::Buy => u32::MAX - price.get(),
+        Side::Sell => price.get(),
     }
 }
 
@@ -81,6 +86,35 @@ impl Plain {
             None => None,
             Some(order) => limit(&order),
         }
+    }
+
+    pub fn market_sum(&self, side: Side, phase: Phase) -> u64 {
+        self.sum_at(side, phase, None)
+    }
+
+    pub fn level_after(
+        &self,
+        side: Side,
+        phase: Phase,
+        after: Option<Price>,
+    ) -> Option<(Price, u64)> {
+        let from = match after {
+            None => 1,
+            Some(price) => limit_rank(side, price).wrapping_add(1),
+        };
+        let best = limit(&self.first_from(side, phase, (from, 0))?)?;
+        Some((best, self.sum_at(side, phase, Some(best))))
+    }
+
+    /// The sum of the rests of the active orders of a limit, or of market orders.
+    fn sum_at(&self, side: Side, phase: Phase, at: Option<Price>) -> u64 {
+        let mut sum: u64 = 0;
+        for order in &self.orders {
+            if is_active(order, side, phase) && limit(order) == at {
+                sum = sum.wrapping_add(u64::from(order.rest));
+            }
+        }
+        sum
     }
 
     pub fn next_after(&self, side: Side, phase: Phase, order: Order) -> Option<Order> {

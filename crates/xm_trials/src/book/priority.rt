@@ -42,7 +42,12 @@ fn at(phase: Phase, references: &[u32], best_limit: Option<u32>) -> Shown<'_> {
     }
 }
 
-fn compare<A: Allocator>(rt: &impl Abort, book: &Entries<A>, side: Side, shown: &[Shown<'_>]) {
+fn compare<A: Allocator + Copy>(
+    rt: &impl Abort,
+    book: &Entries<A>,
+    side: Side,
+    shown: &[Shown<'_>],
+) {
     for view in shown {
         compare_walk(rt, book, side, view.phase, view.references);
         let best_limit = book.best_limit(side, view.phase);

@@ -70,7 +70,12 @@ impl Numbers {
     }
 }
 
-fn enter<A: Allocator>(rt: &impl Abort, book: &mut Entries<A>, list: &mut Plain, order: &Order) {
+fn enter<A: Allocator + Copy>(
+    rt: &impl Abort,
+    book: &mut Entries<A>,
+    list: &mut Plain,
+    order: &Order,
+) {
     let is_new = list.find(order.member, order.reference).is_none();
     assert!(rt; book.enter(*order) == Ok(is_new));
     if is_new {
@@ -78,7 +83,12 @@ fn enter<A: Allocator>(rt: &impl Abort, book: &mut Entries<A>, list: &mut Plain,
     }
 }
 
-fn replace<A: Allocator>(rt: &impl Abort, book: &mut Entries<A>, list: &mut Plain, order: &Order) {
+fn replace<A: Allocator + Copy>(
+    rt: &impl Abort,
+    book: &mut Entries<A>,
+    list: &mut Plain,
+    order: &Order,
+) {
     let known = list.find(order.member, order.reference).is_some();
     assert!(rt; book.replace(*order) == Ok(known));
     if known {
@@ -87,7 +97,7 @@ fn replace<A: Allocator>(rt: &impl Abort, book: &mut Entries<A>, list: &mut Plai
     }
 }
 
-fn remove<A: Allocator>(
+fn remove<A: Allocator + Copy>(
     rt: &impl Abort,
     book: &mut Entries<A>,
     list: &mut Plain,
@@ -102,7 +112,12 @@ fn remove<A: Allocator>(
     list.remove(member, reference);
 }
 
-fn reduce<A: Allocator>(rt: &impl Abort, book: &mut Entries<A>, list: &mut Plain, to: &Order) {
+fn reduce<A: Allocator + Copy>(
+    rt: &impl Abort,
+    book: &mut Entries<A>,
+    list: &mut Plain,
+    to: &Order,
+) {
     let falls = match list.find(to.member, to.reference) {
         None => false,
         Some(present) => to.rest <= present.rest,
@@ -113,7 +128,7 @@ fn reduce<A: Allocator>(rt: &impl Abort, book: &mut Entries<A>, list: &mut Plain
     }
 }
 
-fn turn<A: Allocator>(
+fn turn<A: Allocator + Copy>(
     rt: &impl Abort,
     book: &mut Entries<A>,
     list: &mut Plain,

@@ -6,6 +6,7 @@ use std::io::{ErrorKind, Read};
 use std::process::Abort;
 use std::test::Fail;
 use xm_day::{DayFault, DayReport, FileCause, FileFault, OpenFault, run_alone};
+use xm_names::Seed;
 
 const STATEMENT: &str = "DAY 20260105
 SECURITY XYZ opening-call
@@ -30,7 +31,7 @@ fn is_written(
     refused: u64,
 ) -> Result<(), Fail> {
     let mut out = Vec::new(rt.alloc());
-    let report = run_alone(rt.alloc(), segment, orders, &mut out)?;
+    let report = run_alone(rt.alloc(), Seed::fixed(), segment, orders, &mut out)?;
     assert!(rt; (report.accepted, report.refused) == (5, refused));
     assert!(rt; out.as_slice() == written(rt.alloc(), refused)?.as_bytes());
     Ok(())
@@ -44,7 +45,7 @@ fn has_fault(
     fault: DayFault,
 ) {
     let mut out = Vec::new(rt.alloc());
-    let answer = run_alone(rt.alloc(), segment, orders, &mut out);
+    let answer = run_alone(rt.alloc(), Seed::fixed(), segment, orders, &mut out);
     assert_eq!(rt; answer.err(), Some(fault));
     assert!(rt; out.is_empty());
 }
@@ -125,6 +126,7 @@ fn fails_after(rt: &(impl Abort + AllocGlobal), start: &[u8], failure: Option<Er
     let mut out = ShortWriter::new(rt.alloc(), start.len(), failure);
     let answer = run_alone(
         rt.alloc(),
+        Seed::fixed(),
         &mut SEGMENT.as_bytes(),
         &mut ORDERS.as_bytes(),
         &mut out,

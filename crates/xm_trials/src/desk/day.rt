@@ -4,6 +4,7 @@ use std::marker::Model;
 use std::process::Abort;
 use std::test::Fail;
 use xm_desk::Desk;
+use xm_names::Seed;
 use xm_rules::{Command, DeskSettings, Order, OutOfMemory, Phase, Refusal, Reply};
 
 /// A command with the version or the refusal that it is answered with.
@@ -32,11 +33,11 @@ pub fn run(rt: &(impl Abort + AllocGlobal), limit: u32, stages: &[Stage]) -> Res
 /// A desk under test. A clause sees nothing of it: the proof of a test is long where it follows what
 /// each call promises.
 #[derive(Drop)]
-pub struct Day<A: Allocator> {
+pub struct Day<A: Allocator + Copy> {
     desk: Desk<A>,
 }
 
-impl<A: Allocator> Model for Day<A> {
+impl<A: Allocator + Copy> Model for Day<A> {
     ghost Value = { Unit };
 
     ghost view = { λ _. tt };
@@ -46,7 +47,7 @@ impl<A: Allocator + Copy> Day<A> {
     /// A day before the opening, whose journal takes this many commands of a member.
     pub fn open(alloc: A, limit: u32) -> Result<Day<A>, Fail> {
         Ok(Day {
-            desk: Desk::open(alloc, settings(limit)?)?,
+            desk: Desk::open(alloc, Seed::fixed(), settings(limit)?)?,
         })
     }
 
@@ -101,21 +102,7 @@ impl<A: Allocator + Copy> Day<A> {
             Err(OutOfMemory) => panic!(rt; "no memory for the orders"),
         }
     }
-}
 
-fn is_bought(order: &Order, expected: Bought) -> bool {
-    let (member, reference, limit, rest) = expected;
-    bought(member, reference, limit, rest) == Some(*order)
-}
-
-fn are_buys(rt: &impl Abort, orders: &[Order], expected: &[Bought]) {
-    assert_eq!(rt; orders.len(), expected.len());
-    for (order, expected) in orders.iter().zip(expected) {
-        assert!(rt; is_bought(order, *expected));
-    }
-}
-
-impl<A: Allocator> Day<A> {
     pub fn settings(&self) -> DeskSettings {
         self.desk.settings()
     }
@@ -131,5 +118,17 @@ impl<A: Allocator> Day<A> {
 
     pub fn journal(&self) -> &[Command] {
         self.desk.journal()
+    }
+}
+
+fn is_bought(order: &Order, expected: Bought) -> bool {
+    let (member, reference, limit, rest) = expected;
+    bought(member, reference, limit, rest) == Some(*order)
+}
+
+fn are_buys(rt: &impl Abort, orders: &[Order], expected: &[Bought]) {
+    assert_eq!(rt; orders.len(), expected.len());
+    for (order, expected) in orders.iter().zip(expected) {
+        assert!(rt; is_bought(order, *expected));
     }
 }

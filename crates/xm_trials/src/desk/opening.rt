@@ -1,6 +1,7 @@
 use super::settings;
 use std::test::Fail;
 use xm_desk::{Desk, OpenFault};
+use xm_names::Seed;
 use xm_rules::{DeskSettings, Widths};
 
 #[test]
@@ -25,7 +26,7 @@ fn opening_faults(rt: HostRuntime) -> Result<(), Fail> {
             widths,
             ..settings(100)?
         };
-        assert_eq!(rt; Desk::open(rt.alloc(), changed).err(), fault);
+        assert_eq!(rt; Desk::open(rt.alloc(), Seed::fixed(), changed).err(), fault);
     }
     let texts = [
         (OpenFault::NoSecurity, "no security"),

@@ -9,6 +9,7 @@ use std::fmt::Display;
 use std::fs::{Metadata, OpenFile, OpenOptions};
 use std::io;
 use std::io::{Read, Seek, SeekFrom, Write};
+use std::random::RandomSource;
 use std::rt::{Env, Files};
 
 /// What becomes of what is printed on a stream.
@@ -101,6 +102,13 @@ impl Print for Call<'_> {
             (Stream::Kept, Ok(text)) => self.keep(&self.printed, text),
             _ => Err(io::Error::from(io::ErrorKind::StorageFull)),
         }
+    }
+}
+
+// No random numbers: names are hashed by the fixed seed.
+impl RandomSource for Call<'_> {
+    fn fill_bytes(&self, _buf: &mut [u8]) -> io::Result<()> {
+        unsupported()
     }
 }
 

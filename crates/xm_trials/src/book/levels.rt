@@ -1,0 +1,57 @@
+//! The levels of a side, and its market orders.
+use super::entries::Entries;
+use super::{CLOSING, OPENING, enter, order};
+use std::process::Abort;
+use xm_rules::{Order, OrderKind, Phase, Restriction, Side};
+use xm_ticks::Price;
+
+/// A limit or none, the restriction, and the rest.
+const BUYS: [(Option<u32>, Restriction, u32); 4] = [
+    (Some(100), Restriction::Free, 5),
+    (Some(100), Restriction::AuctionsOnly, 7),
+    (Some(99), Restriction::Free, 3),
+    (None, Restriction::Free, 4),
+];
+
+/// What a phase shows: the sum of market orders, then the levels from the best one on.
+const SHOWN: [(Phase, u64, &[(u32, u64)]); 5] = [
+    (Phase::PreTrading, 0, &[]),
+    (OPENING, 4, &[(100, 12), (99, 3)]),
+    (CLOSING, 4, &[(100, 12), (99, 3)]),
+    (Phase::Continuous, 4, &[(100, 5), (99, 3)]),
+    (Phase::PostTrading, 0, &[]),
+];
+
+fn kind_of(limit: Option<u32>) -> OrderKind {
+    match limit.and_then(Price::new) {
+        None => OrderKind::Market,
+        Some(price) => OrderKind::Limit(price),
+    }
+}
+
+#[test]
+fn a_level_counts_its_active_orders_alone(rt: HostRuntime) {
+    let mut book = Entries::new(rt.alloc());
+    let mut reference: u32 = 0;
+    for (limit, restriction, rest) in &BUYS {
+        reference = reference.wrapping_add(1);
+        let entered = Order {
+            restriction: *restriction,
+            rest: *rest,
+            ..order(Side::Buy, reference, kind_of(*limit))
+        };
+        enter(&rt, &mut book, entered);
+    }
+    for (phase, market, levels) in &SHOWN {
+        assert_eq!(&rt; book.market_sum(Side::Buy, *phase), *market);
+        assert_eq!(&rt; book.market_sum(Side::Sell, *phase), 0);
+        let mut after = None;
+        for (price, units) in *levels {
+            let level = book.level_after(Side::Buy, *phase, after);
+            after = Price::new(*price);
+            assert!(&rt; level.map(|(price, _)| price) == after);
+            assert!(&rt; level.map(|(_, units)| units) == Some(*units));
+        }
+        assert!(&rt; book.level_after(Side::Buy, *phase, after).is_none());
+    }
+}
