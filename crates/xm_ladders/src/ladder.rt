@@ -13,10 +13,19 @@ use xm_ticks::Price;
 
 /// The market orders of one side and restriction, and a level for each limit that has an order. `reserve` makes room,
 /// and nothing else takes memory.
-#[derive(Drop)]
 pub struct Ladder<A: Allocator + Copy> {
     market: Level,
     limits: Levels<Level, A>,
+}
+
+// In a function of its own, so that whoever drops a ladder proves one call.
+impl<A: Allocator + Copy> Drop for Ladder<A> {
+    fn drop(self) {
+        let Ladder {
+            market: _,
+            limits: _limits,
+        } = self;
+    }
 }
 
 impl<A: Allocator + Copy> Model for Ladder<A> {

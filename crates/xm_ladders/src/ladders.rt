@@ -12,12 +12,22 @@ use std::alloc::Allocator;
 use xm_rules::{Restriction, Side};
 
 /// The ladders of one side.
-#[derive(Drop)]
 pub struct SideLadders<A: Allocator + Copy> {
     free: Ladder<A>,
     opening_only: Ladder<A>,
     auctions_only: Ladder<A>,
     closing_only: Ladder<A>,
+}
+
+impl<A: Allocator + Copy> Drop for SideLadders<A> {
+    fn drop(self) {
+        let SideLadders {
+            free: _free,
+            opening_only: _opening_only,
+            auctions_only: _auctions_only,
+            closing_only: _closing_only,
+        } = self;
+    }
 }
 
 impl<A: Allocator + Copy> SideLadders<A> {
