@@ -77,9 +77,9 @@ fn compare_side<A: Allocator + Copy>(
     same(rt, book.best(side, phase), list.best(side, phase));
     assert!(rt; book.best_limit(side, phase) == list.best_limit(side, phase));
     assert_eq!(rt; book.market_sum(side, phase), list.market_sum(side, phase));
-    compare_level(rt, book, list, side, phase, None);
+    compare_level(rt, book, list, side, phase, &None);
     for price in 99..113 {
-        compare_level(rt, book, list, side, phase, Price::new(price));
+        compare_level(rt, book, list, side, phase, &Price::new(price));
     }
     for order in list.orders() {
         compare_next(rt, book, list, side, phase, order);
@@ -93,7 +93,7 @@ fn compare_level<A: Allocator + Copy>(
     list: &Plain,
     side: Side,
     phase: Phase,
-    after: Option<Price>,
+    after: &Option<Price>,
 ) {
     let level = list.level_after(side, phase, after);
     assert!(rt; book.level_after(side, phase, after) == level);

@@ -78,9 +78,9 @@ impl<A: Allocator + Copy> Entries<A> {
         &self,
         side: Side,
         phase: Phase,
-        after: Option<Price>,
+        after: &Option<Price>,
     ) -> Option<(Price, u64)> {
-        self.book.level_after(side, phase, after)
+        self.book.level_after(side, phase, *after)
     }
 
     /// Puts in an order, and answers whether the book can take it: not one of a known name, nor one

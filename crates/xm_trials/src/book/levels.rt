@@ -1,6 +1,7 @@
 //! The levels of a side, and its market orders.
 use super::entries::Entries;
 use super::{CLOSING, OPENING, enter, order};
+use std::alloc::Allocator;
 use std::process::Abort;
 use xm_rules::{Order, OrderKind, Phase, Restriction, Side};
 use xm_ticks::Price;
@@ -45,13 +46,31 @@ fn a_level_counts_its_active_orders_alone(rt: HostRuntime) {
     for (phase, market, levels) in &SHOWN {
         assert_eq!(&rt; book.market_sum(Side::Buy, *phase), *market);
         assert_eq!(&rt; book.market_sum(Side::Sell, *phase), 0);
-        let mut after = None;
-        for (price, units) in *levels {
-            let level = book.level_after(Side::Buy, *phase, after);
-            after = Price::new(*price);
-            assert!(&rt; level.map(|(price, _)| price) == after);
-            assert!(&rt; level.map(|(_, units)| units) == Some(*units));
-        }
-        assert!(&rt; book.level_after(Side::Buy, *phase, after).is_none());
+        compare_levels(&rt, &book, *phase, levels);
     }
+}
+
+/// Compares the levels of the buy side with these, from the best one on.
+fn compare_levels<A: Allocator + Copy>(
+    rt: &impl Abort,
+    book: &Entries<A>,
+    phase: Phase,
+    levels: &[(u32, u64)],
+) {
+    // No price is 0, so the first is the best of all.
+    let mut after = 0;
+    for (price, units) in levels {
+        match book.level_after(Side::Buy, phase, &Price::new(after)) {
+            None => panic!(rt; "no level at {price}"),
+            Some((limit, sum)) => {
+                assert_eq!(rt; limit.get(), *price);
+                assert_eq!(rt; sum, *units);
+            }
+        }
+        after = *price;
+    }
+    assert!(rt;
+        book.level_after(Side::Buy, phase, &Price::new(after))
+            .is_none()
+    );
 }

@@ -96,14 +96,19 @@ impl Plain {
         &self,
         side: Side,
         phase: Phase,
-        after: Option<Price>,
+        after: &Option<Price>,
     ) -> Option<(Price, u64)> {
         let from = match after {
             None => 1,
-            Some(price) => limit_rank(side, price).wrapping_add(1),
+            Some(price) => limit_rank(side, *price).wrapping_add(1),
         };
-        let best = limit(&self.first_from(side, phase, (from, 0))?)?;
-        Some((best, self.sum_at(side, phase, Some(best))))
+        match self.first_from(side, phase, (from, 0)) {
+            None => None,
+            Some(order) => match limit(&order) {
+                None => None,
+                Some(best) => Some((best, self.sum_at(side, phase, Some(best)))),
+            },
+        }
     }
 
     /// The sum of the rests of the active orders of a limit, or of market orders.
