@@ -21,6 +21,10 @@ const COMMANDS: [Command; 10] = [
     buy!(0, 2, 990, 7),
 ];
 
+/// The list of orders after each of the ten commands makes good one refusal: it first asks for room for all of them, and
+/// grows as it goes where it can't have that.
+const MADE_GOOD: u64 = 10;
+
 /// How often a call answered for want of memory.
 #[derive(Drop)]
 struct Refused {
@@ -110,7 +114,8 @@ fn each_growth_refused_in_turn(rt: HostRuntime) -> Result<(), Fail> {
     };
     for nth in 1..100 {
         if !refused.run(&rt, rt.alloc(), nth)? {
-            assert_eq!(rt; refused.commands.wrapping_add(refused.lists), nth - 1);
+            let answered = refused.commands.wrapping_add(refused.lists);
+            assert_eq!(rt; answered.wrapping_add(MADE_GOOD), nth - 1);
             assert!(rt; refused.commands > 0 && refused.lists > 0);
             return Ok(());
         }
