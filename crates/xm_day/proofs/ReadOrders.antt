@@ -1,5 +1,5 @@
 -- The fault of an order file, of which the bytes may be unknown.
-use Rattle.std.proofs.Common.{◌≡◌, ◌≢◌, ℕ, ◌≤◌, List, length, Option, Some, None, Result, Ok, Err, IfErr, IfSome, le-ltb, ◌∙◌, ap, sym}
+use Rattle.std.proofs.Common.{◌≡◌, ◌≢◌, ℕ, ◌≤◌, List, length, Option, Some, None, Result, Ok, Err, IfErr, IfSome, le-ltb}
 use Rattle.std.specs.Bool.{OnFalse}
 use Rattle.csv.specs.Reading.{default_config, records, strip_bom}
 use Rattle.xm_day.specs.FileFaults.{is_from_outside, max_bytes}
@@ -9,7 +9,6 @@ use Rattle.xm_day.specs.declared.config.SegmentConfig.{SegmentConfig}
 use Rattle.xm_day.specs.declared.file_faults.FileCause.{FileCause}
 use Rattle.xm_day.specs.declared.file_faults.FileCause.TheVariants.{ReadFailed, OutOfMemory}
 use Rattle.xm_day.specs.declared.file_faults.FileFault.{FileFault}
-use Rattle.xm_day.specs.declared.rows.Row.{Row}
 
 -- what holds where memory isn't wanting holds of a cause that the bytes decide
 of_bytes : {P : Type 0} (cause : FileCause) → (cause ≢ OutOfMemory → P) → OnFalse (is_from_outside cause) P

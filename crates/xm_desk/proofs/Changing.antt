@@ -1,9 +1,9 @@
 -- The change of an order, where no stop is held: its checks, and what it leaves.
-use Rattle.std.proofs.Common.{◌≡◌, ◌∙◌, ℕ, Bool, true, false, ◌||◌, ◌&&◌, not, if◌then◌else◌, List, [], find, Option, Some, None, refl, ap, sym}
+use Rattle.std.proofs.Common.{◌≡◌, ◌∙◌, ℕ, Bool, true, false, ◌||◌, not, if◌then◌else◌, find, Option, Some, None, refl, ap, sym}
 use Rattle.std.specs.Prelude.{is_some}
 use Rattle.std.specs.List.{list_any}
 use Rattle.xm_desk.proofs.Named.{any-find, find-named}
-use Rattle.xm_rules.proofs.Accepted.{ChangePasses, change-accepted}
+use Rattle.xm_rules.proofs.Accepted.{change-accepted}
 use Rattle.xm_rules.specs.Commands.{is_in_range}
 use Rattle.xm_rules.specs.Orders.{is_named}
 use Rattle.xm_rules.specs.Refusals.{first_failing, has_order, has_stop, is_given_in_range, is_limit_for_market, own_checks, refusal_of}

@@ -1,5 +1,5 @@
 -- What an accepted entry is known to be.
-use Rattle.std.proofs.Common.{◌≡◌, ◌∙◌, ℕ, Bool, true, false, ◌||◌, Option, Some, None, find, refl, ap, sym, subst}
+use Rattle.std.proofs.Common.{◌≡◌, Some, None, subst}
 use Rattle.xm_desk.specs.Entries.{command_of, entry_in}
 use Rattle.xm_desk.specs.declared.entries.Entry.{Entry}
 use Rattle.xm_rules.proofs.Accepted.{EntryPasses, entry-accepted}

@@ -1,11 +1,10 @@
 -- The places that are reserved for the order in hand.
-use Rattle.std.proofs.Common.{◌≡◌, ◌∙◌, ℕ, ◌+◌, ◌≤◌, Bool, true, List, [], ◌∷◌, length, refl, arith, subst}
-use Rattle.std.specs.Prelude.{count_by, filter}
+use Rattle.std.proofs.Common.{◌≡◌, ◌≤◌, Bool, true, List, [], ◌∷◌, length, refl, arith, subst}
+use Rattle.std.specs.Prelude.{filter}
 use Rattle.std.specs.List.{list_any}
 use Rattle.std.proofs.lemmas.List.Sums.{count_by-le-length, length-filter}
 use Rattle.xm_book.proofs.Reserving.{reserved-there}
 use Rattle.xm_book.specs.Places.{SamePlaces, same_place}
-use Rattle.xm_book.specs.TimeList.{TimeList, Reserves}
 use Rattle.xm_book.specs.declared.places.Place.{Place}
 use Rattle.xm_desk.specs.Settled.{places_in}
 use Rattle.xm_desk.specs.declared.unsettled.Hand.{Hand}

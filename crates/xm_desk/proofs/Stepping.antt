@@ -1,12 +1,11 @@
 -- A command is taken by what it does, by settling, and by counting it.
-use Rattle.std.proofs.Common.{◌≡◌, ◌∙◌, ◌+◌, List, [], refl, ap, sym}
+use Rattle.std.proofs.Common.{◌≡◌, ◌∙◌, List, [], ap}
 use Rattle.xm_desk.specs.Settled.{Unsettled, played}
 use Rattle.xm_rules.proofs.Kept.{act-keeps, settle-keeps}
 use Rattle.xm_rules.specs.Settling.{settle}
 use Rattle.xm_rules.specs.State.{State}
 use Rattle.xm_rules.specs.Step.{act}
 use Rattle.xm_rules.specs.declared.commands.Command.{Command}
-use Rattle.xm_rules.specs.declared.settings.DeskSettings.{DeskSettings}
 use Rattle.xm_rules.specs.declared.orders.Stop.{Stop}
 
 -- the state after settling, where none was pending before

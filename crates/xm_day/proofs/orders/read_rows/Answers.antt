@@ -1,5 +1,3 @@
-use Rattle.std.proofs.Common.{◌≡◌, Err, List, ℕ, IfErr, subst}
-use Rattle.csv.specs.Reading.{default_config, records, strip_bom}
 use Rattle.xm_day.proofs.ReadOrders.{reads-fault}
 use Rattle.xm_day.proofs.orders.read_rows.Goals as goal
 

@@ -1,7 +1,4 @@
 use Rattle.std.proofs.Common.{◌≡◌, ◌∙◌, List, Some, None, [], ◌∷◌, ◌++◌, ap, sym, subst, rules, true}
-use Rattle.xm_desk.specs.Growth.{hand_for}
-use Rattle.xm_desk.specs.Settled.{Settled}
-use Rattle.xm_desk.specs.declared.unsettled.Hand.TheVariants.{Empty}
 use Rattle.xm_rules.proofs.Journals.{is_lawful-push, journal_of, replay-push}
 use Rattle.xm_rules.proofs.Kept.{step-settings}
 use Rattle.xm_rules.proofs.Memory.{refusal-not_memory}

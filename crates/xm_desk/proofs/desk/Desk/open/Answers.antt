@@ -1,8 +1,8 @@
-use Rattle.std.proofs.Common.{◌≡◌, ◌∙◌, List, [], ap, sym, subst, true, refl}
+use Rattle.std.proofs.Common.{◌≡◌, ◌∙◌, [], ap, sym, refl}
 use Rattle.xm_desk.specs.Settled.{Settled}
 use Rattle.xm_rules.proofs.Journals.{is_lawful-opening, journal_of, replay-opening}
 use Rattle.xm_rules.specs.Settling.{is_continuous}
-use Rattle.xm_rules.specs.Step.{Journal, is_lawful, replay}
+use Rattle.xm_rules.specs.Step.{is_lawful, replay}
 use Rattle.xm_desk.proofs.desk.Desk.open.Goals as goal
 
 pub invariant_of-result : goal.invariant_of-result

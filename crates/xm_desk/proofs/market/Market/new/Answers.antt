@@ -1,4 +1,4 @@
-use Rattle.std.proofs.Common.{◌≤◌, refl, arith}
+use Rattle.std.proofs.Common.{refl, arith}
 use Rattle.xm_desk.proofs.market.Market.new.Goals as goal
 
 pub invariant_of-result : goal.invariant_of-result

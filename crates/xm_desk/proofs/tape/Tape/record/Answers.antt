@@ -1,8 +1,7 @@
-use Rattle.std.proofs.Common.{◌≡◌, ◌∙◌, ℕ, ◌++◌, ◌∷◌, [], if◌then◌else◌, List, ap, sym}
+use Rattle.std.proofs.Common.{◌≡◌, ◌∙◌, ℕ, ◌++◌, ◌∷◌, [], if◌then◌else◌, ap, sym}
 use Rattle.xm_book.specs.Trades.{TradeList}
 use Rattle.xm_desk.proofs.Tapes.{last_auction_price-push, last_price-push}
 use Rattle.xm_rules.specs.State.{is_auction, last_auction_price, last_price}
-use Rattle.xm_rules.specs.declared.orders.Trade.{Trade}
 use Rattle.xm_desk.proofs.tape.Tape.record.Goals as goal
 
 pub invariant_of-self : goal.invariant_of-self

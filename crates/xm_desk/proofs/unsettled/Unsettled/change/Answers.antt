@@ -1,4 +1,4 @@
-use Rattle.std.proofs.Common.{◌≡◌, ◌∙◌, ◌&&◌, ◌≤◌, true, false, List, [], Option, Some, None, find, rules, ap, sym, arith, length, not}
+use Rattle.std.proofs.Common.{◌≡◌, ◌∙◌, true, false, List, [], Some, find, rules, ap, sym, arith, length, not}
 use Rattle.std.specs.Prelude.{nat_le}
 use Rattle.std.proofs.lemmas.Bool.{and_parts}
 use Rattle.std.proofs.lemmas.Bool.Decides.{nat_tests}

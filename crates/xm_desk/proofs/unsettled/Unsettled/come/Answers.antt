@@ -1,4 +1,4 @@
-use Rattle.std.proofs.Common.{◌≡◌, ◌∙◌, ap, arith, rules}
+use Rattle.std.proofs.Common.{◌≡◌, ◌∙◌, ap, rules}
 use Rattle.xm_book.specs.Places.{place_of}
 use Rattle.xm_desk.proofs.Hands.{kept-there}
 use Rattle.xm_desk.specs.Settled.{Unsettled, joined_in}

@@ -1,4 +1,4 @@
-use Rattle.std.proofs.Common.{◌≡◌, Some, None, rules, sym, subst}
+use Rattle.std.proofs.Common.{◌≡◌, Some, None, rules, subst}
 use Rattle.xm_desk.proofs.Entering.{entry-lawful, entry-passes}
 use Rattle.xm_desk.specs.Entries.{entry_in}
 use Rattle.xm_rules.proofs.Accepted.{change-accepted}

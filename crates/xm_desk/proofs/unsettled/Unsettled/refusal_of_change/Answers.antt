@@ -1,10 +1,9 @@
-use Rattle.std.proofs.Common.{◌≡◌, ◌∙◌, true, false, find, refl, Option, None, Some, rules, ap, sym}
+use Rattle.std.proofs.Common.{◌≡◌, ◌∙◌, true, false, find, refl, None, Some, rules, ap, sym}
 use Rattle.xm_desk.proofs.Changing.{change-checks, checks_of}
 use Rattle.xm_desk.specs.Settled.{Unsettled}
 use Rattle.xm_rules.specs.Commands.{is_in_range}
 use Rattle.xm_rules.specs.Orders.{is_named}
 use Rattle.xm_rules.specs.Refusals.{is_limit_for_market}
-use Rattle.xm_rules.specs.declared.orders.Order.{Order}
 use Rattle.xm_rules.specs.declared.replies.Refusal.TheVariants.{BadQuantity}
 use Rattle.xm_desk.proofs.unsettled.Unsettled.refusal_of_change.Goals as goal
 

@@ -1,8 +1,7 @@
-use Rattle.std.proofs.Common.{◌≡◌, ◌∙◌, List, ap, length, arith, rules}
+use Rattle.std.proofs.Common.{◌≡◌, ◌∙◌, List, ap, length, rules}
 use Rattle.xm_book.specs.declared.places.Place.{Place}
 use Rattle.xm_desk.proofs.Hands.{empty-none}
 use Rattle.xm_desk.specs.Settled.{Unsettled, joined_in}
-use Rattle.xm_desk.specs.declared.unsettled.Hand.{Hand}
 use Rattle.xm_desk.specs.declared.unsettled.Hand.TheVariants.{Empty}
 use Rattle.xm_rules.proofs.Accepted.{accepted-below}
 use Rattle.xm_desk.proofs.unsettled.Unsettled.reserve_for.Goals as goal
