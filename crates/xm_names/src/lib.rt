@@ -6,4 +6,4 @@ mod names;
 mod seed;
 
 pub use crate::names::Names;
-pub use crate::seed::Seed;
+pub use crate::seed::{Seed, SeededHasher};
