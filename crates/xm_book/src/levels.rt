@@ -15,6 +15,7 @@ use xm_ladders::{Ladders, Level};
 use xm_rules::{Order, Restriction};
 
 /// The level in which an order stands or is to stand.
+#[inline(always)]
 pub fn level_for<A: Allocator + Copy>(ladders: &Ladders<A>, order: &Order) -> Level
     ensures { IsFound (level_for order.now ladders.now) result }
 {
@@ -26,6 +27,7 @@ pub fn level_for<A: Allocator + Copy>(ladders: &Ladders<A>, order: &Order) -> Le
 }
 
 /// Puts a level with an order where this order stands or is to stand.
+#[inline(always)]
 pub fn put_level<A: Allocator + Copy>(ladders: &mut Ladders<A>, order: &Order, level: Level)
     requires kind { HasKind (ladder_on order.now.restriction (side_of order.now.side ladders.old)) order.now.kind }
     requires orders { 0 < level.orders }
@@ -43,6 +45,7 @@ pub fn put_level<A: Allocator + Copy>(ladders: &mut Ladders<A>, order: &Order, l
 }
 
 /// Puts a level where this order stands or stood; one without an order is cleared.
+#[inline(always)]
 pub fn set_level<A: Allocator + Copy>(ladders: &mut Ladders<A>, order: &Order, level: Level)
     requires kind { HasKind (ladder_on order.now.restriction (side_of order.now.side ladders.old)) order.now.kind }
     requires there { IsSome (level_for order.now ladders.old) }

@@ -70,6 +70,7 @@ impl<A: Allocator> Slots<A> {
     }
 
     /// The entry under a key.
+    #[inline(always)]
     pub fn get(&self, key: usize) -> Option<&Entry>
         ensures { option_copied result ≡ get self.now key }
     {
@@ -80,6 +81,7 @@ impl<A: Allocator> Slots<A> {
     }
 
     /// Puts an entry under a key that had none, in room that is there.
+    #[inline(always)]
     pub fn insert(&mut self, entry: Entry) -> usize
         requires { used self.old < self.old.capacity }
         ensures vacant { get self.old result ≡ None }
@@ -103,6 +105,7 @@ impl<A: Allocator> Slots<A> {
     }
 
     /// Takes the entry of a key out.
+    #[inline(always)]
     pub fn remove(&mut self, key: usize) -> Entry
         requires { ContainsKey self.old key }
         ensures value { get self.old key ≡ Some result }

@@ -64,6 +64,7 @@ impl<A: Allocator + Copy> Ladder<A> {
     }
 
     /// The level of orders of a kind.
+    #[inline(always)]
     pub fn level(&self, kind: OrderKind) -> Option<Level>
         ensures { result ≡ level_of self.now kind }
     {
@@ -74,6 +75,7 @@ impl<A: Allocator + Copy> Ladder<A> {
     }
 
     /// Puts a level with an order in place of the one that was there. One that is new takes room.
+    #[inline(always)]
     pub fn put(&mut self, kind: OrderKind, level: Level)
         requires kind { HasKind self.old kind }
         requires orders { 0 < level.orders }
@@ -90,6 +92,7 @@ impl<A: Allocator + Copy> Ladder<A> {
     }
 
     /// Leaves a level without an order.
+    #[inline(always)]
     pub fn clear(&mut self, kind: OrderKind)
         requires { HasKind self.old kind }
         ensures cleared { IsCleared (level_of self.new kind) }

@@ -64,6 +64,7 @@ impl<L: Copy, A: Allocator + Copy> Levels<L, A> {
     }
 
     /// The level of a price.
+    #[inline(always)]
     pub fn get(&self, price: u32) -> Option<L>
         requires { price < PRICES }
         ensures { result ≡ level_at self.now price }
@@ -74,6 +75,7 @@ impl<L: Copy, A: Allocator + Copy> Levels<L, A> {
     }
 
     /// Puts a level under a price that has room, in place of the one that was there. One that is new takes room.
+    #[inline(always)]
     pub fn put(&mut self, price: u32, level: L)
         requires in_range { price < PRICES }
         requires price { HasPrice self.old price }
@@ -89,6 +91,7 @@ impl<L: Copy, A: Allocator + Copy> Levels<L, A> {
         }
     }
 
+    #[inline(always)]
     fn overwrite(&mut self, price: u32, key: usize, level: L)
         requires { lookup self.old.keys price ≡ Some key }
         ensures levels { (p : ℕ) → level_at self.new p ≡ (if p == price then Some level else level_at self.old p) }

@@ -69,6 +69,7 @@ impl<V: Copy, A: Allocator + Copy> PriceMap<V, A> {
     }
 
     /// The value under a price.
+    #[inline(always)]
     pub fn get(&self, price: u32) -> Option<V>
         requires { price < PRICES }
         ensures { result ≡ lookup self.now price }

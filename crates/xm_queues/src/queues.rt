@@ -101,6 +101,7 @@ impl<A: Allocator> Queues<A> {
     }
 
     /// Puts `key`, which is in no queue, at the end of a queue.
+    #[inline(always)]
     pub fn push_back(&mut self, ends: &mut Ends, key: usize)
         requires queue { LacksKey self.old ends.old key }
         requires room { key < key_limit self.old }
@@ -122,6 +123,7 @@ impl<A: Allocator> Queues<A> {
     }
 
     /// Takes `key` out of its queue.
+    #[inline(always)]
     pub fn unlink(&mut self, ends: &mut Ends, key: usize)
         requires { HasKey self.old ends.old key }
         ensures left { (keys : List ℕ) → IsQueue self.old ends.old keys
