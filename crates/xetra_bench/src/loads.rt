@@ -150,9 +150,10 @@ fn entry(place: u32) -> Command {
 }
 
 /// A place in another order: each one of `orders`, if that has no factor in common with the step.
-fn mixed(place: u32, orders: u32) -> u32
+pub fn mixed(place: u32, orders: u32) -> u32
     requires some { 0 < orders }
     requires few { orders ≤ 1000000 }
+    ensures { result < orders }
 {
     (u64::from(place) * 7919 % u64::from(orders)) as u32
 }

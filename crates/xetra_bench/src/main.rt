@@ -1,8 +1,11 @@
-//! `xetra_bench`: loads of commands on one desk. Alone it runs small ones and prints what they did;
-//! with the word `measure` it runs large ones and prints the nanoseconds that a command took.
+//! `xetra_bench`: loads of commands on one desk, and of calls on books of several shapes. Alone it runs small ones and
+//! prints what they did; with the word `measure` it runs large ones and prints the nanoseconds that a command or a call
+//! took for an order.
 #![tactic(auto)]
 
+mod books;
 mod loads;
+mod shelves;
 
 use crate::loads::{LoadFault, Loaded, Part, parts};
 use std::env;
@@ -25,9 +28,11 @@ fn main(rt: HostRuntime) -> ExitCode {
 
 fn run<R: Env + AllocGlobal + Print + Clock>(rt: &R) -> Result<(), LoadFault> {
     if is_measured(rt)? {
-        measure(rt, MEASURED)
+        measure(rt, MEASURED)?;
+        shelves::measure(rt)
     } else {
-        count(rt, COUNTED)
+        count(rt, COUNTED)?;
+        shelves::count(rt)
     }
 }
 
@@ -101,10 +106,15 @@ fn nanoseconds_of<R: Clock>(
         return Err(LoadFault);
     };
     loaded.give(part, commands)?;
+    nanoseconds_since(rt, &start, commands)
+}
+
+/// The nanoseconds that each of so many parts took, of the time since.
+fn nanoseconds_since<R: Clock>(rt: &R, start: &Instant, parts: u32) -> Result<u128, LoadFault> {
     match start.elapsed(rt) {
         Ok(taken) => taken
             .as_nanos()
-            .checked_div(u128::from(commands))
+            .checked_div(u128::from(parts))
             .ok_or(LoadFault),
         Err(_) => Err(LoadFault),
     }
