@@ -15,37 +15,38 @@ use xm_ticks::Price;
 #[derive(Clone, Copy, Debug)]
 pub enum Shape {
     ManyLimits,
+    /// References are multiples of 65,536, then the numbers one above them, and so on.
+    ChosenReferences,
     TenLimits,
     OneLimit,
     /// As many orders that aren't active lie at better limits.
     Inactive,
     /// As many places are reserved at better limits.
     Reserved,
-    /// References are multiples of 65,536, then the numbers one above them, and so on.
-    ChosenReferences,
 }
 
 pub const SHAPES: [Shape; 6] = [
     Shape::ManyLimits,
+    Shape::ChosenReferences,
     Shape::TenLimits,
     Shape::OneLimit,
     Shape::Inactive,
     Shape::Reserved,
-    Shape::ChosenReferences,
 ];
 
 impl Shape {
     pub fn name(self) -> &'static str {
         match self {
             Shape::ManyLimits => "10,000 limits",
+            Shape::ChosenReferences => "10,000 limits, chosen references",
             Shape::TenLimits => "10 limits",
             Shape::OneLimit => "one limit",
             Shape::Inactive => "10,000 limits behind inactive orders",
             Shape::Reserved => "10,000 limits behind reserved places",
-            Shape::ChosenReferences => "10,000 limits, chosen references",
         }
     }
 
+    /// How many limits there are, where there are as many orders.
     fn limits(self) -> u32
         ensures some { 0 < result }
         ensures few { result ≤ 10000 }
@@ -102,7 +103,7 @@ pub enum Step {
     CancelAll,
 }
 
-/// The steps of a load, which leaves no order.
+/// The steps of a load, which leaves no order. The second time, orders enter into memory that the book has kept.
 pub const STEPS: [Step; 7] = [
     Step::Enter,
     Step::Best,

@@ -17,7 +17,7 @@ const MEASURED: [u32; 4] = [1_000, 10_000, 100_000, 400_000];
 const HEAP: usize = 1_000_000_000;
 
 /// What is told of a step.
-#[derive(Clone, Copy, Debug)]
+#[derive(Clone, Copy)]
 enum Figure {
     /// With how many orders it could be done.
     Done,
@@ -47,10 +47,8 @@ pub fn measure<R: AllocGlobal + Print + Clock>(rt: &R) -> Result<(), LoadFault> 
     for shape in &SHAPES {
         measure_shape(rt, *shape)?;
     }
-    for orders in &MEASURED {
-        weigh(rt, Shape::ManyLimits, *orders)?;
-    }
-    Ok(())
+    weigh_shape(rt, Shape::ManyLimits)?;
+    weigh_shape(rt, Shape::OneLimit)
 }
 
 fn measure_shape<R: AllocGlobal + Print + Clock>(rt: &R, shape: Shape) -> Result<(), LoadFault> {
@@ -80,7 +78,7 @@ fn tell_steps<R: Print + Clock>(
 ) -> Result<(), LoadFault> {
     shelf.prepare(shape, orders)?;
     let name = shape.name();
-    said(print!(rt; "{name}, {orders} orders"))?;
+    said(print!(rt; "{name:<36} {orders:>6} orders"))?;
     let mut before = ":";
     for step in &STEPS {
         let number = number_of(rt, shelf, shape, *step, orders, figure)?;
@@ -99,7 +97,7 @@ fn tell_step<R: Print>(
 ) -> Result<(), LoadFault> {
     let name = step.name();
     let unit = figure.unit();
-    said(print!(rt; "{before} {name} {number}{unit}"))
+    said(print!(rt; "{before} {name} {number:>4}{unit}"))
 }
 
 fn said(printed: io::Result<()>) -> Result<(), LoadFault> {
@@ -129,6 +127,13 @@ fn number_of<R: Clock>(
     }
 }
 
+fn weigh_shape<R: AllocGlobal + Print>(rt: &R, shape: Shape) -> Result<(), LoadFault> {
+    for orders in &MEASURED {
+        weigh(rt, shape, *orders)?;
+    }
+    Ok(())
+}
+
 /// Prints the bytes that an order takes in a book.
 fn weigh<R: AllocGlobal + Print>(rt: &R, shape: Shape, orders: u32) -> Result<(), LoadFault> {
     let Ok(heap) = LocalHeap::new(rt.alloc(), HEAP) else {
@@ -138,7 +143,7 @@ fn weigh<R: AllocGlobal + Print>(rt: &R, shape: Shape, orders: u32) -> Result<()
         return Err(LoadFault);
     };
     let name = shape.name();
-    said(println!(rt; "{name}, {orders} orders: {bytes} bytes an order"))
+    said(println!(rt; "{name:<36} {orders:>6} orders: {bytes:>4} bytes an order"))
 }
 
 fn bytes_in(heap: &LocalHeap, shape: Shape, orders: u32) -> Result<usize, LoadFault> {
