@@ -237,7 +237,7 @@ impl<A: Allocator + Copy> Shelf<A> {
         self.book.reserve_for(&Place::of(order)).is_ok()
     }
 
-    /// Takes a unit from an order that has more than one.
+    /// Looks for an order, and takes a unit from it where it has more than one.
     fn reduce(&mut self, reference: u32) -> bool {
         let rest = match self.book.find(0, reference) {
             None => return false,

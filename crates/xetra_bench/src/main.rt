@@ -8,10 +8,10 @@ mod loads;
 mod shelves;
 
 use crate::loads::{LoadFault, Loaded, Part, parts};
-use std::env;
 use std::process::ExitCode;
 use std::rt::{Clock, Env};
 use std::time::Instant;
+use std::{env, io};
 
 /// How many orders a load enters and cancels twice: where the commands are counted, and where they are
 /// measured.
@@ -71,10 +71,7 @@ fn tell_counts<R: Print>(
     left: usize,
 ) -> Result<(), LoadFault> {
     let name = part.name();
-    match println!(rt; "{name} {orders} orders: {accepted} accepted, {left} left") {
-        Ok(()) => Ok(()),
-        Err(_) => Err(LoadFault),
-    }
+    said(println!(rt; "{name} {orders} orders: {accepted} accepted, {left} left"))
 }
 
 /// Prints the nanoseconds that a command of each part of a load took.
@@ -127,7 +124,11 @@ fn tell_nanoseconds<R: Print>(
     nanoseconds: u128,
 ) -> Result<(), LoadFault> {
     let name = part.name();
-    match println!(rt; "{name} {orders} orders: {nanoseconds} ns a command") {
+    said(println!(rt; "{name} {orders} orders: {nanoseconds} ns a command"))
+}
+
+fn said(printed: io::Result<()>) -> Result<(), LoadFault> {
+    match printed {
         Ok(()) => Ok(()),
         Err(_) => Err(LoadFault),
     }

@@ -1,10 +1,9 @@
 //! The loads of books, counted and measured.
 use crate::books::{SHAPES, STEPS, Shape, Shelf, Step};
 use crate::loads::LoadFault;
-use crate::nanoseconds_since;
+use crate::{nanoseconds_since, said};
 use linked_list_allocator::LocalHeap;
 use std::alloc::{Allocator, Global};
-use std::io;
 use std::rt::Clock;
 use std::time::Instant;
 
@@ -100,14 +99,7 @@ fn tell_step<R: Print>(
     said(print!(rt; "{before} {name} {number:>4}{unit}"))
 }
 
-fn said(printed: io::Result<()>) -> Result<(), LoadFault> {
-    match printed {
-        Ok(()) => Ok(()),
-        Err(_) => Err(LoadFault),
-    }
-}
-
-/// Does a step with all orders. Where one can't be done with each of them, its time says nothing.
+/// Does a step with all orders, and answers with the figure: a time only where the step could be done with each of them.
 fn number_of<R: Clock>(
     rt: &R,
     shelf: &mut Shelf<Global>,

@@ -1,4 +1,4 @@
-use Rattle.std.proofs.Common.{◌≡◌, ◌∙◌, rules, ap, false, not, refl}
+use Rattle.std.proofs.Common.{◌∙◌, rules, ap, false, not, refl}
 use Rattle.std.proofs.lemmas.Map.Views.{any-filter_same}
 use Rattle.xetra_bench.proofs.books.exchange.Goals as goal
 use Rattle.xm_book.proofs.Reserving.{reserved-there}
