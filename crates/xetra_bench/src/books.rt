@@ -237,13 +237,11 @@ impl<A: Allocator + Copy> Shelf<A> {
         self.book.reserve_for(&Place::of(order)).is_ok()
     }
 
-    /// Looks for an order, and takes a unit from it where it has more than one.
+    /// Takes all units but one from an order.
     fn reduce(&mut self, reference: u32) -> bool {
-        let rest = match self.book.find(0, reference) {
-            None => return false,
-            Some(order) => order.rest,
-        };
-        rest > 1 && self.book.reduce(0, reference, rest - 1)
+        // No rest is below one unit, as the book says where it tells its length.
+        let _orders = self.book.len();
+        self.book.reduce(0, reference, 1)
     }
 
     fn cancel(&mut self, reference: u32) -> bool {
