@@ -1,5 +1,5 @@
 -- The entries of a book, sorted by the numbers of their adds, are its orders in time order.
-use Rattle.std.proofs.Common.{◌≡◌, ℕ, zero, suc, ◌+◌, ◌<◌, ◌≤◌, Bool, true, false, ◌==◌, if◌then◌else◌, List, [], ◌∷◌, length, get_or, map, filter, count_by, cond, Contains, Option, Some, None, is_some, refl, sym, ap, ◌∙◌, subst, ◌⊎◌, inl, inr, arith}
+use Rattle.std.proofs.Common.{◌≡◌, ℕ, zero, suc, ◌+◌, ◌<◌, ◌≤◌, Bool, true, false, ◌==◌, if◌then◌else◌, List, [], ◌∷◌, length, get_or, map, filter, count_by, cond, Contains, Option, Some, None, is_some, IfSome, refl, sym, ap, ◌∙◌, subst, ◌⊎◌, inl, inr, arith}
 use Rattle.std.specs.List.{All, filter_map, remove}
 use Rattle.std.specs.List.Sorted.{IsNonDecreasingBy, IsPermutation}
 use Rattle.std.specs.Prelude.{nat_le}
@@ -10,7 +10,7 @@ use Rattle.std.proofs.lemmas.List.Sorted.{Contains-permutation, IsPermutation-co
 use Rattle.std.proofs.lemmas.List.Sums.{length-filter, sum_by-cons}
 use Rattle.xm_book.specs.Listing.{listed_entry, listed_order, rises}
 use Rattle.xm_book.specs.Queued.{LiesAt}
-use Rattle.xm_book.specs.Slots.{SlotsView, entries_of, is_of, used}
+use Rattle.xm_book.specs.Slots.{SlotsView, entries_of, get, is_of, used}
 use Rattle.xm_book.specs.TimeList.{references_of}
 use Rattle.xm_book.specs.declared.entry.Entry.{Entry}
 use Rattle.xm_book.specs.declared.listing.Listed.{Listed}
@@ -139,6 +139,11 @@ module _ (xs : List Listed) (adds : ℕ) (slots : SlotsView) (lie : All (LiesAt 
   -- the entries are the orders in another order
   same-orders : IsPermutation (entries_in slots.slots) all_in_time
   same-orders = rearranged time_of all_in_time (entries_in slots.slots) (times-rise 0 adds xs rise) each-there (entries-length slots.slots ∙ count ∙ sym (length-map xs listed_entry))
+
+  -- what lies under a key is an order of the list
+  pub held-in-time : (key : ℕ) (slot : Option Entry) → slot ≡ get slots key → IfSome slot (Contains all_in_time)
+  held-in-time key None here = tt
+  held-in-time key (Some e) here = Contains-permutation (entries_in slots.slots) all_in_time e same-orders (entry-there slots.slots key e (sym here))
 
   -- sorted, they are in time order, those of a member as well as all
   pub in-time : (member : Option ℕ) (zs : List Entry) → IsPermutation (entries_of member slots) zs → IsNonDecreasingBy time_of zs → zs ≡ filter (is_of member) all_in_time

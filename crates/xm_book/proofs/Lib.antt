@@ -1,4 +1,5 @@
 pub mod Collecting
+pub mod Expiring
 pub mod Growing
 pub mod Heading
 pub mod InTime

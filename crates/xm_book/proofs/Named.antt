@@ -104,7 +104,7 @@ key-once (y ∷ xs) x z d c e k = by_place (key-once xs x z d.1) (Contains-cases
     by_place rest (inr a) (inl b) = absurd (at x a (sym k ∙ sym (ap (λ (v : Listed). v.key) b)))
     by_place rest (inr a) (inr b) = rest a b k
 
-name-once : (member reference : ℕ) (xs : List Listed) (x z : Listed) → have_own_names (map listed_order xs) ≡ true → Contains xs x → Contains xs z
+pub name-once : (member reference : ℕ) (xs : List Listed) (x z : Listed) → have_own_names (map listed_order xs) ≡ true → Contains xs x → Contains xs z
     → has_name member reference x ≡ true → has_name member reference z ≡ true → z ≡ x
 name-once member reference [] x z own c e h k = absurd (Contains-none x c)
 name-once member reference (y ∷ xs) x z own c e h k =

@@ -29,7 +29,7 @@ count-set : (es : List (Option Entry)) (key : ℕ) (slot : Option Entry) → key
     → count_by is_some (set es key slot) + one_if (get_or es key None) ≡ count_by is_some es + one_if slot
 count-set es key slot within = sum_by-set one_if es key slot None within
 
-within-there : (es : List (Option Entry)) (key : ℕ) → IsSome (get_or es key None) → key < length es
+pub within-there : (es : List (Option Entry)) (key : ℕ) → IsSome (get_or es key None) → key < length es
 within-there es key there = grind (arith, get_or_past)
 
 none-there : (o : Option Entry) → o ≡ None → IsSome o → ⊥

@@ -1,3 +1,4 @@
+pub mod Expiry
 pub mod Fronts
 pub mod Indexed
 pub mod Levels

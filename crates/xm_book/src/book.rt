@@ -1,15 +1,17 @@
 //! The book of one security.
-ghost use Rattle.std.specs.Prelude.{◌≡◌, ◌+◌, ◌++◌, ◌∷◌, ◌<◌, ◌≤◌, ◌^◌, [], IsTrue, length, find, false, option_copied, IfOk, IfSome, OnErr, OnOk};
+ghost use Rattle.std.specs.Prelude.{◌≡◌, ◌+◌, ◌++◌, ◌∷◌, ◌<◌, ◌≤◌, ◌^◌, [], IsTrue, filter, length, find, false, option_copied, IfOk, IfSome, OnErr, OnOk};
 ghost use Rattle.std.specs.Option.{option_map};
 ghost use Rattle.xm_book.specs.Places.{SamePlaces, place_of};
 ghost use Rattle.xm_book.specs.Queues.{best_order, level_after, market_sum, next_order};
 ghost use Rattle.xm_book.specs.TimeList.{IsBook, Reserves, is_known, is_reserved, references_of};
 ghost use Rattle.xm_rules.specs.Active.{active, limits};
-ghost use Rattle.xm_rules.specs.Commands.{is_in_range};
+ghost use Rattle.xm_rules.specs.Commands.{is_in_range, outlasts};
+ghost use Rattle.xm_rules.specs.declared.orders.Order.{Order};
 ghost use Rattle.xm_rules.specs.Orders.{is_named, removed, with_rest, without_member};
 ghost use Rattle.xm_rules.specs.Sides.{best};
 
 use crate::entry::Entry;
+use crate::expiry::drop_expired;
 use crate::order_queues::OrderQueues;
 use crate::places::Place;
 use std::alloc::Allocator;
@@ -171,6 +173,13 @@ impl<A: Allocator + Copy> Book<A> {
                 true
             }
         }
+    }
+
+    /// Takes the orders that aren't valid beyond this day out of the book, in one pass over it.
+    pub fn remove_expired(&mut self, today: u32)
+        ensures { self.new ≡ record self.old { orders = filter (λ (o : Order). outlasts today o.validity) self.old.orders } }
+    {
+        drop_expired(&mut self.queues, &mut self.names, today);
     }
 
     /// Gives the order of this name a rest, in units, that is at least 1 and no higher than the present one. It keeps its

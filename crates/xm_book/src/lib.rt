@@ -3,6 +3,7 @@
 
 mod book;
 mod entry;
+mod expiry;
 mod levels;
 mod listing;
 mod order_queues;

@@ -1,6 +1,7 @@
 //! The orders of a book in their queues.
-ghost use Rattle.std.specs.Prelude.{◌≡◌, ◌+◌, ◌++◌, ◌∷◌, [], ◌<◌, ◌≤◌, ◌^◌, ◌&&◌, Contains, IfOk, IsTrue, OnErr, OnOk, Some, filter, length, map, option_copied, sum_by, true};
-ghost use Rattle.std.specs.List.{list_any};
+ghost use Rattle.std.specs.Prelude.{◌≡◌, ◌+◌, ◌++◌, ◌∷◌, [], ◌<◌, ◌≤◌, ◌^◌, ◌&&◌, Contains, IfOk, IfSome, IsTrue, OnErr, OnOk, Some, filter, length, map, option_copied, sum_by, true};
+ghost use Rattle.std.specs.List.{list_all, list_any};
+ghost use Rattle.xm_book.specs.Expiry.{is_below};
 ghost use Rattle.xm_book.specs.Fronts.{IsBestOf, IsFirstOf, better_of_two, earlier_of_two, goes_ahead, has_kind, has_kind_later, has_worse, is_any, is_earlier, is_in, is_on};
 ghost use Rattle.xm_book.specs.Listing.{is_other_key, keys_in, listed_entry, listed_order, reduced_at, rises};
 ghost use Rattle.xm_book.specs.Places.{place_of, same_place};
@@ -72,9 +73,18 @@ impl<A: Allocator + Copy> OrderQueues<A> {
 
     /// The order under a key, with the number of its add.
     pub fn get(&self, key: usize) -> Option<&Entry>
-        ensures { (x : Listed) → Contains self.now.orders x → x.key ≡ key → option_copied result ≡ Some (listed_entry x) }
+        ensures there { (x : Listed) → Contains self.now.orders x → x.key ≡ key → option_copied result ≡ Some (listed_entry x) }
+        ensures held { IfSome (option_copied result) (Contains (map listed_entry self.now.orders)) }
     {
         self.entries.get(key)
+    }
+
+    /// A bound above each key.
+    pub fn key_limit(&self) -> usize
+        ensures { list_all (is_below result) self.now.orders ≡ true }
+    {
+        let _ = &self.listing;
+        self.entries.key_limit()
     }
 
     /// Reserves a place.

@@ -56,6 +56,13 @@ impl<A: Allocator> Slots<A> {
         self.capacity
     }
 
+    /// A bound above each key that has an entry.
+    pub fn key_limit(&self) -> usize
+        ensures { result ≡ length self.now.slots }
+    {
+        self.entries.len()
+    }
+
     /// Makes room for so many entries in all.
     pub fn grow_to(&mut self, capacity: usize) -> Result<(), AllocError>
         requires more { self.old.capacity ≤ capacity }

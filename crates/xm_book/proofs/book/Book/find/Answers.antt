@@ -5,7 +5,7 @@ use Rattle.xm_book.proofs.book.Book.find.Goals as goal
 pub returns : goal.returns
 returns g c =
     let b = c.self.inside in
-    rw (← c.self.view_is) (c.order_of.ensures ∙ entry-found b.queues b.names c.self.invariant c.args.member c.args.reference c.in_ok-key.key c.in_ok-key.ensures _ c.get-2.ensures)
+    rw (← c.self.view_is) (c.order_of.ensures ∙ entry-found b.queues b.names c.self.invariant c.args.member c.args.reference c.in_ok-key.key c.in_ok-key.ensures _ c.get-2.ensures.there)
 
 pub returns-in_err-key : goal.returns-in_err-key
 returns-in_err-key g c =
