@@ -4,7 +4,9 @@ mod growths;
 mod levels;
 mod plain;
 mod priority;
+mod reserving;
 mod side_by_side;
+mod time_order;
 mod trades;
 
 use entries::Entries;
@@ -41,6 +43,11 @@ fn order(side: Side, reference: u32, kind: OrderKind) -> Order {
 /// Puts in an order that the book can take.
 fn enter<A: Allocator + Copy>(rt: &impl Abort, book: &mut Entries<A>, order: Order) {
     assert!(rt; matches!(book.enter(order), Ok(true)));
+}
+
+/// Compares an answer with the order that is expected.
+fn found(rt: &impl Abort, answer: Option<Order>, expected: Order) {
+    assert!(rt; answer == Some(expected));
 }
 
 /// Compares the references of the active orders of a side, by priority.
