@@ -33,7 +33,7 @@ buys_accept p q x m n h e = grind (arith, nat_tests)
 sells_accept : (p q x m n : ℕ) → (not (nat_le q p) || (not (not (nat_le p q)) && nat_lt m n)) ≡ true → nat_le q x ≡ true → nat_le p x ≡ true
 sells_accept p q x m n h e = grind (arith, nat_tests)
 
-kinds_accept : (side : Side) (k : OrderKind) (m : ℕ) (l : OrderKind) (n : ℕ) (x : ℕ) → precedes side k m l n ≡ true → accepts side l x ≡ true → accepts side k x ≡ true
+pub kinds_accept : (side : Side) (k : OrderKind) (m : ℕ) (l : OrderKind) (n : ℕ) (x : ℕ) → precedes side k m l n ≡ true → accepts side l x ≡ true → accepts side k x ≡ true
 kinds_accept side Market m l n x h e = refl
 kinds_accept side (Limit p) m Market n x h e = absurd (cc)
 kinds_accept Buy (Limit p) m (Limit q) n x h e = buys_accept p q x m n h e
@@ -116,7 +116,7 @@ allotted_within number u l m =
     ∙ sum-each (λ (b : Positioned). sum_by (by_second quantity_of) (each b)) (owned (before Buy (side_queue u Buy)) units u.volume) those (units_of_buy u m number)
     ∙ row u Buy u.volume l
 
-side_is : (side other : Side) → same_side side other ≡ true → other ≡ side
+pub side_is : (side other : Side) → same_side side other ≡ true → other ≡ side
 side_is Buy Buy e = refl
 side_is Buy Sell e = absurd (cc)
 side_is Sell Buy e = absurd (cc)

@@ -18,7 +18,7 @@ later_from : (x : Positioned) (n : ℕ) (os : List Order) → x.position < n →
 later_from x n [] h = tt
 later_from x n (o ∷ os) h = (h, later_from x (n + 1) os (omega arith))
 
-rising_from : (n : ℕ) (os : List Order) → Rising (positioned_from n os)
+pub rising_from : (n : ℕ) (os : List Order) → Rising (positioned_from n os)
 rising_from n [] = tt
 rising_from n (o ∷ os) = (later_from (record { position = n; order = o }) (n + 1) os (omega arith), rising_from (n + 1) os)
 

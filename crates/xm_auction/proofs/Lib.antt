@@ -1,0 +1,14 @@
+mod Bests
+mod Crossings
+mod Curves
+mod Firsts
+mod Growing
+mod Naming
+mod NextTrade
+mod Owners
+mod Pricing
+mod Progress
+mod Remaining
+mod Sorting
+mod Taking
+mod Winners

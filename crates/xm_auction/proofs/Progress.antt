@@ -1,0 +1,298 @@
+-- How far an allotment has come: what it has traded is that of the call with a lower volume, and each trade takes it on.
+use Rattle.std.proofs.Common.{◌≡◌, ℕ, ◌+◌, ◌-◌, ◌<◌, ◌≤◌, min, max, Bool, true, false, not, ◌==◌, if◌then◌else◌, IfSome, IsSome, List, [], ◌∷◌, ◌++◌, length, length-append, append_assoc, append-nil, filter, map, Contains, Option, Some, None, refl, sym, ap, subst, ◌∙◌, ◌⊎◌, inl, inr, arith}
+use Rattle.std.specs.List.{filter_map, flat_map, list_all, list_any}
+use Rattle.std.specs.Prelude.{nat_lt}
+use Rattle.std.proofs.lemmas.Bool.{and_parts, both_ways, eq-eqb, true_from_ne_false}
+use Rattle.std.proofs.lemmas.Bool.Decides.{nat_tests}
+use Rattle.xm_auction.specs.Allotment.{Terms, best_trade, taken_from_any, taken_from_best, trade_of_two}
+use Rattle.xm_auction.proofs.NextTrade.{IsCut, cut_after, cut_at_first, nothing_traded, next_trade_last, trade_of_next}
+use Rattle.xm_auction.proofs.Naming.{contains_best, named_itself}
+use Rattle.xm_auction.proofs.Owners.{IsNext, NextOf, allotted_to, best_now, best_taken, next_of, phase_of, raised, rest_now, upto}
+use Rattle.xm_auction.proofs.Remaining.{has_rest, lessened}
+use Rattle.xm_book.specs.Queues.{best_order}
+use Rattle.xm_book.specs.TimeList.{TimeList, have_own_names}
+use Rattle.xm_book.proofs.Joining.{same_some}
+use Rattle.xm_book.proofs.Members.{list_any-false}
+use Rattle.xm_book.proofs.Named.{fewer-left, length-kept}
+use Rattle.xm_rules.specs.Active.{Positioned, positioned_from}
+use Rattle.xm_rules.specs.Allotment.{Uncrossing, allotted, auction_trades, end_unit, first_unit, parties, takes_part, trade_of_pair}
+use Rattle.xm_rules.specs.Auction.{volume as executable}
+use Rattle.xm_rules.specs.Commands.{is_in_range}
+use Rattle.xm_rules.specs.Orders.{is_named, removed, trade_between, with_rest}
+use Rattle.xm_rules.specs.Priority.{in_order, without_units}
+use Rattle.xm_rules.specs.declared.orders.Order.{Order}
+use Rattle.xm_rules.specs.declared.orders.Side.{Side}
+use Rattle.xm_rules.specs.declared.orders.Side.TheVariants.{Buy, Sell}
+use Rattle.xm_rules.specs.declared.orders.Trade.{Trade}
+use Rattle.xm_rules.specs.declared.orders.TradeKind.TheVariants.{Auction}
+use Rattle.xm_rules.specs.declared.phases.Phase.{Phase}
+use Rattle.xm_rules.proofs.Queues.{units}
+
+-- ---- how many orders there are after units were taken
+with_rest_length : (member reference rest : ℕ) (os : List Order) → length (with_rest member reference rest os) ≡ length os
+with_rest_length member reference rest [] = refl
+with_rest_length member reference rest (o ∷ os) = omega (arith, with_rest_length member reference rest os)
+
+taken_if : (o : Order) (n : ℕ) (os : List Order) (b : Bool)
+    → length (if b then removed o.member o.reference os else with_rest o.member o.reference (o.rest - n) os) ≤ length os
+taken_if o n os true = length-kept (λ (p : Order). not (is_named o.member o.reference p)) os
+taken_if o n os false = omega (arith, with_rest_length o.member o.reference (o.rest - n) os)
+
+no_more : (n : ℕ) (os : List Order) (o : Option Order) → length (taken_from_any o n os) ≤ length os
+no_more n os None = omega arith
+no_more n os (Some o) = taken_if o n os (n == o.rest)
+
+listed : (os : List Order) (o : Order) → Contains os o → list_any (is_named o.member o.reference) os ≡ true
+listed os o at =
+    true_from_ne_false (list_any (is_named o.member o.reference) os)
+    (λ e. both_ways (is_named o.member o.reference o) (list_any-false (is_named o.member o.reference) os o e at) (named_itself o))
+
+one_less : (phase : Phase) (side : Side) (n : ℕ) (os : List Order) (o : Order) → best_order phase side os ≡ Some o → n ≡ o.rest
+    → length (taken_from_best phase side n os) < length os
+one_less phase side n os o e f =
+    let fewer = fewer-left o.member o.reference os (listed os o (contains_best phase side os o e)) in
+    let same : taken_from_best phase side n os ≡ removed o.member o.reference os =
+    ap (λ (found : Option Order). taken_from_any found n os) e
+    ∙ ap (λ (b : Bool). if b then removed o.member o.reference os else with_rest o.member o.reference (o.rest - n) os) (eq-eqb n o.rest f) in
+    let long : length (taken_from_best phase side n os) ≡ length (removed o.member o.reference os) = ap length same in
+    omega arith
+
+some_there : (phase : Phase) (side : Side) (os : List Order) (o : Order) → best_order phase side os ≡ Some o → 0 < length os
+some_there phase side os o e = let at = contains_best phase side os o e in let l = at.1 in omega arith
+
+-- ---- the premises, and how far it has come
+pub record CanBeAllotted (u : Uncrossing) : Type 0 where
+  pub own : have_own_names u.orders ≡ true
+  pub volume : u.volume ≤ executable (phase_of u) u.orders u.price
+
+abbrev pub terms_of : ℕ → Uncrossing → Terms
+terms_of number u = record { sweep = number; kind = Auction u.auction u.stage; price = u.price }
+
+pub record Progress (u : Uncrossing) (number left : ℕ) (now : List Order) (old made : List Trade) (before room : ℕ) : Type 0 where
+  pub done : ℕ
+  pub whole : done + left ≡ u.volume
+  pub orders : now ≡ without_units (allotted (upto done u)) u.orders
+  pub trades : made ≡ old ++ auction_trades number (upto done u)
+  pub rooms : room + length (auction_trades number (upto done u)) ≡ before
+  pub cut : 0 < left → IsCut u Buy done ⊎ IsCut u Sell done
+  pub enough : 0 < left → length now ≤ room
+
+-- the best order of a side has as many units
+abbrev pub HasUnits : Phase → Side → ℕ → List Order → Type 0
+HasUnits phase side n os = IfSome (best_order phase side os) (λ (o : Order). (1 ≤ n) × (n ≤ o.rest))
+
+has_units : (phase : Phase) (side : Side) (n : ℕ) (os : List Order) (o : Order) → best_order phase side os ≡ Some o → 0 < n → n ≤ o.rest → HasUnits phase side n os
+has_units phase side n os o e h l = rw e (h, l)
+
+-- what a trade does
+pub record Turn (u : Uncrossing) (number left : ℕ) (now : List Order) (old made : List Trade) (before room : ℕ) (trade : Trade) : Type 0 where
+  pub buy : HasUnits (phase_of u) Buy trade.quantity now
+  pub sell : HasUnits (phase_of u) Sell trade.quantity (taken_from_best (phase_of u) Buy trade.quantity now)
+  pub some : 0 < trade.quantity
+  pub within : trade.quantity ≤ left
+  pub next : Progress u number (left - trade.quantity) (taken_from_best (phase_of u) Sell trade.quantity (taken_from_best (phase_of u) Buy trade.quantity now)) old (made ++ trade ∷ []) before (room - 1)
+
+both_raised : (m n : ℕ) (side : Side) → raised Sell m (raised Buy m (λ s. n)) side ≡ m
+both_raised m n Buy = refl
+both_raised m n Sell = refl
+
+module _ (u : Uncrossing) (number left : ℕ) (now : List Order) (old made : List Trade) (before room : ℕ) (can : CanBeAllotted u) (p : Progress u number left now old made before room)
+    (some : 0 < left) where
+  not_done : p.done < executable (phase_of u) u.orders u.price
+  not_done = let w = p.whole in let v = can.volume in omega arith
+
+  next_on : (side : Side) → NextOf u side p.done
+  next_on Buy = next_of u Buy p.done (let d = not_done in omega arith)
+  next_on Sell = next_of u Sell p.done (let d = not_done in omega arith)
+
+  abbrev buy_order : Positioned
+  buy_order = (next_on Buy).one
+
+  abbrev sell_order : Positioned
+  sell_order = (next_on Sell).one
+
+  buy_next : IsNext u Buy p.done buy_order
+  buy_next = (next_on Buy).is
+
+  sell_next : IsNext u Sell p.done sell_order
+  sell_next = (next_on Sell).is
+
+  -- both sides have come so far
+  abbrev so_far : Side → ℕ
+  so_far side = p.done
+
+  abbrev buy_rest : ℕ
+  buy_rest = first_unit u Buy buy_order + units buy_order - p.done
+
+  abbrev sell_rest : ℕ
+  sell_rest = first_unit u Sell sell_order + units sell_order - p.done
+
+  abbrev count : ℕ
+  count = min (min buy_rest sell_rest) left
+
+  abbrev buy_done : Side → ℕ
+  buy_done = raised Buy (p.done + count) so_far
+
+  best_buy : best_order (phase_of u) Buy now ≡ Some (lessened (allotted_to u so_far) buy_order)
+  best_buy = ap (best_order (phase_of u) Buy) p.orders ∙ best_now u Buy so_far buy_order buy_next
+
+  best_sell : best_order (phase_of u) Sell now ≡ Some (lessened (allotted_to u so_far) sell_order)
+  best_sell = ap (best_order (phase_of u) Sell) p.orders ∙ best_now u Sell so_far sell_order sell_next
+
+  buy_rest_is : units buy_order - allotted_to u so_far buy_order ≡ buy_rest
+  buy_rest_is = rest_now u Buy so_far buy_order buy_next
+
+  sell_rest_is : units sell_order - allotted_to u so_far sell_order ≡ sell_rest
+  sell_rest_is = rest_now u Sell so_far sell_order sell_next
+
+  trade_is : best_trade (phase_of u) (terms_of number u) left now ≡ Some (trade_of_next number u count buy_order sell_order)
+  trade_is =
+      (λ i. trade_of_two (terms_of number u) left (best_buy i) (best_sell i))
+      ∙ (λ i. Some (trade_between number (Auction u.auction u.stage) u.price (min (min (buy_rest_is i) (sell_rest_is i)) left) Buy buy_order.order sell_order.order))
+
+  some_traded : 0 < count
+  some_traded = let b = buy_next.to in let s = sell_next.to in omega arith
+
+  buy_taken : taken_from_best (phase_of u) Buy count now ≡ without_units (allotted_to u buy_done) u.orders
+  buy_taken = ap (taken_from_best (phase_of u) Buy count) p.orders ∙ best_taken u Buy so_far buy_order buy_next can.own count some_traded (omega arith)
+
+  sell_after : best_order (phase_of u) Sell (taken_from_best (phase_of u) Buy count now) ≡ Some (lessened (allotted_to u buy_done) sell_order)
+  sell_after = ap (best_order (phase_of u) Sell) buy_taken ∙ best_now u Sell buy_done sell_order sell_next
+
+  sell_rest_after : units sell_order - allotted_to u buy_done sell_order ≡ sell_rest
+  sell_rest_after = rest_now u Sell buy_done sell_order sell_next
+
+  both_taken : taken_from_best (phase_of u) Sell count (taken_from_best (phase_of u) Buy count now) ≡ without_units (allotted (upto (p.done + count) u)) u.orders
+  both_taken =
+      ap (taken_from_best (phase_of u) Sell count) buy_taken ∙ best_taken u Sell buy_done sell_order sell_next can.own count some_traded (omega arith)
+      ∙ (λ i. without_units (λ (x : Positioned). allotted (upto (both_raised (p.done + count) p.done x.order.side i) u) x) u.orders)
+
+  trades_after : auction_trades number (upto (p.done + count) u) ≡ auction_trades number (upto p.done u) ++ trade_of_next number u count buy_order sell_order ∷ []
+  trades_after =
+      next_trade_last number u p.done count buy_order sell_order buy_next sell_next some_traded
+      (let b = buy_next.to in omega arith) (let s = sell_next.to in omega arith) (p.cut some)
+
+  cut_next : (buy_rest ≡ count) ⊎ (sell_rest ≡ count) → IsCut u Buy (p.done + count) ⊎ IsCut u Sell (p.done + count)
+  cut_next (inl e) =
+      let same : first_unit u Buy buy_order + units buy_order ≡ p.done + count = (let b = buy_next.to in omega arith) in
+      inl (subst (λ (n : ℕ). IsCut u Buy n) same (cut_after u Buy p.done buy_order buy_next))
+  cut_next (inr e) =
+      let same : first_unit u Sell sell_order + units sell_order ≡ p.done + count = (let s = sell_next.to in omega arith) in
+      inr (subst (λ (n : ℕ). IsCut u Sell n) same (cut_after u Sell p.done sell_order sell_next))
+
+  fewer : (buy_rest ≡ count) ⊎ (sell_rest ≡ count) → length (taken_from_best (phase_of u) Sell count (taken_from_best (phase_of u) Buy count now)) < length now
+  fewer (inl e) =
+      let a = one_less (phase_of u) Buy count now (lessened (allotted_to u so_far) buy_order) best_buy (let r = buy_rest_is in omega arith) in
+      let b = no_more count (taken_from_best (phase_of u) Buy count now) (best_order (phase_of u) Sell (taken_from_best (phase_of u) Buy count now)) in
+      omega arith
+  fewer (inr e) =
+      let a = one_less (phase_of u) Sell count (taken_from_best (phase_of u) Buy count now) (lessened (allotted_to u buy_done) sell_order) sell_after (let r = sell_rest_after in omega arith) in
+      let b = no_more count now (best_order (phase_of u) Buy now) in
+      omega arith
+
+  one_ended : 0 < left - count → (buy_rest ≡ count) ⊎ (sell_rest ≡ count)
+  one_ended h = either buy_rest sell_rest left h
+    where
+      either : (b s l : ℕ) → 0 < l - min (min b s) l → (b ≡ min (min b s) l) ⊎ (s ≡ min (min b s) l)
+      either b s l h = grind arith
+
+  room_there : 0 < room
+  room_there = let l = some_there (phase_of u) Buy now (lessened (allotted_to u so_far) buy_order) best_buy in let e = p.enough some in omega arith
+
+  on : Progress u number (left - count) (taken_from_best (phase_of u) Sell count (taken_from_best (phase_of u) Buy count now)) old (made ++ trade_of_next number u count buy_order sell_order ∷ []) before (room - 1)
+  on = record {
+    done = p.done + count;
+    whole = (let w = p.whole in omega arith);
+    orders = both_taken;
+    trades =
+        ap (λ (l : List Trade). l ++ trade_of_next number u count buy_order sell_order ∷ []) p.trades
+        ∙ append_assoc old (auction_trades number (upto p.done u)) (trade_of_next number u count buy_order sell_order ∷ [])
+        ∙ ap (λ (l : List Trade). old ++ l) (sym trades_after);
+    rooms =
+        (let long : length (auction_trades number (upto (p.done + count) u)) ≡ length (auction_trades number (upto p.done u)) + 1 =
+        ap length trades_after ∙ length-append (auction_trades number (upto p.done u)) (trade_of_next number u count buy_order sell_order ∷ []) in
+        let r = p.rooms in let h = room_there in omega arith);
+    cut = λ h. cut_next (one_ended h);
+    enough = λ h. let f = fewer (one_ended h) in let e = p.enough some in omega arith;
+  }
+
+  turn_next : Turn u number left now old made before room (trade_of_next number u count buy_order sell_order)
+  turn_next = record {
+    buy = has_units (phase_of u) Buy count now (lessened (allotted_to u so_far) buy_order) best_buy some_traded (let r = buy_rest_is in omega arith);
+    sell = has_units (phase_of u) Sell count (taken_from_best (phase_of u) Buy count now) (lessened (allotted_to u buy_done) sell_order) sell_after some_traded (let r = sell_rest_after in omega arith);
+    some = some_traded;
+    within = omega arith;
+    next = on;
+  }
+
+  pub has_trade : IsSome (best_trade (phase_of u) (terms_of number u) left now)
+  has_trade = rw trade_is refl
+
+  pub turn : (trade : Trade) → Some trade ≡ best_trade (phase_of u) (terms_of number u) left now → Turn u number left now old made before room trade
+  turn trade e = subst (λ (t : Trade). Turn u number left now old made before room t) (sym (same_some (e ∙ trade_is))) turn_next
+
+-- ---- at the begin and at the end
+no_part : (b : Bool) (first count : ℕ) → ◌≡◌ {A = ℕ} (if b then min (first + count) 0 - first else 0) 0
+no_part true first count = omega arith
+no_part false first count = refl
+
+some_rest : (n : ℕ) → is_in_range n ≡ true → nat_lt 0 n ≡ true
+some_rest n h = grind (arith, nat_tests)
+
+all_some : (os : List Order) → list_all (λ (o : Order). is_in_range o.rest) os ≡ true → filter has_rest os ≡ os
+all_some [] h = refl
+all_some (o ∷ os) h =
+    let parts = and_parts (is_in_range o.rest) (list_all (λ (p : Order). is_in_range p.rest) os) h in
+    rw (some_rest o.rest parts.0) (ap (λ (l : List Order). o ∷ l) (all_some os parts.1))
+
+none_lessened : (taken : Positioned → ℕ) (k : ℕ) (os : List Order) → ((i : Positioned) → taken i ≡ 0) → map (lessened taken) (positioned_from k os) ≡ os
+none_lessened taken k [] none = refl
+none_lessened taken k (o ∷ os) none =
+    let nothing = none (record { position = k; order = o }) in
+    let same : o.rest - taken (record { position = k; order = o }) ≡ o.rest = omega arith in
+    (λ i. (record o { rest = same i }) ∷ none_lessened taken (k + 1) os none i)
+
+all_kept : (taken : Positioned → ℕ) (os : List Order) → ((i : Positioned) → taken i ≡ 0) → list_all (λ (o : Order). is_in_range o.rest) os ≡ true
+    → without_units taken os ≡ os
+all_kept taken os none h = ap (filter has_rest) (none_lessened taken 0 os none) ∙ all_some os h
+
+none_allotted : (u : Uncrossing) (i : Positioned) → allotted (upto 0 u) i ≡ 0
+none_allotted u i = no_part (takes_part u i.order.side i) (first_unit u i.order.side i) (units i)
+
+none_given : {X A : Type 0} (f : X → Option A) (xs : List X) → ((x : X) → f x ≡ None) → filter_map f xs ≡ []
+none_given f [] h = refl
+none_given f (x ∷ xs) h = rw (h x) (none_given f xs h)
+
+flat_none : {X A : Type 0} (f : X → List A) (xs : List X) → ((x : X) → f x ≡ []) → flat_map f xs ≡ []
+flat_none f [] h = refl
+flat_none f (x ∷ xs) h = rw (h x) (flat_none f xs h)
+
+no_trades : (number : ℕ) (u : Uncrossing) → auction_trades number (upto 0 u) ≡ []
+no_trades number u =
+    ap in_order
+    (flat_none (λ (b : Positioned). filter_map (trade_of_pair number (upto 0 u) b) (parties u Sell)) (parties u Buy)
+    (λ b. none_given (trade_of_pair number (upto 0 u) b) (parties u Sell) (λ s. nothing_traded number u b s (max (first_unit u Buy b) (first_unit u Sell s)) (min (end_unit (upto 0 u) Buy b) (end_unit (upto 0 u) Sell s)) (omega arith))))
+
+pub at_begin : (u : Uncrossing) (number : ℕ) (old : List Trade) (room : ℕ) → list_all (λ (o : Order). is_in_range o.rest) u.orders ≡ true → length u.orders ≤ room
+    → Progress u number u.volume u.orders old old room room
+at_begin u number old room rests enough = record {
+  done = 0;
+  whole = omega arith;
+  orders = sym (all_kept (allotted (upto 0 u)) u.orders (none_allotted u) rests);
+  trades = sym (append-nil old) ∙ ap (λ (l : List Trade). old ++ l) (sym (no_trades number u));
+  rooms = (let e : length (auction_trades number (upto 0 u)) ≡ 0 = ap length (no_trades number u) in omega arith);
+  cut = λ h. inl (cut_at_first u Buy);
+  enough = λ h. enough;
+}
+
+pub the_same : (u : Uncrossing) (number left : ℕ) (now : List Order) (old made : List Trade) (before room m : ℕ) (os : List Order) (ts : List Trade) (n : ℕ)
+    → m ≡ left → os ≡ now → ts ≡ made → n ≡ room → Progress u number left now old made before room → Progress u number m os old ts before n
+the_same u number left now old made before room m os ts n e f g h p = rw (e, f, g, h) p
+
+-- the rest of a book stays as it was
+pub rest_stays : (start before between after : TimeList) (xs ys : List Order) → before ≡ record start { orders = before.orders } → between ≡ record before { orders = xs } → after ≡ record between { orders = ys }
+    → after ≡ record start { orders = after.orders }
+rest_stays start before between after xs ys e f g =
+    let places = ap (λ (b : TimeList). b.reserved) g ∙ ap (λ (b : TimeList). b.reserved) f ∙ ap (λ (b : TimeList). b.reserved) e in
+    let adds = ap (λ (b : TimeList). b.adds) g ∙ ap (λ (b : TimeList). b.adds) f ∙ ap (λ (b : TimeList). b.adds) e in
+    (λ i. record { orders = after.orders; reserved = places i; adds = adds i })

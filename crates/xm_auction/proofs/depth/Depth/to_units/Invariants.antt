@@ -1,0 +1,16 @@
+use Rattle.std.proofs.Common.{◌≡◌, ◌<◌, ℕ, Contains, false}
+use Rattle.std.specs.Prelude.{IfSome}
+use Rattle.xm_auction.specs.Depths.{depth_at, orders_left, reached}
+use Rattle.xm_rules.specs.Auction.{accepting, candidates}
+use Rattle.xm_auction.proofs.depth.Depth.to_units.Given as goal
+
+abbrev pub invariant-loop-depth : goal.invariant-loop-depth
+invariant-loop-depth g l = record {
+  side : l.depth.side ≡ l.self.side;
+  depth : l.depth ≡ depth_at l.phase l.depth.side l.depth.limit l.book.orders;
+  limit : IfSome l.depth.limit (Contains (candidates l.phase l.book.orders));
+  before : (x : ℕ) → reached l.depth.side l.depth.limit x ≡ false → accepting l.phase l.book.orders l.depth.side x < l.units;
+}
+
+abbrev pub decreases-loop-depth : goal.decreases-loop-depth
+decreases-loop-depth g l = orders_left l.phase l.depth.side l.depth.limit l.book.orders

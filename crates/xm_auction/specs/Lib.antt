@@ -1,0 +1,5 @@
+pub mod Allotment
+pub mod Covered
+pub mod Crossings
+pub mod Depths
+pub mod Prices
