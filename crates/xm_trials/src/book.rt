@@ -1,5 +1,5 @@
 mod comparing;
-mod entries;
+pub mod entries;
 mod growths;
 mod levels;
 mod plain;

@@ -3,6 +3,8 @@
 #![tactic(auto)]
 
 #[cfg(test)]
+mod auction;
+#[cfg(test)]
 mod book;
 #[cfg(test)]
 mod day;

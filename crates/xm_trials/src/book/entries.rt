@@ -6,9 +6,10 @@ ghost use Rattle.xm_rules.specs.Commands.{is_in_range};
 
 use std::alloc::Allocator;
 use std::marker::Model;
-use xm_book::{Book, Place};
+use xm_auction::{allocate, auction_price};
+use xm_book::{Book, Place, Trades};
 use xm_names::Seed;
-use xm_rules::{Order, OutOfMemory, Phase, Side};
+use xm_rules::{Auction, CallStage, Order, OutOfMemory, Phase, Side};
 use xm_ticks::Price;
 
 /// A book with no reserved place, which takes up to 1,000,000 orders in all. What its calls answer
@@ -81,6 +82,32 @@ impl<A: Allocator + Copy> Entries<A> {
         after: &Option<Price>,
     ) -> Option<(Price, u64)> {
         self.book.level_after(side, phase, *after)
+    }
+
+    pub fn auction_price(&self, phase: Phase, reference: Price) -> Option<(Price, u64)> {
+        auction_price(&self.book, phase, reference)
+    }
+
+    /// Allots the volume of a call at its price, where it has one, and answers both. The trades bear the number 1.
+    pub fn uncross<B: Allocator>(
+        &mut self,
+        auction: Auction,
+        stage: CallStage,
+        reference: Price,
+        trades: &mut Trades<B>,
+    ) -> Result<Option<(Price, u64)>, OutOfMemory> {
+        match auction_price(&self.book, Phase::Call(auction, stage), reference) {
+            None => Ok(None),
+            Some((price, volume)) => {
+                trades.reserve(self.book.len())?;
+                allocate(&mut self.book, auction, stage, 1, price, volume, trades);
+                Ok(Some((price, volume)))
+            }
+        }
+    }
+
+    pub fn remove_expired(&mut self, today: u32) {
+        self.book.remove_expired(today)
     }
 
     /// Puts in an order, and answers whether the book can take it: not one of a known name, nor one

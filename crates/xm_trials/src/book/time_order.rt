@@ -3,7 +3,7 @@ use super::entries::Entries;
 use super::{CLOSING, compare_walk, enter, found, limit, order};
 use std::alloc::Allocator;
 use std::process::Abort;
-use xm_rules::{Order, Phase, Restriction, Side};
+use xm_rules::{Order, Phase, Restriction, Side, Validity};
 
 pub fn buy(rt: &impl Abort, reference: u32) -> Order {
     order(Side::Buy, reference, limit(rt, 100))
@@ -83,4 +83,26 @@ fn inactive_order(rt: HostRuntime) {
     let stored = book.orders().expect(&rt, "memory");
     assert!(rt; stored.len() == 1);
     found(&rt, stored.first().copied(), restricted_buy(&rt));
+}
+
+fn valid_buy(rt: &impl Abort, reference: u32, validity: Validity) -> Order {
+    Order {
+        validity,
+        ..buy(rt, reference)
+    }
+}
+
+#[test]
+fn end_of_a_day(rt: HostRuntime) {
+    let mut book = two_buys(&rt, rt.alloc());
+    let today = 20260105;
+    enter(&rt, &mut book, valid_buy(&rt, 3, Validity::TillCancelled));
+    enter(&rt, &mut book, valid_buy(&rt, 4, Validity::TillDate(today)));
+    enter(
+        &rt,
+        &mut book,
+        valid_buy(&rt, 5, Validity::TillDate(20260106)),
+    );
+    book.remove_expired(today);
+    compare_all(&rt, &book, &[3, 5]);
 }
