@@ -1,6 +1,7 @@
 pub mod Accepted
 pub mod Ahead
 pub mod Allotments
+pub mod CallTrades
 pub mod Checks
 pub mod Choices
 pub mod Journals

@@ -20,6 +20,7 @@ use Rattle.xm_rules.specs.declared.orders.OrderKind.TheVariants.{Market, Limit}
 use Rattle.xm_rules.specs.declared.orders.Restriction.{Restriction}
 use Rattle.xm_rules.specs.declared.orders.Side.{Side}
 use Rattle.xm_rules.specs.declared.orders.Stop.{Stop}
+use Rattle.xm_rules.specs.declared.orders.Trade.{Trade}
 use Rattle.xm_rules.specs.declared.orders.Validity.{Validity}
 use Rattle.xm_rules.specs.declared.phases.Auction.{Auction}
 use Rattle.xm_rules.specs.declared.phases.Auction.TheVariants.{Opening, Intraday, Closing}
@@ -137,10 +138,14 @@ act s EndDay = day_ended s
 unfoldable pub step : State → Command → State
 step s command = let t = settle (act s command) [] in record t { accepted = s.accepted + 1 }
 
+-- the trades that a later state has more than an earlier one
+abbrev pub new_trades : State → State → List Trade
+new_trades s t = drop (length s.trades) t.trades
+
 -- the reply to a command that led from one state to the next
 unfoldable pub reply : State → State → Reply
 reply s t =
-    let trades = drop (length s.trades) t.trades in
+    let trades = new_trades s t in
     record { version = t.accepted; first_trade = length s.trades; trades = length trades; quantity = total_quantity trades; money = total_money trades; phase = t.phase }
 
 -- the state after a list of commands

@@ -1,16 +1,22 @@
 //! Laws of the definitions, over all inputs. Each function promises one by its contract.
-ghost use Rattle.std.specs.Prelude.{◌≡◌, ◌≢◌, ◌≤◌, ◌+◌, ◌&&◌, ◌||◌, ◌++◌, ◌∷◌, ℕ, List, Option, Some, None, Contains, sum_by, true, false};
+ghost use Rattle.std.specs.Prelude.{◌≡◌, ◌≢◌, ◌≤◌, ◌+◌, ◌&&◌, ◌||◌, ◌++◌, ◌∷◌, [], ℕ, List, Option, Some, None, All, Contains, sum_by, true, false};
 ghost use Rattle.xm_rules.specs.Active.{Positioned, active};
 ghost use Rattle.xm_rules.specs.Allotment.{Uncrossing, side_queue, allotted, auction_trades};
 ghost use Rattle.xm_rules.specs.Auction.{auction_price, volume};
 ghost use Rattle.xm_rules.specs.Priority.{is_ahead};
 ghost use Rattle.xm_rules.specs.Refusals.{refusal_of};
-ghost use Rattle.xm_rules.specs.Step.{replay, is_lawful};
+ghost use Rattle.xm_rules.specs.State.{State, ranges, ref1, inside_both, inside_wide};
+ghost use Rattle.xm_rules.specs.Step.{replay, is_lawful, uncrossed, new_trades};
 ghost use Rattle.xm_rules.specs.Sums.{total_quantity};
 ghost use Rattle.xm_rules.specs.Sweep.{Sweep, filled, rest_after, sweep_trades, orders_after_sweep};
 ghost use Rattle.xm_rules.specs.declared.commands.Command.{Command};
 ghost use Rattle.xm_rules.specs.declared.orders.Order.{Order};
 ghost use Rattle.xm_rules.specs.declared.orders.Side.{Side};
+ghost use Rattle.xm_rules.specs.declared.orders.Trade.{Trade};
+ghost use Rattle.xm_rules.specs.declared.orders.TradeKind.TheVariants as made;
+ghost use Rattle.xm_rules.specs.declared.phases.Auction.{Auction};
+ghost use Rattle.xm_rules.specs.declared.phases.CallStage.{CallStage};
+ghost use Rattle.xm_rules.specs.declared.phases.CallStage.TheVariants.{Ordinary, Interrupted};
 ghost use Rattle.xm_rules.specs.declared.phases.Phase.{Phase};
 ghost use Rattle.xm_rules.specs.declared.phases.Phase.TheVariants.{Call};
 ghost use Rattle.xm_rules.specs.declared.replies.Refusal.{Refusal};
@@ -52,6 +58,24 @@ pub fn allotted_trades_sum_to_the_volume()
         → total_quantity (auction_trades number u) ≡ u.volume }
     ensures orders { (reference : ℕ) (u : Uncrossing) (side : Side) → auction_price (Call u.auction u.stage) u.orders reference ≡ Some (u.price, u.volume)
         → sum_by (allotted u) (side_queue u side) ≡ u.volume }
+{}
+
+/// The trades that the end of a call adds are all at the auction price and are marked with the call. At the end of an ordinary
+/// call they are inside the dynamic and the static range of the moment before it, at that of an interrupted one inside the wide
+/// range. A call without an auction price adds none.
+pub fn auction_trades_are_inside_the_ranges_of_their_stage()
+    ensures appended { (s : State) (auction : Auction) (stage : CallStage) → let t = uncrossed s (Call auction stage) in t.trades ≡ s.trades ++ new_trades s t }
+    ensures ordinary { (s : State) (auction : Auction)
+        → All (λ (t : Trade). inside_both (ranges s) t.price ≡ true) (new_trades s (uncrossed s (Call auction Ordinary))) }
+    ensures interrupted { (s : State) (auction : Auction)
+        → All (λ (t : Trade). inside_wide (ranges s) t.price ≡ true) (new_trades s (uncrossed s (Call auction Interrupted))) }
+    ensures kind { (s : State) (auction : Auction) (stage : CallStage)
+        → All (λ (t : Trade). t.kind ≡ made.Auction auction stage) (new_trades s (uncrossed s (Call auction stage))) }
+    ensures price { (s : State) (auction : Auction) (stage : CallStage) (price traded : ℕ)
+        → auction_price (Call auction stage) s.orders (ref1 s) ≡ Some (price, traded)
+        → All (λ (t : Trade). t.price ≡ price) (new_trades s (uncrossed s (Call auction stage))) }
+    ensures none { (s : State) (auction : Auction) (stage : CallStage) → auction_price (Call auction stage) s.orders (ref1 s) ≡ None
+        → new_trades s (uncrossed s (Call auction stage)) ≡ [] }
 {}
 
 /// A command that is refused where it stands is in no lawful journal.
