@@ -130,7 +130,7 @@ standing_part false accepts n m e f = absurd (cc)
 owned_part : (first count volume : ℕ) → min (first + count) volume - first ≡ owned_of first count volume
 owned_part first count volume = omega arith
 
-allotted_in_queue : (u : Uncrossing) (side : Side) (i : Positioned) → is_active_on (Call u.auction u.stage) side i ≡ true
+pub allotted_in_queue : (u : Uncrossing) (side : Side) (i : Positioned) → is_active_on (Call u.auction u.stage) side i ≡ true
     → allotted u i ≡ (if at_price u side i then owned (before side (side_queue u side)) units u.volume i else 0)
 allotted_in_queue u side i e =
     let same = side_is side i.order.side (and_parts (is_active (Call u.auction u.stage) i.order.restriction) (same_side side i.order.side) e).1 in

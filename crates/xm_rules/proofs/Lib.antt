@@ -1,4 +1,5 @@
 pub mod Accepted
+pub mod AfterCalls
 pub mod Ahead
 pub mod Allotments
 pub mod CallTrades
@@ -12,6 +13,7 @@ pub mod Orderings
 pub mod Positions
 pub mod Prices
 pub mod Queues
+pub mod Remaining
 pub mod Served
 pub mod Sums
 pub mod Sweeps

@@ -3,8 +3,10 @@ ghost use Rattle.std.specs.Prelude.{◌≡◌, ◌≢◌, ◌≤◌, ◌+◌, �
 ghost use Rattle.xm_rules.specs.Active.{Positioned, active};
 ghost use Rattle.xm_rules.specs.Allotment.{Uncrossing, side_queue, allotted, auction_trades};
 ghost use Rattle.xm_rules.specs.Auction.{auction_price, volume};
+ghost use Rattle.xm_rules.specs.Orders.{meets};
 ghost use Rattle.xm_rules.specs.Priority.{is_ahead};
 ghost use Rattle.xm_rules.specs.Refusals.{refusal_of};
+ghost use Rattle.xm_rules.specs.Sides.{opposite};
 ghost use Rattle.xm_rules.specs.State.{State, ranges, ref1, inside_both, inside_wide};
 ghost use Rattle.xm_rules.specs.Step.{replay, is_lawful, uncrossed, new_trades};
 ghost use Rattle.xm_rules.specs.Sums.{total_quantity};
@@ -18,7 +20,7 @@ ghost use Rattle.xm_rules.specs.declared.phases.Auction.{Auction};
 ghost use Rattle.xm_rules.specs.declared.phases.CallStage.{CallStage};
 ghost use Rattle.xm_rules.specs.declared.phases.CallStage.TheVariants.{Ordinary, Interrupted};
 ghost use Rattle.xm_rules.specs.declared.phases.Phase.{Phase};
-ghost use Rattle.xm_rules.specs.declared.phases.Phase.TheVariants.{Call};
+ghost use Rattle.xm_rules.specs.declared.phases.Phase.TheVariants.{Call, Continuous};
 ghost use Rattle.xm_rules.specs.declared.replies.Refusal.{Refusal};
 ghost use Rattle.xm_rules.specs.declared.settings.DeskSettings.{DeskSettings};
 
@@ -76,6 +78,15 @@ pub fn auction_trades_are_inside_the_ranges_of_their_stage()
         → All (λ (t : Trade). t.price ≡ price) (new_trades s (uncrossed s (Call auction stage))) }
     ensures none { (s : State) (auction : Auction) (stage : CallStage) → auction_price (Call auction stage) s.orders (ref1 s) ≡ None
         → new_trades s (uncrossed s (Call auction stage)) ≡ [] }
+{}
+
+/// Where a call leads to continuous trading, no two active orders meet then, whether it had a price or none: their limits don't
+/// cross, and no market order rests beside an active order of the other side. Each order of the call has a unit at least.
+pub fn no_orders_meet_after_a_call()
+    ensures { (s : State) (auction : Auction) (stage : CallStage) (side : Side) (i j : Positioned) → let t = uncrossed s (Call auction stage) in
+        All (λ (o : Order). 1 ≤ o.rest) s.orders → t.phase ≡ Continuous
+        → Contains (active Continuous side t.orders) i → Contains (active Continuous (opposite side) t.orders) j
+        → meets side i.order.kind j.order.kind ≡ false }
 {}
 
 /// A command that is refused where it stands is in no lawful journal.
