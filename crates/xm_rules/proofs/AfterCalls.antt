@@ -1,15 +1,16 @@
 -- After a call no two orders of the two sides meet.
-use Rattle.std.proofs.Common.{◌≡◌, ℕ, ◌+◌, ◌-◌, ◌<◌, ◌≤◌, Bool, true, false, if◌then◌else◌, List, All, Contains, Option, Some, None, refl, sym, ap, ◌∙◌, arith}
+use Rattle.std.proofs.Common.{◌≡◌, ℕ, ◌+◌, ◌-◌, ◌<◌, ◌≤◌, Bool, true, false, if◌then◌else◌, List, All, Contains, IfSome, Option, Some, None, refl, sym, ap, ◌∙◌, arith}
 use Rattle.std.specs.Prelude.{nat_le}
 use Rattle.std.proofs.lemmas.Bool.{false_from_ne_true}
 use Rattle.std.proofs.lemmas.Bool.Decides.{nat_tests}
-use Rattle.std.proofs.lemmas.List.Elements.{All-filter, All-contains, All-contains_itself}
-use Rattle.xm_rules.specs.Active.{Positioned, active, is_active_on, positioned_from}
+use Rattle.std.proofs.lemmas.List.Elements.{All-filter, All-weaker, All-contains, All-contains_itself}
+use Rattle.xm_rules.specs.Active.{Positioned, active, is_active_on, limits, positioned_from}
 use Rattle.xm_rules.specs.Allotment.{Uncrossing, allotted, orders_after_call}
 use Rattle.xm_rules.specs.Auction.{accepting, auction_price, volume}
-use Rattle.xm_rules.specs.Orders.{accepts, meets}
+use Rattle.xm_rules.specs.Orders.{accepts, limit_of, meets}
 use Rattle.xm_rules.specs.Priority.{before}
-use Rattle.xm_rules.specs.Sides.{opposite}
+use Rattle.xm_rules.specs.Quote.{best_limit}
+use Rattle.xm_rules.specs.Sides.{best, opposite}
 use Rattle.xm_rules.specs.State.{State, inside_both, inside_wide, ranges, ref1}
 use Rattle.xm_rules.specs.Step.{traded, uncrossed_at}
 use Rattle.xm_rules.specs.declared.orders.Order.{Order}
@@ -23,7 +24,8 @@ use Rattle.xm_rules.specs.declared.phases.CallStage.TheVariants.{Ordinary, Inter
 use Rattle.xm_rules.specs.declared.phases.Phase.{Phase}
 use Rattle.xm_rules.specs.declared.phases.Phase.TheVariants.{Call, Continuous}
 use Rattle.xm_rules.proofs.Allotments.{within_side}
-use Rattle.xm_rules.proofs.CallTrades.{call_of}
+use Rattle.xm_rules.proofs.CallTrades.{All-filter_map, call_of}
+use Rattle.xm_rules.proofs.Choices.{best_has}
 use Rattle.xm_rules.proofs.Remaining.{accepted_with_ahead, active_in_call_on, each_positioned, is_lessened, is_on_side, joins_queue, left_past_volume}
 use Rattle.xm_rules.proofs.Prices.{greatest_volume, no_volume, volume_at_price}
 use Rattle.xm_rules.proofs.Queues.{units}
@@ -129,3 +131,34 @@ none_meet_after s auction stage None e some h = none_traded s auction stage some
 none_meet_after s auction Ordinary (Some priced) e some h = traded_if s (call_of s auction Ordinary priced) Interrupted (inside_both (ranges s) priced.0) e h
 none_meet_after s auction Interrupted (Some priced) e some h = traded_if s (call_of s auction Interrupted priced) Extended (inside_wide (ranges s) priced.0) e h
 none_meet_after s auction Extended (Some priced) e some h = some_traded s (call_of s auction Extended priced) e
+
+-- ---- the quote after it
+
+apart_if : (sell buy : ℕ) → nat_le sell buy ≡ false → buy < sell
+apart_if sell buy e = grind (arith, nat_tests)
+
+-- below a limit that the order has, where it has one
+limit_below : (k : OrderKind) (sell : ℕ) → meets Buy k (Limit sell) ≡ false → IfSome (limit_of k) (λ buy. buy < sell)
+limit_below Market sell e = absurd (cc)
+limit_below (Limit buy) sell e = apart_if sell buy e
+
+limits_below : (orders : List Order) → NoneMeet orders → (j : Positioned) → Contains (active Continuous Sell orders) j → (sell : ℕ) → j.order.kind ≡ Limit sell
+    → All (λ buy. buy < sell) (limits (active Continuous Buy orders))
+limits_below orders none j to sell e =
+    All-filter_map (λ buy. buy < sell) (λ (i : Positioned). limit_of i.order.kind) (active Continuous Buy orders)
+    (All-weaker (Contains (active Continuous Buy orders)) (λ (i : Positioned). IfSome (limit_of i.order.kind) (λ buy. buy < sell))
+    (λ i at. limit_below i.order.kind sell (ap (meets Buy i.order.kind) (sym e) ∙ none Buy i j at to)) (active Continuous Buy orders) (All-contains_itself (active Continuous Buy orders)))
+
+below_each : (orders : List Order) (buy : ℕ) → NoneMeet orders → best Buy (limits (active Continuous Buy orders)) ≡ Some buy → All (λ sell. buy < sell) (limits (active Continuous Sell orders))
+below_each orders buy none e =
+    All-filter_map (λ sell. buy < sell) (λ (j : Positioned). limit_of j.order.kind) (active Continuous Sell orders)
+    (All-weaker (Contains (active Continuous Sell orders)) (λ (j : Positioned). IfSome (limit_of j.order.kind) (λ sell. buy < sell))
+    (λ j to. of_kind j to j.order.kind refl) (active Continuous Sell orders) (All-contains_itself (active Continuous Sell orders))) where
+      of_kind : (j : Positioned) → Contains (active Continuous Sell orders) j → (k : OrderKind) → j.order.kind ≡ k → IfSome (limit_of k) (λ sell. buy < sell)
+      of_kind j to Market f = tt
+      of_kind j to (Limit sell) f = best_has (λ x. x < sell) Buy (limits (active Continuous Buy orders)) buy e (limits_below orders none j to sell f)
+
+pub best_limits_apart : (t : State) (buy sell : ℕ) → t.phase ≡ Continuous → NoneMeet t.orders → best_limit t Buy ≡ Some buy → best_limit t Sell ≡ Some sell → buy < sell
+best_limits_apart t buy sell phase none e f =
+    let best_in = λ (side : Side) (p : Phase). best side (limits (active p side t.orders)) in
+    best_has (λ x. buy < x) Sell (limits (active Continuous Sell t.orders)) sell (ap (best_in Sell) (sym phase) ∙ f) (below_each t.orders buy none (ap (best_in Buy) (sym phase) ∙ e))

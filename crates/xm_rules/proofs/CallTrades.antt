@@ -1,5 +1,5 @@
 -- The trades of a call: each is at its price and marked with it, and an end of the call adds them to those before.
-use Rattle.std.proofs.Common.{◌≡◌, ℕ, ◌+◌, ◌-◌, min, max, Bool, true, false, if◌then◌else◌, List, [], ◌∷◌, ◌++◌, length, drop, All, IfSome, Option, Some, None, refl, sym, ap, subst, ◌∙◌, append-nil, drop_at}
+use Rattle.std.proofs.Common.{◌≡◌, ℕ, ◌+◌, ◌-◌, min, max, Bool, true, false, if◌then◌else◌, List, [], ◌∷◌, ◌++◌, length, get_or, drop, All, IfSome, Option, Some, None, refl, sym, ap, subst, ◌∙◌, append-nil, drop_at}
 use Rattle.std.proofs.Math.Seq.{drop-length}
 use Rattle.std.specs.List.{filter_map, flat_map, cons_option}
 use Rattle.std.specs.Prelude.{nat_le, nat_lt, unwrap_or}
@@ -24,9 +24,9 @@ module _ {Y : Type 0} (P : Y → Type 0) where
   given_if (Some y) ys h all = All-cons P y ys h all
 
 module _ {X Y : Type 0} (P : Y → Type 0) where
-  pub All-filter_map : (f : X → Option Y) (xs : List X) → ((x : X) → IfSome (f x) P) → All P (filter_map f xs)
+  pub All-filter_map : (f : X → Option Y) (xs : List X) → All (λ x. IfSome (f x) P) xs → All P (filter_map f xs)
   All-filter_map f [] h = All-nil P
-  All-filter_map f (x ∷ xs) h = given_if P (f x) (filter_map f xs) (h x) (All-filter_map f xs h)
+  All-filter_map f (x ∷ xs) h = given_if P (f x) (filter_map f xs) (All-head (λ y. IfSome (f y) P) x xs h) (All-filter_map f xs (All-tail (λ y. IfSome (f y) P) x xs h))
 
   pub All-flat_map : (f : X → List Y) (xs : List X) → ((x : X) → All P (f x)) → All P (flat_map f xs)
   All-flat_map f [] h = All-nil P
@@ -70,7 +70,7 @@ trades_of_call number u =
     All-in_order (IsOfCall u) (flat_map with_sells (parties u Buy))
     (All-flat_map (λ (x : ℕ × Trade). IsOfCall u x.1) with_sells (parties u Buy)
     (λ b. All-filter_map (λ (x : ℕ × Trade). IsOfCall u x.1) (trade_of_pair number u b) (parties u Sell)
-    (λ s. pair_if number u b s (max (first_unit u Buy b) (first_unit u Sell s)) (min (end_unit u Buy b) (end_unit u Sell s)))))
+    (λ k d l. (let s = get_or (parties u Sell) k d in pair_if number u b s (max (first_unit u Buy b) (first_unit u Sell s)) (min (end_unit u Buy b) (end_unit u Sell s))))))
 
 -- a later state has the trades of an earlier one and then others, of each of which something holds
 pub record Adds (P : Trade → Type 0) (s t : State) : Type 0 where

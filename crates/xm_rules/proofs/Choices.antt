@@ -1,11 +1,11 @@
 -- Choices from lists of numbers.
-use Rattle.std.proofs.Common.{◌≡◌, ℕ, ◌<◌, zero, suc, Bool, true, false, cond, if◌then◌else◌, List, [], ◌∷◌, filter, length, get_or, All, refl, sym, subst, ◌⊎◌, inl, inr, arith}
+use Rattle.std.proofs.Common.{◌≡◌, ℕ, ◌<◌, zero, suc, Bool, true, false, cond, if◌then◌else◌, List, [], ◌∷◌, filter, length, get_or, All, Some, refl, sym, subst, ◌⊎◌, inl, inr, arith}
 use Rattle.std.specs.List.{list_all}
 use Rattle.std.specs.Prelude.{nat_le}
 use Rattle.std.proofs.lemmas.Bool.{and_parts, and_from}
 use Rattle.std.proofs.lemmas.Bool.Decides.{nat_tests}
 use Rattle.std.proofs.lemmas.List.Elements.{All-head, All-tail}
-use Rattle.xm_rules.specs.Sides.{reaches, best_from}
+use Rattle.xm_rules.specs.Sides.{reaches, best, best_from}
 use Rattle.xm_rules.specs.Auction.{highest, lowest, where_greatest, where_least, kept_between, price_among}
 use Rattle.xm_rules.specs.declared.orders.Side.{Side}
 use Rattle.xm_rules.specs.declared.orders.Side.TheVariants.{Buy, Sell}
@@ -111,6 +111,13 @@ module _ (P : ℕ → Type 0) where
   best_from_has side x [] h all = h
   best_from_has side x (y ∷ ys) h all =
       best_from_has side (if reaches side x y then x else y) ys (either (reaches side x y) x y h (All-head P y ys all)) (All-tail P y ys all)
+
+  -- what holds of each of some prices holds of the best of them
+  pub best_has : (side : Side) (xs : List ℕ) (x : ℕ) → best side xs ≡ Some x → All P xs → P x
+  best_has side [] x e all = absurd (cc)
+  best_has side (y ∷ ys) x e all =
+      let same : best_from side y ys ≡ x = cc in
+      subst P same (best_from_has side y ys (All-head P y ys all) (All-tail P y ys all))
 
   highest_has : (xs : List ℕ) → 0 < length xs → All P xs → P (highest xs)
   highest_has [] h all = absurd (omega arith)

@@ -1,10 +1,11 @@
 //! Laws of the definitions, over all inputs. Each function promises one by its contract.
-ghost use Rattle.std.specs.Prelude.{◌≡◌, ◌≢◌, ◌≤◌, ◌+◌, ◌&&◌, ◌||◌, ◌++◌, ◌∷◌, [], ℕ, List, Option, Some, None, All, Contains, sum_by, true, false};
+ghost use Rattle.std.specs.Prelude.{◌≡◌, ◌≢◌, ◌≤◌, ◌<◌, ◌+◌, ◌&&◌, ◌||◌, ◌++◌, ◌∷◌, [], ℕ, List, Option, Some, None, All, Contains, sum_by, true, false};
 ghost use Rattle.xm_rules.specs.Active.{Positioned, active};
 ghost use Rattle.xm_rules.specs.Allotment.{Uncrossing, side_queue, allotted, auction_trades};
 ghost use Rattle.xm_rules.specs.Auction.{auction_price, volume};
 ghost use Rattle.xm_rules.specs.Orders.{meets};
 ghost use Rattle.xm_rules.specs.Priority.{is_ahead};
+ghost use Rattle.xm_rules.specs.Quote.{best_limit};
 ghost use Rattle.xm_rules.specs.Refusals.{refusal_of};
 ghost use Rattle.xm_rules.specs.Sides.{opposite};
 ghost use Rattle.xm_rules.specs.State.{State, ranges, ref1, inside_both, inside_wide};
@@ -14,6 +15,7 @@ ghost use Rattle.xm_rules.specs.Sweep.{Sweep, filled, rest_after, sweep_trades, 
 ghost use Rattle.xm_rules.specs.declared.commands.Command.{Command};
 ghost use Rattle.xm_rules.specs.declared.orders.Order.{Order};
 ghost use Rattle.xm_rules.specs.declared.orders.Side.{Side};
+ghost use Rattle.xm_rules.specs.declared.orders.Side.TheVariants.{Buy, Sell};
 ghost use Rattle.xm_rules.specs.declared.orders.Trade.{Trade};
 ghost use Rattle.xm_rules.specs.declared.orders.TradeKind.TheVariants as made;
 ghost use Rattle.xm_rules.specs.declared.phases.Auction.{Auction};
@@ -81,12 +83,16 @@ pub fn auction_trades_are_inside_the_ranges_of_their_stage()
 {}
 
 /// Where a call leads to continuous trading, no two active orders meet then, whether it had a price or none: their limits don't
-/// cross, and no market order rests beside an active order of the other side. Each order of the call has a unit at least.
+/// cross, and no market order rests beside an active order of the other side. So the best buy limit is below the best sell limit.
+/// Each order of the call has a unit at least.
 pub fn no_orders_meet_after_a_call()
-    ensures { (s : State) (auction : Auction) (stage : CallStage) (side : Side) (i j : Positioned) → let t = uncrossed s (Call auction stage) in
+    ensures orders { (s : State) (auction : Auction) (stage : CallStage) (side : Side) (i j : Positioned) → let t = uncrossed s (Call auction stage) in
         All (λ (o : Order). 1 ≤ o.rest) s.orders → t.phase ≡ Continuous
         → Contains (active Continuous side t.orders) i → Contains (active Continuous (opposite side) t.orders) j
         → meets side i.order.kind j.order.kind ≡ false }
+    ensures limits { (s : State) (auction : Auction) (stage : CallStage) (buy sell : ℕ) → let t = uncrossed s (Call auction stage) in
+        All (λ (o : Order). 1 ≤ o.rest) s.orders → t.phase ≡ Continuous
+        → best_limit t Buy ≡ Some buy → best_limit t Sell ≡ Some sell → buy < sell }
 {}
 
 /// A command that is refused where it stands is in no lawful journal.
