@@ -1,17 +1,19 @@
 //! The desk of one security.
-ghost use Rattle.std.specs.Prelude.{◌≡◌, ◌≢◌, ◌++◌, ◌∷◌, [], IsTrue, None, Some, Err, IfOk, IfErr, OnErr, OnOk};
+ghost use Rattle.std.specs.Prelude.{◌≡◌, ◌≢◌, ◌≤◌, ◌++◌, ◌∷◌, [], All, IsTrue, None, Some, Err, IfOk, IfErr, OnErr, OnOk, length};
 ghost use Rattle.xm_desk.specs.Opening.{open_fault};
+ghost use Rattle.xm_desk.specs.declared.tape.TheConstants.{MAX_TRADES};
 ghost use Rattle.xm_rules.specs.Refusals.{refusal_of};
 ghost use Rattle.xm_rules.specs.Served.{HasNoTrades, HoldsNoStops, IsOutsideContinuousTrading, is_served};
 ghost use Rattle.xm_rules.specs.State.{ref1, ref2};
 ghost use Rattle.xm_rules.specs.Step.{is_lawful, replay, reply};
+ghost use Rattle.xm_ticks.specs.declared.numbers.TheConstants.{MAX_QUANTITY};
 
 use crate::market::Market;
 use crate::opening::{OpenFault, open_fault};
 use std::alloc::Allocator;
 use std::marker::Model;
 use xm_names::Seed;
-use xm_rules::{Command, DeskSettings, Order, OutOfMemory, Phase, Refusal, Reply};
+use xm_rules::{Command, DeskSettings, Order, OutOfMemory, Phase, Refusal, Reply, Trade};
 use xm_ticks::Price;
 
 /// One security. A clause sees it as its journal: the settings that it was opened with, and the
@@ -68,6 +70,15 @@ impl<A: Allocator + Copy> Desk<A> {
         ensures { IfOk result (λ orders. orders.items ≡ (replay self.now).orders) }
     {
         self.market.orders()
+    }
+
+    /// The trades, the first one first. No command that is served today trades.
+    pub fn trades(&self) -> &[Trade]
+        ensures trades { result.now ≡ (replay self.now).trades }
+        ensures few { length result.now ≤ MAX_TRADES }
+        ensures sized { All (λ trade. trade.quantity ≤ MAX_QUANTITY) result.now }
+    {
+        self.market.trades()
     }
 
     /// Takes a command into the journal and answers its reply. A refused one changes nothing.

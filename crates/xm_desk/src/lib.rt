@@ -16,3 +16,4 @@ mod unsettled;
 
 pub use crate::desk::Desk;
 pub use crate::opening::{MAX_MEMBERS, MAX_WIDTH, OpenFault, are_widths};
+pub use crate::tape::MAX_TRADES;

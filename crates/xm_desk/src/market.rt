@@ -15,7 +15,7 @@ use std::alloc::Allocator;
 use std::marker::Model;
 use xm_book::Book;
 use xm_names::Seed;
-use xm_rules::{Command, DeskSettings, Order, OutOfMemory, Phase, Refusal, Reply};
+use xm_rules::{Command, DeskSettings, Order, OutOfMemory, Phase, Refusal, Reply, Trade};
 use xm_ticks::Price;
 
 /// A security after the commands that it accepted. No stop is pending.
@@ -57,6 +57,13 @@ impl<A: Allocator + Copy> Market<A> {
         ensures { IfOk result (λ orders. orders.items ≡ self.now.state.orders) }
     {
         self.inside.book.orders()
+    }
+
+    /// The trades, the first one first.
+    pub fn trades(&self) -> &[Trade]
+        ensures { result.now ≡ self.now.state.trades }
+    {
+        self.inside.tape.as_slice()
     }
 
     /// Why a command is refused, memory aside.

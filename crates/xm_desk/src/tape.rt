@@ -8,6 +8,10 @@ use xm_book::Trades;
 use xm_rules::{OutOfMemory, Trade};
 use xm_ticks::Price;
 
+/// The most trades of a desk: 2,000,000 for each command that its journal takes, of members and of
+/// the phases.
+pub const MAX_TRADES: u64 = 2_000_128_000_000;
+
 /// The trades so far. The last price and the last auction price are kept with them.
 #[derive(Drop)]
 pub struct Tape<A: Allocator> {
@@ -43,6 +47,13 @@ impl<A: Allocator> Tape<A> {
             last: opening,
             last_auction: opening,
         }
+    }
+
+    /// The trades, the first one first.
+    pub fn as_slice(&self) -> &[Trade]
+        ensures { result.now ≡ self.now.trades }
+    {
+        self.trades.as_slice()
     }
 
     /// How many trades there are.
