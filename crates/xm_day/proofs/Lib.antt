@@ -12,3 +12,4 @@ pub mod Days
 pub mod Endings
 pub mod PassedErrors
 pub mod ReadOrders
+pub mod CashSums

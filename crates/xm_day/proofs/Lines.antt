@@ -1,12 +1,12 @@
--- The lines of a statement, as they are written one after another, and those that there are none of where nothing was traded.
+-- The lines of a statement, as they are written one after another.
 use Rattle.std.proofs.Common.{◌≡◌, ℕ, ℤ, pos, ◌+◌, ◌*◌, ◌<◌, ◌++◌, List, [], ◌∷◌, length, map, append_assoc, get_or, take, refl, arith, ap, sym, subst, ◌∙◌, suc, zero, All}
 use Rattle.std.specs.List.{flat_map, range_with_len}
 use Rattle.std.proofs.lemmas.List.Concat.{flat_map-cons}
-use Rattle.std.proofs.lemmas.List.Elements.{All-push}
-use Rattle.std.proofs.lemmas.List.{append-nil, flat_map_more, take_more, length-map, length-take, map-append}
+use Rattle.std.proofs.lemmas.List.{append-nil, flat_map_more, nil_from_length, take_more, length-map, length-take, map-append}
 use Rattle.xm_rules.specs.State.{State}
 use Rattle.xm_rules.specs.Step.{Journal, replay}
 use Rattle.xm_rules.specs.Sums.{total_money, total_quantity}
+use Rattle.xm_rules.specs.declared.orders.Order.{Order}
 use Rattle.xm_rules.specs.declared.orders.Trade.{Trade}
 use Rattle.xm_day.specs.Names.{NameLists}
 use Rattle.xm_day.specs.Statement.{cash, cash_line, heading_text, member_indices, member_line, name_at, net_line, order_line, securities_text, security_text, stop_line, today_of, total_cash, total_text, trade_line}
@@ -39,44 +39,42 @@ net_line-none : (names : NameLists) (s : State) (member : ℕ) → s.trades ≡ 
 net_line-none names s member none = rw none refl
 
 -- where nothing was traded no member has a net position
-pub net_lines-none : (names : NameLists) (s : State) (members : List ℕ) → s.trades ≡ [] → flat_map (net_line names s) members ≡ []
+pub net_lines-none : (names : NameLists) (s : State) (members : List ℕ) → length s.trades ≡ 0 → flat_map (net_line names s) members ≡ []
 net_lines-none names s [] none = refl
-net_lines-none names s (m ∷ ms) none = flat_map-cons (net_line names s) m ms ∙ rw (net_line-none names s m none, net_lines-none names s ms none) refl
+net_lines-none names s (m ∷ ms) none = flat_map-cons (net_line names s) m ms ∙ rw (net_line-none names s m (nil_from_length s.trades none), net_lines-none names s ms none) refl
 
-parts : (text heading orders total full_total trades stops nets : List ℕ) → trades ≡ [] → stops ≡ [] → nets ≡ [] → total ≡ full_total
-    → ((text ++ heading) ++ orders) ++ total ≡ text ++ (((((heading ++ trades) ++ orders) ++ stops) ++ nets) ++ full_total)
-parts text heading orders total full_total trades stops nets a b c d = rw (a, b, c, d) (simp (append-nil, append_assoc))
+parts : (text heading trades orders stops nets total : List ℕ) → stops ≡ []
+    → ((((text ++ heading) ++ trades) ++ orders) ++ nets) ++ total ≡ text ++ (((((heading ++ trades) ++ orders) ++ stops) ++ nets) ++ total)
+parts text heading trades orders stops nets total none = rw none (simp (append-nil, append_assoc))
 
--- so a security has its heading, its orders and an empty total
-pub security-no_trades : (names : NameLists) (index : ℕ) (s : State) (text : List ℕ) → s.trades ≡ [] → s.stops ≡ []
-    → ((text ++ heading_text (name_at names.securities index) s) ++ flat_map (order_line names s.settings.tick) s.orders) ++ total_text s.settings.tick 0 0 ≡ text ++ security_text names index s
-security-no_trades names index s text no_trades no_stops =
-    parts text (heading_text (name_at names.securities index) s) (flat_map (order_line names s.settings.tick) s.orders)
-    (total_text s.settings.tick 0 0) (total_text s.settings.tick (total_quantity s.trades) (total_money s.trades))
-    (flat_map (trade_line names s.settings.tick) s.trades) (flat_map (stop_line names s.settings.tick) s.stops) (flat_map (net_line names s) (member_indices names))
-    (ap (flat_map (trade_line names s.settings.tick)) no_trades) (ap (flat_map (stop_line names s.settings.tick)) no_stops) (net_lines-none names s (member_indices names) no_trades)
-    (ap (λ (ts : List Trade). total_text s.settings.tick (total_quantity ts) (total_money ts)) (sym no_trades))
+-- where no stop is held, a security has its heading, trades, orders, net positions and total
+security-no_stops : (names : NameLists) (index : ℕ) (s : State) (text : List ℕ) → s.stops ≡ []
+    → ((((text ++ heading_text (name_at names.securities index) s) ++ flat_map (trade_line names s.settings.tick) s.trades) ++ flat_map (order_line names s.settings.tick) s.orders)
+    ++ flat_map (net_line names s) (member_indices names))
+    ++ total_text s.settings.tick (total_quantity s.trades) (total_money s.trades)
+    ≡ text ++ security_text names index s
+security-no_stops names index s text none =
+    parts text (heading_text (name_at names.securities index) s) (flat_map (trade_line names s.settings.tick) s.trades) (flat_map (order_line names s.settings.tick) s.orders)
+    (flat_map (stop_line names s.settings.tick) s.stops) (flat_map (net_line names s) (member_indices names)) (total_text s.settings.tick (total_quantity s.trades) (total_money s.trades))
+    (ap (flat_map (stop_line names s.settings.tick)) none)
 
-cash-none : (s : State) (member : ℕ) → s.trades ≡ [] → cash s member ≡ pos 0
-cash-none s member none =
-    let nothing : 0 * s.settings.tick ≡ 0 = omega arith in
-    rw (none, nothing) refl
-
--- and no member has cash
-total_cash-none : (js : List Journal) (member : ℕ) → All (λ (j : Journal). (replay j).trades ≡ []) js → total_cash (map replay js) member ≡ pos 0
-total_cash-none [] member h = refl
-total_cash-none (j ∷ js) member h =
-    let first : (replay j).trades ≡ [] = h 0 j (omega arith) in
-    let rest : All (λ (k : Journal). (replay k).trades ≡ []) js = λ i d l. h (suc i) d (omega arith) in
-    rw (cash-none (replay j) member first, total_cash-none js member rest) refl
-
-pub member_lines-none : (names : NameLists) (js : List Journal) (members : List ℕ) → All (λ (j : Journal). (replay j).trades ≡ []) js → flat_map (cash_line names (pos 0)) members ≡ flat_map (member_line names (map replay js)) members
-member_lines-none names js [] h = refl
-member_lines-none names js (m ∷ ms) h =
-    flat_map-cons (cash_line names (pos 0)) m ms
-    ∙ ap (λ (text : List ℕ). cash_line names (pos 0) m ++ text) (member_lines-none names js ms h)
-    ∙ ap (λ (amount : ℤ). cash_line names amount m ++ flat_map (member_line names (map replay js)) ms) (sym (total_cash-none js m h))
-    ∙ sym (flat_map-cons (member_line names (map replay js)) m ms)
+-- so it is written by one part after another
+pub security-written : (names : NameLists) (index : ℕ) (s : State) (size : ℕ) (trades : List Trade) (orders : List Order) (text t1 t2 t3 t4 t5 : List ℕ)
+    → size ≡ s.settings.tick → trades ≡ s.trades → orders ≡ s.orders → s.stops ≡ []
+    → t1 ≡ text ++ heading_text (name_at names.securities index) s → t2 ≡ t1 ++ flat_map (trade_line names size) trades → t3 ≡ t2 ++ flat_map (order_line names size) orders
+    → t4 ≡ t3 ++ flat_map (net_line names s) (member_indices names) → t5 ≡ t4 ++ total_text s.settings.tick (total_quantity s.trades) (total_money s.trades)
+    → t5 ≡ text ++ security_text names index s
+security-written names index s size trades orders text t1 t2 t3 t4 t5 a b c none e1 e2 e3 e4 e5 =
+    let f2 : t2 ≡ t1 ++ flat_map (trade_line names s.settings.tick) s.trades =
+        e2 ∙ ap (λ (ts : List Trade). t1 ++ flat_map (trade_line names size) ts) b ∙ ap (λ (k : ℕ). t1 ++ flat_map (trade_line names k) s.trades) a in
+    let f3 : t3 ≡ t2 ++ flat_map (order_line names s.settings.tick) s.orders =
+        e3 ∙ ap (λ (os : List Order). t2 ++ flat_map (order_line names size) os) c ∙ ap (λ (k : ℕ). t2 ++ flat_map (order_line names k) s.orders) a in
+    e5
+    ∙ ap (λ (t : List ℕ). t ++ total_text s.settings.tick (total_quantity s.trades) (total_money s.trades))
+    (e4
+    ∙ ap (λ (t : List ℕ). t ++ flat_map (net_line names s) (member_indices names))
+    (f3 ∙ ap (λ (t : List ℕ). t ++ flat_map (order_line names s.settings.tick) s.orders) (f2 ∙ ap (λ (t : List ℕ). t ++ flat_map (trade_line names s.settings.tick) s.trades) e1)))
+    ∙ security-no_stops names index s text none
 
 -- the securities up to one, and it
 pub securities-taken : (names : NameLists) (js : List Journal) (i : ℕ) (j : Journal) → i < length js → j ≡ get_or js i j
@@ -98,9 +96,3 @@ four_parts t t1 t2 t3 t4 a b c d e e1 e2 e3 e4 =
 pub today_of-first : (js : List Journal) (j : Journal) → 0 < length js → j ≡ get_or js 0 j → (replay j).settings.today ≡ today_of (map replay js)
 today_of-first [] j some first = absurd (omega arith)
 today_of-first (k ∷ ks) j some first = ap (λ (i : Journal). (replay i).settings.today) first
-
--- what holds of the desks up to one, and of it
-pub all-taken : (P : Journal → Type 0) (js : List Journal) (i : ℕ) (j : Journal) → i < length js → j ≡ get_or js i j → All P (take i js) → P j → All P (take (i + 1) js)
-all-taken P js i j within is all one =
-    let AllOf : List Journal → Type 0 = λ ks. All P ks in
-    subst AllOf (sym (take_more js i j within ∙ ap (λ (k : Journal). take i js ++ k ∷ []) (sym is))) (All-push P (take i js) j all one)

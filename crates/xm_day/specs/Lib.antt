@@ -7,3 +7,4 @@ pub mod Orders
 pub mod Rows
 pub mod Segment
 pub mod Statement
+pub mod Traded

@@ -74,19 +74,23 @@ limit_text tick (Limit price) = price_text price tick
 abbrev pub name_at : List (List ℕ) → ℕ → List ℕ
 name_at names index = unwrap_or (slice_get names index) []
 
+-- the name of a member, and the reference that it gave an order
+abbrev pub party_text : NameLists → ℕ → ℕ → List ℕ
+party_text names member reference = name_at names.members member ++ codes " " ++ decimal reference
+
 abbrev pub trade_line : NameLists → ℕ → Trade → List ℕ
 trade_line names tick t =
     codes "TRADE " ++ decimal t.sweep ++ codes " " ++ trade_word t.kind ++ codes " " ++ price_text t.price tick ++ codes " " ++ decimal t.quantity
-    ++ codes " " ++ name_at names.members t.buyer ++ codes " " ++ decimal t.buy_ref ++ codes " " ++ name_at names.members t.seller ++ codes " " ++ decimal t.sell_ref ++ codes "\n"
+    ++ codes " " ++ party_text names t.buyer t.buy_ref ++ codes " " ++ party_text names t.seller t.sell_ref ++ codes "\n"
 
 abbrev pub order_line : NameLists → ℕ → Order → List ℕ
 order_line names tick o =
-    codes "ORDER " ++ name_at names.members o.member ++ codes " " ++ decimal o.reference ++ codes " " ++ side_word o.side ++ codes " " ++ limit_text tick o.kind
+    codes "ORDER " ++ party_text names o.member o.reference ++ codes " " ++ side_word o.side ++ codes " " ++ limit_text tick o.kind
     ++ codes " " ++ decimal o.rest ++ codes " " ++ validity_text o.validity ++ codes " " ++ restriction_word o.restriction ++ codes "\n"
 
 abbrev pub stop_line : NameLists → ℕ → Stop → List ℕ
 stop_line names tick s =
-    codes "STOP " ++ name_at names.members s.member ++ codes " " ++ decimal s.reference ++ codes " " ++ side_word s.side ++ codes " " ++ price_text s.trigger tick
+    codes "STOP " ++ party_text names s.member s.reference ++ codes " " ++ side_word s.side ++ codes " " ++ price_text s.trigger tick
     ++ codes " " ++ limit_text tick s.becomes ++ codes " " ++ decimal s.quantity ++ codes " " ++ validity_text s.validity ++ codes "\n"
 
 -- in ten-thousandths of a euro: what a member received in a security less what it paid
@@ -97,12 +101,13 @@ cash s member = pos (received member s.trades * s.settings.tick) -ℤ pos (paid 
 abbrev pub net : State → ℕ → ℤ
 net s member = pos (bought member s.trades) -ℤ pos (sold member s.trades)
 
+abbrev pub net_position_line : List ℕ → ℤ → ℤ → List ℕ
+net_position_line name units amount = codes "NET " ++ name ++ codes " " ++ signed_decimal units ++ codes " " ++ money_text amount ++ codes "\n"
+
 -- a member has a line in a security where it bought or sold a unit
 abbrev pub net_line : NameLists → State → ℕ → List ℕ
 net_line names s member =
-    if nat_lt 0 (bought member s.trades + sold member s.trades)
-    then codes "NET " ++ name_at names.members member ++ codes " " ++ signed_decimal (net s member) ++ codes " " ++ money_text (cash s member) ++ codes "\n"
-    else []
+    if nat_lt 0 (bought member s.trades + sold member s.trades) then net_position_line (name_at names.members member) (net s member) (cash s member) else []
 
 -- the indices of the members
 abbrev pub member_indices : NameLists → List ℕ
@@ -141,11 +146,11 @@ abbrev pub total_cash : List State → ℕ → ℤ
 total_cash [] member = pos 0
 total_cash (s ∷ ss) member = cash s member +ℤ total_cash ss member
 
-abbrev pub cash_line : NameLists → ℤ → ℕ → List ℕ
-cash_line names amount member = codes "MEMBER " ++ name_at names.members member ++ codes " " ++ money_text amount ++ codes "\n"
+abbrev pub cash_line : List ℕ → ℤ → List ℕ
+cash_line name amount = codes "MEMBER " ++ name ++ codes " " ++ money_text amount ++ codes "\n"
 
 abbrev pub member_line : NameLists → List State → ℕ → List ℕ
-member_line names states member = cash_line names (total_cash states member) member
+member_line names states member = cash_line (name_at names.members member) (total_cash states member)
 
 -- the date, which all securities of a segment share
 abbrev pub today_of : List State → ℕ

@@ -18,7 +18,11 @@ mod report;
 mod rows;
 mod segment;
 mod statements;
+mod sums;
 mod tables;
+mod texts;
+mod traded;
+mod words;
 
 pub use bytes::MAX_BYTES;
 pub use config::{Securities, SecurityConfig, SegmentConfig};

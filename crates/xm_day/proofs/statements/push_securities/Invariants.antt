@@ -1,10 +1,7 @@
-use Rattle.std.proofs.Common.{◌≡◌, ◌++◌, [], All, take, map}
-use Rattle.xm_rules.specs.Step.{Journal, replay}
+use Rattle.std.proofs.Common.{◌≡◌, ◌++◌, take, map}
+use Rattle.xm_rules.specs.Step.{replay}
 use Rattle.xm_day.specs.Statement.{securities_text}
 use Rattle.xm_day.proofs.statements.push_securities.Given as goal
 
 abbrev pub invariant-loop-index : goal.invariant-loop-index
-invariant-loop-index g l = record {
-  text : l.text.items ≡ l.initial.text.items ++ securities_text l.names 0 (map replay (take l.index l.desks));
-  no_trades : All (λ (j : Journal). (replay j).trades ≡ []) (take l.index l.desks);
-}
+invariant-loop-index g l = l.text.items ≡ l.initial.text.items ++ securities_text l.names 0 (map replay (take l.index l.desks))

@@ -1,0 +1,61 @@
+//! The pieces that the lines of the statement are put together from.
+ghost use Rattle.std.specs.Prelude.{◌≡◌, ◌++◌, OnOk};
+ghost use Rattle.std.specs.Fmt.{decimal};
+ghost use Rattle.xm_day.specs.Statement.{name_at, party_text};
+
+use crate::names::Names;
+use itoa::Buffer;
+use std::alloc::Allocator;
+use std::io;
+
+/// A number.
+pub(crate) fn push_number<A: Allocator>(text: &mut Vec<u8, A>, number: u64) -> io::Result<()>
+    ensures { OnOk result (text.new.items ≡ text.old.items ++ decimal number) }
+{
+    let mut digits = Buffer::new();
+    push_text(text, digits.format(number))
+}
+
+/// A member's name and the reference that it gave an order.
+pub(crate) fn push_party<A: Allocator>(
+    text: &mut Vec<u8, A>,
+    names: &Names,
+    member: u32,
+    reference: u32,
+) -> io::Result<()>
+    ensures { OnOk result (text.new.items ≡ text.old.items ++ party_text names.now member reference) }
+{
+    push_text(text, member_name(names, member))?;
+    push_text(text, " ")?;
+    push_number(text, u64::from(reference))
+}
+
+/// Adds a text as it is, which a statement's many short pieces take less time for than for a format.
+pub(crate) fn push_text<A: Allocator>(text: &mut Vec<u8, A>, more: &str) -> io::Result<()>
+    ensures { OnOk result (text.new.items ≡ text.old.items ++ more.now) }
+{
+    match text.extend_from_slice(more.as_bytes()) {
+        Ok(()) => Ok(()),
+        Err(_) => Err(io::Error::from(io::ErrorKind::OutOfMemory)),
+    }
+}
+
+/// The name of a member, or no text where there is none.
+pub(crate) fn member_name(names: &Names, member: u32) -> &str
+    ensures { result.now ≡ name_at names.now.members member }
+{
+    match names.member(member) {
+        Some(name) => name,
+        None => "",
+    }
+}
+
+/// The name of a security, or no text where there is none.
+pub(crate) fn security_name(names: &Names, security: u32) -> &str
+    ensures { result.now ≡ name_at names.now.securities security }
+{
+    match names.security(security) {
+        Some(name) => name,
+        None => "",
+    }
+}

@@ -1,0 +1,162 @@
+//! The lines of the statement that tell what was traded.
+ghost use Rattle.std.specs.Prelude.{◌≡◌, ◌^◌, ◌<◌, ◌++◌, OnOk, length, map};
+ghost use Rattle.std.specs.List.{flat_map};
+ghost use Rattle.xm_day.specs.Statement.{cash_line, member_indices, member_line, net_line, net_position_line, total_text, trade_line};
+ghost use Rattle.xm_rules.specs.Step.{replay};
+ghost use Rattle.xm_rules.specs.Sums.{total_money, total_quantity};
+
+use crate::names::Names;
+use crate::sums::{Counted, amount_of, cash, difference, total_cash, value_of};
+use crate::texts::{member_name, push_number, push_party, push_text};
+use crate::words::trade_word;
+use std::alloc::Allocator;
+use std::io::{self, Write};
+use xm_desk::Desk;
+use xm_rules::Trade;
+use xm_ticks::{TickSize, write_money, write_price};
+
+/// The lines of some trades.
+pub(crate) fn push_trades<A: Allocator>(
+    text: &mut Vec<u8, A>,
+    trades: &[Trade],
+    names: &Names,
+    tick: TickSize,
+) -> io::Result<()>
+    ensures { OnOk result (text.new.items ≡ text.old.items ++ flat_map (trade_line names.now tick) trades.now) }
+{
+    for trade in trades {
+        push_trade(text, trade, names, tick)?;
+    }
+    Ok(())
+}
+
+/// The line of a trade.
+fn push_trade<A: Allocator>(
+    text: &mut Vec<u8, A>,
+    trade: &Trade,
+    names: &Names,
+    tick: TickSize,
+) -> io::Result<()>
+    ensures { OnOk result (text.new.items ≡ text.old.items ++ trade_line names.now tick trade.now) }
+{
+    push_text(text, "TRADE ")?;
+    push_number(text, trade.sweep)?;
+    push_text(text, " ")?;
+    push_text(text, trade_word(trade.kind))?;
+    push_text(text, " ")?;
+    write_price(text, trade.price, tick)?;
+    push_text(text, " ")?;
+    push_number(text, u64::from(trade.quantity))?;
+    push_text(text, " ")?;
+    push_party(text, names, trade.buyer, trade.buy_ref)?;
+    push_text(text, " ")?;
+    push_party(text, names, trade.seller, trade.sell_ref)?;
+    push_text(text, "\n")
+}
+
+/// The net positions of the members in a security. For each member it goes over all trades, unless
+/// there is none.
+pub(crate) fn push_nets<A: Allocator, B: Allocator + Copy>(
+    text: &mut Vec<u8, A>,
+    desk: &Desk<B>,
+    names: &Names,
+) -> io::Result<()>
+    ensures { OnOk result (text.new.items ≡ text.old.items ++ flat_map (net_line names.now (replay desk.now)) (member_indices names.now)) }
+{
+    if desk.trades().is_empty() {
+        return Ok(());
+    }
+    for member in 0..names.members() {
+        push_net(text, desk, names, member)?;
+    }
+    Ok(())
+}
+
+/// The net position of a member in a security and its cash there, where it bought or sold a unit.
+fn push_net<A: Allocator, B: Allocator + Copy>(
+    text: &mut Vec<u8, A>,
+    desk: &Desk<B>,
+    names: &Names,
+    member: u32,
+) -> io::Result<()>
+    ensures { OnOk result (text.new.items ≡ text.old.items ++ net_line names.now (replay desk.now) member) }
+{
+    let bought = amount_of(desk, Counted::Bought(member)).quantity;
+    let sold = amount_of(desk, Counted::Sold(member)).quantity;
+    if 0 < bought + sold {
+        let units = difference(u128::from(bought), u128::from(sold));
+        let amount = cash(desk, member);
+        push_net_position(text, member_name(names, member), units, amount)?;
+    }
+    Ok(())
+}
+
+/// The line of a net position, in units and in ten-thousandths of a euro.
+fn push_net_position<A: Allocator>(
+    text: &mut Vec<u8, A>,
+    name: &str,
+    units: i128,
+    amount: i128,
+) -> io::Result<()>
+    ensures { OnOk result (text.new.items ≡ text.old.items ++ net_position_line name.now units amount) }
+{
+    write!(text, "NET {name} {units} ")?;
+    write_money(text, amount)?;
+    push_text(text, "\n")
+}
+
+/// What was traded of a security.
+pub(crate) fn push_total<A: Allocator, B: Allocator + Copy>(
+    text: &mut Vec<u8, A>,
+    desk: &Desk<B>,
+) -> io::Result<()>
+    ensures { OnOk result (text.new.items ≡ text.old.items ++ total_text (replay desk.now).settings.tick (total_quantity (replay desk.now).trades) (total_money (replay desk.now).trades)) }
+{
+    let quantity = amount_of(desk, Counted::Every).quantity;
+    let value = value_of(desk, Counted::Every);
+    push_text(text, "TOTAL ")?;
+    push_number(text, quantity)?;
+    push_text(text, " ")?;
+    write_money(text, value as i128)?;
+    push_text(text, "\n")
+}
+
+/// The cash of each member over all securities, for which it goes over all their trades.
+pub(crate) fn push_members<A: Allocator, B: Allocator + Copy>(
+    text: &mut Vec<u8, A>,
+    desks: &[Desk<B>],
+    names: &Names,
+) -> io::Result<()>
+    requires { length desks.now < 2 ^ 32 }
+    ensures { OnOk result (text.new.items ≡ text.old.items ++ flat_map (member_line names.now (map replay desks.now)) (member_indices names.now)) }
+{
+    for member in 0..names.members() {
+        push_member(text, desks, names, member)?;
+    }
+    Ok(())
+}
+
+/// The cash of a member over all securities.
+fn push_member<A: Allocator, B: Allocator + Copy>(
+    text: &mut Vec<u8, A>,
+    desks: &[Desk<B>],
+    names: &Names,
+    member: u32,
+) -> io::Result<()>
+    requires { length desks.now < 2 ^ 32 }
+    ensures { OnOk result (text.new.items ≡ text.old.items ++ member_line names.now (map replay desks.now) member) }
+{
+    push_cash(text, member_name(names, member), total_cash(desks, member))?;
+    Ok(())
+}
+
+/// The line of a member's cash, in ten-thousandths of a euro.
+fn push_cash<A: Allocator>(text: &mut Vec<u8, A>, name: &str, amount: i128) -> io::Result<()>
+    ensures { OnOk result (text.new.items ≡ text.old.items ++ cash_line name.now amount) }
+{
+    push_text(text, "MEMBER ")?;
+    push_text(text, name)?;
+    push_text(text, " ")?;
+    write_money(text, amount)?;
+    push_text(text, "\n")
+}
