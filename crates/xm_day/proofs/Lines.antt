@@ -66,9 +66,9 @@ pub security-written : (names : NameLists) (index : ℕ) (s : State) (size : ℕ
     → t5 ≡ text ++ security_text names index s
 security-written names index s size trades orders text t1 t2 t3 t4 t5 a b c none e1 e2 e3 e4 e5 =
     let f2 : t2 ≡ t1 ++ flat_map (trade_line names s.settings.tick) s.trades =
-        e2 ∙ ap (λ (ts : List Trade). t1 ++ flat_map (trade_line names size) ts) b ∙ ap (λ (k : ℕ). t1 ++ flat_map (trade_line names k) s.trades) a in
+    e2 ∙ ap (λ (ts : List Trade). t1 ++ flat_map (trade_line names size) ts) b ∙ ap (λ (k : ℕ). t1 ++ flat_map (trade_line names k) s.trades) a in
     let f3 : t3 ≡ t2 ++ flat_map (order_line names s.settings.tick) s.orders =
-        e3 ∙ ap (λ (os : List Order). t2 ++ flat_map (order_line names size) os) c ∙ ap (λ (k : ℕ). t2 ++ flat_map (order_line names k) s.orders) a in
+    e3 ∙ ap (λ (os : List Order). t2 ++ flat_map (order_line names size) os) c ∙ ap (λ (k : ℕ). t2 ++ flat_map (order_line names k) s.orders) a in
     e5
     ∙ ap (λ (t : List ℕ). t ++ total_text s.settings.tick (total_quantity s.trades) (total_money s.trades))
     (e4

@@ -1,15 +1,16 @@
 //! Sums over the trades of securities, for the whole security and for a member.
 ghost use Rattle.std.specs.Prelude.{◌≡◌, ◌+◌, ◌*◌, ◌^◌, ◌<◌, ◌≤◌, ◌-ℤ◌, length, map, pos};
-ghost use Rattle.xm_day.specs.Statement.{cash, total_cash};
+ghost use Rattle.xm_day.specs.Statement.{total_cash};
 ghost use Rattle.xm_day.specs.Traded.{counts, money_if, money_in, quantity_if, quantity_in, value_in, value_over};
 ghost use Rattle.xm_day.specs.declared.sums.TheConstants.{MOST_MONEY, MOST_UNITS, MOST_VALUE};
 ghost use Rattle.xm_rules.specs.Step.{replay};
 ghost use Rattle.xm_rules.specs.Sums.{money_of};
-ghost use Rattle.xm_ticks.specs.declared.numbers.TheConstants.{MAX_QUANTITY};
+ghost use Rattle.xm_ticks.specs.declared.numbers.TheConstants.{MAX_PRICE, MAX_QUANTITY};
 
 use std::alloc::Allocator;
 use xm_desk::Desk;
 use xm_rules::Trade;
+use xm_ticks::TickSize;
 
 /// The most units that the trades of a security come to: `MAX_TRADES` of `MAX_QUANTITY`.
 const MOST_UNITS: u64 = 2_000_128_000_000_000_000;
@@ -60,8 +61,8 @@ impl Amount {
         requires money { self.money ≤ MOST_MONEY }
         ensures quantity { result.quantity ≡ self.quantity + quantity_if counted.now trade.now }
         ensures money { result.money ≡ self.money + money_if counted.now trade.now }
-        ensures few { result.quantity ≤ self.quantity + 1000000 }
-        ensures little { result.money ≤ self.money + 1000000000000 }
+        ensures few { result.quantity ≤ self.quantity + MAX_QUANTITY }
+        ensures little { result.money ≤ self.money + MAX_PRICE * MAX_QUANTITY }
     {
         if counted.counts(trade) {
             Amount {
@@ -72,13 +73,22 @@ impl Amount {
             self
         }
     }
+
+    /// Its money in ten-thousandths of a euro.
+    pub(crate) fn value_at(self, tick: TickSize) -> u128
+        requires { self.money ≤ MOST_MONEY }
+        ensures value { result ≡ self.money * tick }
+        ensures little { result ≤ MOST_VALUE }
+    {
+        self.money * u128::from(tick.get())
+    }
 }
 
 /// The money of a trade, in ticks times units.
 fn money_of(trade: &Trade) -> u128
     requires { trade.now.quantity ≤ MAX_QUANTITY }
     ensures value { result ≡ money_of trade.now }
-    ensures little { result ≤ 1000000000000 }
+    ensures little { result ≤ MAX_PRICE * MAX_QUANTITY }
 {
     u128::from(trade.price.get()) * u128::from(trade.quantity)
 }
@@ -102,11 +112,11 @@ pub(crate) fn amount_of<A: Allocator + Copy>(desk: &Desk<A>, counted: Counted) -
 }
 
 /// The value of those trades of a security that count, in ten-thousandths of a euro.
-pub(crate) fn value_of<A: Allocator + Copy>(desk: &Desk<A>, counted: Counted) -> u128
+fn value_of<A: Allocator + Copy>(desk: &Desk<A>, counted: Counted) -> u128
     ensures value { result ≡ value_in counted (replay desk.now) }
     ensures little { result ≤ MOST_VALUE }
 {
-    amount_of(desk, counted).money * u128::from(desk.settings().tick.get())
+    amount_of(desk, counted).value_at(desk.settings().tick)
 }
 
 /// The value of those trades of all securities that count, in ten-thousandths of a euro.
@@ -120,15 +130,6 @@ fn value_over<A: Allocator + Copy>(desks: &[Desk<A>], counted: &Counted) -> u128
         value += value_of(desk, *counted);
     }
     value
-}
-
-/// The cash of a member in a security, in ten-thousandths of a euro.
-pub(crate) fn cash<A: Allocator + Copy>(desk: &Desk<A>, member: u32) -> i128
-    ensures { result ≡ cash (replay desk.now) member }
-{
-    let received = value_of(desk, Counted::Sold(member));
-    let paid = value_of(desk, Counted::Bought(member));
-    difference(received, paid)
 }
 
 /// The cash of a member over all securities, in ten-thousandths of a euro. It goes over all their

@@ -6,7 +6,7 @@ ghost use Rattle.xm_rules.specs.Step.{replay};
 ghost use Rattle.xm_rules.specs.Sums.{total_money, total_quantity};
 
 use crate::names::Names;
-use crate::sums::{Counted, amount_of, cash, difference, total_cash, value_of};
+use crate::sums::{Counted, amount_of, difference, total_cash};
 use crate::texts::{member_name, push_number, push_party, push_text};
 use crate::words::trade_word;
 use std::alloc::Allocator;
@@ -81,12 +81,13 @@ fn push_net<A: Allocator, B: Allocator + Copy>(
 ) -> io::Result<()>
     ensures { OnOk result (text.new.items ≡ text.old.items ++ net_line names.now (replay desk.now) member) }
 {
-    let bought = amount_of(desk, Counted::Bought(member)).quantity;
-    let sold = amount_of(desk, Counted::Sold(member)).quantity;
-    if 0 < bought + sold {
-        let units = difference(u128::from(bought), u128::from(sold));
-        let amount = cash(desk, member);
-        push_net_position(text, member_name(names, member), units, amount)?;
+    let tick = desk.settings().tick;
+    let bought = amount_of(desk, Counted::Bought(member));
+    let sold = amount_of(desk, Counted::Sold(member));
+    if 0 < bought.quantity + sold.quantity {
+        let units = difference(u128::from(bought.quantity), u128::from(sold.quantity));
+        let cash = difference(sold.value_at(tick), bought.value_at(tick));
+        push_net_position(text, member_name(names, member), units, cash)?;
     }
     Ok(())
 }
@@ -112,12 +113,11 @@ pub(crate) fn push_total<A: Allocator, B: Allocator + Copy>(
 ) -> io::Result<()>
     ensures { OnOk result (text.new.items ≡ text.old.items ++ total_text (replay desk.now).settings.tick (total_quantity (replay desk.now).trades) (total_money (replay desk.now).trades)) }
 {
-    let quantity = amount_of(desk, Counted::Every).quantity;
-    let value = value_of(desk, Counted::Every);
+    let total = amount_of(desk, Counted::Every);
     push_text(text, "TOTAL ")?;
-    push_number(text, quantity)?;
+    push_number(text, total.quantity)?;
     push_text(text, " ")?;
-    write_money(text, value as i128)?;
+    write_money(text, total.value_at(desk.settings().tick) as i128)?;
     push_text(text, "\n")
 }
 

@@ -11,8 +11,8 @@ returns g c =
     let states = map replay c.args.desks.now in
     let member = c.args.member in
     let is : c.difference.result ≡ total_cash states member =
-        c.difference.ensures
-        ∙ ap (λ (n : ℕ). pos n -ℤ pos c.value_over-paid.result) c.value_over-received.ensures.value
-        ∙ ap (λ (n : ℕ). pos (value_over (Sold member) states) -ℤ pos n) c.value_over-paid.ensures.value
-        ∙ sym (total_cash-is states member) in
+    c.difference.ensures
+    ∙ ap (λ (n : ℕ). pos n -ℤ pos c.value_over-paid.result) c.value_over-received.ensures.value
+    ∙ ap (λ (n : ℕ). pos (value_over (Sold member) states) -ℤ pos n) c.value_over-paid.ensures.value
+    ∙ sym (total_cash-is states member) in
     search (rules, is)
