@@ -1,5 +1,5 @@
 -- The lines of a statement, as they are written one after another.
-use Rattle.std.proofs.Common.{◌≡◌, ℕ, ℤ, pos, ◌+◌, ◌*◌, ◌<◌, ◌++◌, List, [], ◌∷◌, length, map, append_assoc, get_or, take, refl, arith, ap, sym, subst, ◌∙◌, suc, zero, All}
+use Rattle.std.proofs.Common.{◌≡◌, ℕ, ◌+◌, ◌<◌, ◌++◌, List, [], ◌∷◌, length, map, append_assoc, get_or, take, refl, arith, ap, sym, ◌∙◌, suc, zero}
 use Rattle.std.specs.List.{flat_map, range_with_len}
 use Rattle.std.proofs.lemmas.List.Concat.{flat_map-cons}
 use Rattle.std.proofs.lemmas.List.{append-nil, flat_map_more, nil_from_length, take_more, length-map, length-take, map-append}
@@ -9,7 +9,7 @@ use Rattle.xm_rules.specs.Sums.{total_money, total_quantity}
 use Rattle.xm_rules.specs.declared.orders.Order.{Order}
 use Rattle.xm_rules.specs.declared.orders.Trade.{Trade}
 use Rattle.xm_day.specs.Names.{NameLists}
-use Rattle.xm_day.specs.Statement.{cash, cash_line, heading_text, member_indices, member_line, name_at, net_line, order_line, securities_text, security_text, stop_line, today_of, total_cash, total_text, trade_line}
+use Rattle.xm_day.specs.Statement.{heading_text, member_indices, name_at, net_line, order_line, securities_text, security_text, stop_line, today_of, total_text, trade_line}
 
 -- one more number of a range
 pub range_with_len-more : (from n : ℕ) → range_with_len from (n + 1) ≡ range_with_len from n ++ (from + n) ∷ []

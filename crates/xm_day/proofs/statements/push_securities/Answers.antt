@@ -1,4 +1,4 @@
-use Rattle.std.proofs.Common.{◌≡◌, ◌<◌, ℕ, List, ◌++◌, append_assoc, length, map, take, arith, ap, sym, ◌∙◌}
+use Rattle.std.proofs.Common.{◌<◌, ℕ, List, ◌++◌, append_assoc, length, map, take, arith, ap, sym, ◌∙◌}
 use Rattle.std.proofs.lemmas.List.{take_all}
 use Rattle.xm_rules.specs.Step.{Journal, replay}
 use Rattle.xm_day.proofs.Lines.{securities-taken}

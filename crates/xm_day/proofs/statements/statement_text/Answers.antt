@@ -1,4 +1,4 @@
-use Rattle.std.proofs.Common.{ℕ, List, ◌++◌, map, ap, ◌∙◌}
+use Rattle.std.proofs.Common.{ℕ, ◌++◌, map, ap, ◌∙◌}
 use Rattle.std.specs.List.{flat_map}
 use Rattle.xm_rules.specs.Step.{replay}
 use Rattle.xm_rules.specs.declared.settings.DeskSettings.{DeskSettings}

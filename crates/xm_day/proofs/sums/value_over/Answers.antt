@@ -1,4 +1,4 @@
-use Rattle.std.proofs.Common.{◌≡◌, ◌<◌, ℕ, List, length, map, arith, ap, sym, ◌∙◌}
+use Rattle.std.proofs.Common.{◌<◌, List, length, map, arith, ap, ◌∙◌}
 use Rattle.std.proofs.lemmas.List.{take_all}
 use Rattle.xm_rules.specs.Step.{Journal, replay}
 use Rattle.xm_day.proofs.CashSums.{value_over-taken}
