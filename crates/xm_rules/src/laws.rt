@@ -84,7 +84,7 @@ pub fn auction_trades_are_inside_the_ranges_of_their_stage()
 
 /// Where a call leads to continuous trading, no two active orders meet then, whether it had a price or none: their limits don't
 /// cross, and no market order rests beside an active order of the other side. So the best buy limit is below the best sell limit.
-/// Each order of the call has a unit at least.
+/// Premise: each order of the time list before has a unit at least.
 pub fn no_orders_meet_after_a_call()
     ensures orders { (s : State) (auction : Auction) (stage : CallStage) (side : Side) (i j : Positioned) → let t = uncrossed s (Call auction stage) in
         All (λ (o : Order). 1 ≤ o.rest) s.orders → t.phase ≡ Continuous
