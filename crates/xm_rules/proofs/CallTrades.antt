@@ -87,7 +87,7 @@ new_trades_follow P s t a = a.trades ∙ ap (λ (ts : List Trade). s.trades ++ t
 pub each_new_trade : (P : Trade → Type 0) (s t : State) → Adds P s t → All P (new_trades s t)
 each_new_trade P s t a = subst (All P) (sym (more_are P s t a)) a.each
 
-adds_none : (P : Trade → Type 0) (s t : State) → t.trades ≡ s.trades → Adds P s t
+pub adds_none : (P : Trade → Type 0) (s t : State) → t.trades ≡ s.trades → Adds P s t
 adds_none P s t e = record { more = []; trades = e ∙ sym (append-nil s.trades); each = All-nil P }
 
 adds_traded : (P : Trade → Type 0) (s : State) (u : Uncrossing) → ((t : Trade) → IsOfCall u t → P t) → Adds P s (traded s u)
@@ -103,7 +103,7 @@ abbrev pub call_of : State → Auction → CallStage → ℕ × ℕ → Uncrossi
 call_of s auction stage priced = record { auction = auction; stage = stage; orders = s.orders; price = priced.0; volume = priced.1 }
 
 -- whatever holds of each trade of the call holds of the trades that its end adds
-end_adds : (P : Trade → Type 0) (s : State) (auction : Auction) (stage : CallStage) (o : Option (ℕ × ℕ))
+pub end_adds : (P : Trade → Type 0) (s : State) (auction : Auction) (stage : CallStage) (o : Option (ℕ × ℕ))
     → IfSome o (λ priced. (t : Trade) → IsOfCall (call_of s auction stage priced) t → P t) → Adds P s (uncrossed_at s auction stage o)
 end_adds P s auction stage None h = adds_none P s (uncrossed_at s auction stage None) refl
 end_adds P s auction Ordinary (Some priced) h = adds_if P s (call_of s auction Ordinary priced) _ (inside_both (ranges s) priced.0) (λ e. h)

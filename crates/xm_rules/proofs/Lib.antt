@@ -18,5 +18,6 @@ pub mod Served
 pub mod Sums
 pub mod Sweeps
 pub mod TimeLists
+pub mod TradeSizes
 pub mod Units
 pub mod Volumes

@@ -1,5 +1,5 @@
 -- The volume of an auction price.
-use Rattle.std.proofs.Common.{◌≡◌, ℕ, ◌<◌, ◌≤◌, Bool, true, false, if◌then◌else◌, List, [], ◌∷◌, length, get_or, filter, All, Option, Some, None, refl, ap, sym, subst, arith, ◌==◌}
+use Rattle.std.proofs.Common.{◌≡◌, ℕ, zero, suc, ◌<◌, ◌≤◌, Bool, true, false, ◌&&◌, if◌then◌else◌, List, [], ◌∷◌, length, get_or, filter, All, Option, Some, None, refl, ap, sym, subst, ◌∙◌, arith, ◌==◌}
 use Rattle.std.specs.List.{list_all}
 use Rattle.std.specs.Prelude.{unwrap_or, nat_le, nat_lt}
 use Rattle.std.proofs.lemmas.Bool.{eqb-true, leb-true}
@@ -105,3 +105,18 @@ none_from phase orders reference (c ∷ cs) some e x =
 -- where there is no auction price, nothing can be executed at any price
 pub no_volume : (phase : Phase) (orders : List Order) (reference : ℕ) → auction_price phase orders reference ≡ None → (x : ℕ) → volume phase orders x ≤ 0
 no_volume phase orders reference e = none_from phase orders reference (candidates phase orders) refl e
+
+-- ---- a price that a call has comes with some volume
+none_anywhere : (phase : Phase) (orders : List Order) → ((x : ℕ) → volume phase orders x ≡ 0) → (cs : List ℕ) → list_all (λ x. volume phase orders x == 0) cs ≡ true
+none_anywhere phase orders none [] = refl
+none_anywhere phase orders none (c ∷ cs) = (λ i. (none c i == 0) && none_anywhere phase orders none cs i)
+
+no_price : (phase : Phase) (orders : List Order) (reference : ℕ) → ((x : ℕ) → volume phase orders x ≡ 0) → (cs : List ℕ) → price_from phase orders reference cs ≡ None
+no_price phase orders reference none [] = (λ i. if none reference i == 0 then None else with_volume phase orders reference)
+no_price phase orders reference none (c ∷ cs) = (λ i. if none_anywhere phase orders none (c ∷ cs) i then None else with_volume phase orders (chosen_price phase orders reference))
+
+pub some_volume : (phase : Phase) (orders : List Order) (reference price traded : ℕ) → auction_price phase orders reference ≡ Some (price, traded) → 0 < traded
+some_volume phase orders reference price zero e =
+    let none = no_price phase orders reference (λ x. (let most = greatest_volume phase orders reference price zero e x in omega (arith, most))) (candidates phase orders) in
+    absurd (let k : None ≡ Some (price, zero) = sym none ∙ e in cc)
+some_volume phase orders reference price (suc traded) e = omega arith

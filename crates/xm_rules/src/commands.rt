@@ -196,15 +196,14 @@ impl Command {
     }
 
     /// Whether a desk serves the command in this phase. Today it serves orders, but no stops, and
-    /// their changes outside continuous trading, cancellations, and the start of the opening call.
+    /// their changes outside continuous trading, cancellations, and the commands of the phases.
     pub fn is_served(&self, phase: Phase) -> bool
         ensures { result ≡ is_served phase self.now }
     {
         match self {
             Command::Enter { kind, .. } => !phase.is_continuous() && !kind.is_stop(),
             Command::Change { .. } => !phase.is_continuous(),
-            Command::Cancel { .. } | Command::CancelAll { .. } | Command::StartOpening => true,
-            _ => false,
+            _ => true,
         }
     }
 }

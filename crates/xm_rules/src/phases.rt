@@ -2,6 +2,7 @@
 ghost use Rattle.std.specs.Prelude.{◌≡◌};
 ghost use Rattle.xm_rules.specs.Refusals.{is_ended};
 ghost use Rattle.xm_rules.specs.Settling.{is_continuous};
+ghost use Rattle.xm_rules.specs.Step.{next_phase};
 
 /// An auction of the day. The one that follows an interruption of continuous trading is
 /// `Interruption`.
@@ -11,6 +12,18 @@ pub enum Auction {
     Intraday,
     Closing,
     Interruption,
+}
+
+impl Auction {
+    /// The phase after its call: post-trading after the closing call, and else continuous trading.
+    pub fn next_phase(self) -> Phase
+        ensures { result ≡ next_phase self }
+    {
+        match self {
+            Auction::Closing => Phase::PostTrading,
+            _ => Phase::Continuous,
+        }
+    }
 }
 
 /// The stage of a call: a potential price outside its ranges leads from one to the next.

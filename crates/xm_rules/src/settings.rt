@@ -1,5 +1,8 @@
 //! The settings of a security for its day.
-use xm_ticks::{JournalLimit, Price, TickSize};
+ghost use Rattle.std.specs.Prelude.{◌≡◌, ◌≤◌, ℕ};
+ghost use Rattle.xm_rules.specs.State.{inside_both, inside_wide};
+
+use xm_ticks::{JournalLimit, Price, TickSize, inside};
 
 /// The widths of the price ranges in thousandths of their reference price. A desk opens only with
 /// each within 1 to 999 and `dynamic` below `wide`.
@@ -11,6 +14,26 @@ pub struct Widths {
     pub statics: u32,
     /// Of the range around the price of the last trade that an interrupted call is held to.
     pub wide: u32,
+}
+
+impl Widths {
+    /// Whether a price is inside the dynamic range, which is around the last price, and the static range, which is around
+    /// the last auction price. Each width is at most 999 thousandths.
+    pub fn is_inside_both(&self, ref1: Price, ref2: Price, price: Price) -> bool
+        requires dynamic { self.now.dynamic ≤ 999 }
+        requires statics { self.now.statics ≤ 999 }
+        ensures { result ≡ inside_both (record { ref1 = ref1; ref2 = ref2; widths = self.now }) price }
+    {
+        inside(price, ref1, self.dynamic) && inside(price, ref2, self.statics)
+    }
+
+    /// Whether a price is inside the wide range, which is around the last price. Its width is at most 999 thousandths.
+    pub fn is_inside_wide(&self, ref1: Price, price: Price) -> bool
+        requires { self.now.wide ≤ 999 }
+        ensures { (ref2 : ℕ) → result ≡ inside_wide (record { ref1 = ref1; ref2 = ref2; widths = self.now }) price }
+    {
+        inside(price, ref1, self.wide)
+    }
 }
 
 /// How many commands a journal takes of the phases beyond its limit, which is that of members.

@@ -1,0 +1,29 @@
+//! Sums over trades.
+ghost use Rattle.std.specs.Prelude.{◌≡◌, ◌<◌, ◌^◌};
+ghost use Rattle.xm_rules.specs.Sums.{total_money, total_quantity};
+
+use crate::orders::Trade;
+
+/// The quantity of all trades, in units.
+pub fn total_quantity(trades: &[Trade]) -> u64
+    requires { total_quantity trades.now < 2 ^ 64 }
+    ensures { result ≡ total_quantity trades.now }
+{
+    let mut total = 0;
+    for trade in trades {
+        total += u64::from(trade.quantity);
+    }
+    total
+}
+
+/// The money of all trades, in ticks times units.
+pub fn total_money(trades: &[Trade]) -> u64
+    requires { total_money trades.now < 2 ^ 64 }
+    ensures { result ≡ total_money trades.now }
+{
+    let mut total = 0;
+    for trade in trades {
+        total += u64::from(trade.price.get()) * u64::from(trade.quantity);
+    }
+    total
+}
