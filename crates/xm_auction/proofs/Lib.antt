@@ -1,6 +1,6 @@
 mod Bests
 mod Crossings
-mod Curves
+pub mod Curves
 mod Firsts
 mod Growing
 mod Naming

@@ -1,3 +1,4 @@
+mod CallsEnd
 mod Changing
 mod Entering
 mod Hands

@@ -1,5 +1,5 @@
 -- What a command may need, beside its entry in the journal.
-use Rattle.std.specs.Prelude.{ℕ, if◌then◌else◌, find, Option, Some, None}
+use Rattle.std.specs.Prelude.{◌≡◌, ℕ, if◌then◌else◌, find, length, Option, Some, None}
 use Rattle.xm_book.specs.Places.{place_of}
 use Rattle.xm_book.specs.declared.places.Place.{Place}
 use Rattle.xm_desk.specs.declared.unsettled.Hand.{Hand}
@@ -8,7 +8,7 @@ use Rattle.xm_rules.specs.Orders.{is_named}
 use Rattle.xm_rules.specs.State.{State}
 use Rattle.xm_rules.specs.Step.{changed_order, entered_order, keeps_priority}
 use Rattle.xm_rules.specs.declared.commands.Command.{Command}
-use Rattle.xm_rules.specs.declared.commands.Command.TheVariants.{Enter, Change}
+use Rattle.xm_rules.specs.declared.commands.Command.TheVariants.{Enter, Change, Uncross}
 use Rattle.xm_rules.specs.declared.orders.Order.{Order}
 
 -- a changed order needs a place where it comes in again
@@ -22,6 +22,11 @@ place_for s (Enter member reference side kind quantity validity restriction cond
     Some (place_of (entered_order member reference side kind quantity validity restriction))
 place_for s (Change member reference quantity limit) = place_of_change quantity limit (find (is_named member reference) s.orders)
 place_for s _ = None
+
+-- a command that may trade has room for as many trades as there are orders
+abbrev pub HasRoom : State → Command → ℕ → Type 0
+HasRoom s Uncross room = room ≡ length s.orders
+HasRoom s _ room = Unit {0}
 
 -- the hand that keeps a place, where there is one
 abbrev pub keeping : Option Place → Hand

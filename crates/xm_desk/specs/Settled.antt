@@ -6,16 +6,19 @@ use Rattle.xm_desk.specs.declared.unsettled.Hand.TheVariants.{Empty, Kept, Joine
 use Rattle.xm_rules.specs.State.{State}
 use Rattle.xm_rules.specs.declared.orders.Stop.{Stop}
 
--- settled up to the pending stops: a state, the stops that are pending, and the order in hand
+-- settled up to the pending stops: a state, the stops that are pending, the order in hand, and for how many trades there is
+-- room
 pub record Unsettled : Type 0 where
   pub state : State
   pub pending : List Stop
   pub hand : Hand
+  pub room : ℕ
 
 -- no stop is pending
 pub record Settled : Type 0 where
   pub state : State
   pub hand : Hand
+  pub room : ℕ
 
 -- the places that are reserved for the order in hand
 abbrev pub places_in : Hand → List Place

@@ -3,7 +3,8 @@ ghost use Rattle.std.specs.Prelude.{◌≡◌, ◌≢◌, ◌≤◌, ◌++◌, �
 ghost use Rattle.xm_desk.specs.Opening.{open_fault};
 ghost use Rattle.xm_desk.specs.declared.tape.TheConstants.{MAX_TRADES};
 ghost use Rattle.xm_rules.specs.Refusals.{refusal_of};
-ghost use Rattle.xm_rules.specs.Served.{HasNoTrades, HoldsNoStops, IsOutsideContinuousTrading, is_served};
+ghost use Rattle.xm_rules.specs.Quote.{indicative};
+ghost use Rattle.xm_rules.specs.Served.{HoldsNoStops, is_served};
 ghost use Rattle.xm_rules.specs.State.{ref1, ref2};
 ghost use Rattle.xm_rules.specs.Step.{is_lawful, replay, reply};
 ghost use Rattle.xm_ticks.specs.declared.numbers.TheConstants.{MAX_QUANTITY};
@@ -27,7 +28,7 @@ pub struct Desk<A: Allocator + Copy> {
 impl<A: Allocator + Copy> Model for Desk<A> {
     ghost use Rattle.std.specs.Prelude.{◌≡◌, true};
     ghost use Rattle.xm_desk.specs.declared.unsettled.Hand.TheVariants.{Empty};
-    ghost use Rattle.xm_rules.specs.Served.{HasNoTrades, HoldsNoStops, IsOutsideContinuousTrading};
+    ghost use Rattle.xm_rules.specs.Served.{HoldsNoStops};
     ghost use Rattle.xm_rules.specs.Step.{Journal, is_lawful, replay};
 
     ghost Value = { Journal };
@@ -38,9 +39,7 @@ impl<A: Allocator + Copy> Model for Desk<A> {
       replayed : d.market.state ≡ replay (record { settings = d.market.state.settings; commands = d.journal.items });
       lawful : is_lawful (record { settings = d.market.state.settings; commands = d.journal.items }) ≡ true;
       hand : d.market.hand ≡ Empty;
-      no_trades : HasNoTrades d.market.state;
       no_stops : HoldsNoStops d.market.state;
-      outside : IsOutsideContinuousTrading d.market.state;
     } };
 }
 
@@ -72,7 +71,7 @@ impl<A: Allocator + Copy> Desk<A> {
         self.market.orders()
     }
 
-    /// The trades, the first one first. No command that is served today trades.
+    /// The trades, the first one first.
     pub fn trades(&self) -> &[Trade]
         ensures trades { result.now ≡ (replay self.now).trades }
         ensures few { length result.now ≤ MAX_TRADES }
@@ -112,13 +111,10 @@ impl<A: Allocator + Copy> Desk<A> {
         self.market.settings()
     }
 
-    /// The phase of the security. No command that is served today trades, holds a stop, or leads to
-    /// continuous trading.
+    /// The phase of the security. No command that is served today holds a stop.
     pub fn phase(&self) -> Phase
         ensures phase { result ≡ (replay self.now).phase }
-        ensures no_trades { HasNoTrades (replay self.now) }
         ensures no_stops { HoldsNoStops (replay self.now) }
-        ensures outside { IsOutsideContinuousTrading (replay self.now) }
     {
         self.market.phase()
     }
@@ -135,6 +131,14 @@ impl<A: Allocator + Copy> Desk<A> {
         ensures { result ≡ ref2 (replay self.now) }
     {
         self.market.ref2()
+    }
+
+    /// The price of a call, in ticks, and the units that would be executed at it, if it ended now; nothing outside a call,
+    /// and where nothing can be executed.
+    pub fn indicative(&self) -> Option<(Price, u64)>
+        ensures { result ≡ indicative (replay self.now) }
+    {
+        self.market.indicative()
     }
 
     /// The commands that the desk accepted. Each was lawful when it came.

@@ -1,6 +1,6 @@
 //! The growth that a command may need. It comes before the first change, and it alone can be refused.
-ghost use Rattle.std.specs.Prelude.{◌≡◌, IsTrue, None, OnErr, OnOk, find};
-ghost use Rattle.xm_desk.specs.Growth.{hand_for, place_for, place_of_change};
+ghost use Rattle.std.specs.Prelude.{◌≡◌, ◌≤◌, IsTrue, None, OnErr, OnOk, find};
+ghost use Rattle.xm_desk.specs.Growth.{HasRoom, hand_for, place_for, place_of_change};
 ghost use Rattle.xm_desk.specs.declared.unsettled.Hand.TheVariants.{Empty};
 ghost use Rattle.xm_rules.specs.Orders.{is_named};
 ghost use Rattle.xm_rules.specs.Refusals.{is_given_in_range, refusal_of};
@@ -12,8 +12,22 @@ use xm_book::Place;
 use xm_rules::{Command, OutOfMemory};
 
 impl<A: Allocator + Copy> Unsettled<A> {
-    /// Reserves all that an accepted command may need in the book. The state is unchanged.
+    /// Reserves all that an accepted command may need: a place in the book, or room for trades. The state is unchanged.
     pub fn reserve_for(&mut self, command: &Command) -> Result<(), OutOfMemory>
+        requires hand { self.old.hand ≡ Empty }
+        requires lawful { refusal_of self.old.state command.now ≡ None }
+        ensures ok { OnOk result (self.new ≡ record self.old { hand = hand_for self.old.state command.now; room = self.new.room }) }
+        ensures room { OnOk result (HasRoom self.old.state command.now self.new.room) }
+        ensures err { OnErr result (self.new ≡ self.old) }
+    {
+        match command {
+            Command::Uncross => self.tape.reserve(self.book.len()),
+            _ => self.reserve_place_for(command),
+        }
+    }
+
+    /// Reserves the place in the book that an accepted command may need.
+    fn reserve_place_for(&mut self, command: &Command) -> Result<(), OutOfMemory>
         requires hand { self.old.hand ≡ Empty }
         requires lawful { refusal_of self.old.state command.now ≡ None }
         ensures ok { OnOk result (self.new ≡ record self.old { hand = hand_for self.old.state command.now }) }

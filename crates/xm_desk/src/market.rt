@@ -1,21 +1,30 @@
 //! A security between commands.
-ghost use Rattle.std.specs.Prelude.{◌≡◌, ◌+◌, ◌<◌, [], IsTrue, None, OnErr, OnOk, IfOk};
-ghost use Rattle.xm_desk.specs.Growth.{hand_for};
+ghost use Rattle.std.specs.Prelude.{◌≡◌, ◌+◌, ◌<◌, ◌≤◌, [], IsTrue, None, OnErr, OnOk, IfOk, drop, length, true};
+ghost use Rattle.xm_desk.specs.Growth.{HasRoom, hand_for};
+ghost use Rattle.xm_desk.specs.Made.{AreFew, AreSized};
+ghost use Rattle.xm_desk.specs.Opening.{are_widths};
 ghost use Rattle.xm_desk.specs.Settled.{places_in};
+ghost use Rattle.xm_desk.specs.declared.tape.TheConstants.{MAX_TRADES};
 ghost use Rattle.xm_desk.specs.declared.unsettled.Hand.TheVariants.{Empty};
+ghost use Rattle.xm_rules.specs.Quote.{indicative};
 ghost use Rattle.xm_rules.specs.Refusals.{refusal_of};
 ghost use Rattle.xm_rules.specs.Served.{is_served};
 ghost use Rattle.xm_rules.specs.State.{opening, ref1, ref2};
 ghost use Rattle.xm_rules.specs.Step.{reply, step};
+ghost use Rattle.xm_rules.specs.Sums.{total_money, total_quantity};
 ghost use Rattle.xm_rules.specs.declared.settings.TheConstants.{PHASE_COMMANDS_MORE};
 
 use crate::tape::Tape;
 use crate::unsettled::{Hand, Unsettled};
 use std::alloc::Allocator;
 use std::marker::Model;
+use xm_auction::auction_price;
 use xm_book::Book;
 use xm_names::Seed;
-use xm_rules::{Command, DeskSettings, Order, OutOfMemory, Phase, Refusal, Reply, Trade};
+use xm_rules::{
+    Command, DeskSettings, Order, OutOfMemory, Phase, Refusal, Reply, Trade, total_money,
+    total_quantity,
+};
 use xm_ticks::Price;
 
 /// A security after the commands that it accepted. No stop is pending.
@@ -26,19 +35,24 @@ pub struct Market<A: Allocator + Copy> {
 
 impl<A: Allocator + Copy> Model for Market<A> {
     ghost use Rattle.std.specs.Prelude.{◌≡◌, []};
+    ghost use Rattle.xm_desk.specs.Made.{IsCounted};
     ghost use Rattle.xm_desk.specs.Settled.{Settled};
 
     ghost Value = { Settled };
 
-    ghost view = { λ m. record { state = m.inside.state; hand = m.inside.hand } };
+    ghost view = { λ m. record { state = m.inside.state; hand = m.inside.hand; room = m.inside.room } };
 
-    ghost invariant = { λ m. m.inside.pending ≡ [] };
+    ghost invariant = { λ m. record {
+      pending : m.inside.pending ≡ [];
+      counted : IsCounted m.inside.state;
+    } };
 }
 
 impl<A: Allocator + Copy> Market<A> {
     /// A security before the day.
     pub fn new(alloc: A, seed: Seed, settings: DeskSettings) -> Market<A>
-        ensures { result ≡ record { state = opening settings; hand = Empty } }
+        requires { are_widths settings.widths ≡ true }
+        ensures { result ≡ record { state = opening settings; hand = Empty; room = 0 } }
     {
         Market {
             inside: Unsettled {
@@ -47,6 +61,7 @@ impl<A: Allocator + Copy> Market<A> {
                 phase: Phase::PreTrading,
                 book: Book::new(alloc, seed),
                 tape: Tape::new(alloc, settings.reference),
+                sweeps: 0,
                 hand: Hand::Empty,
             },
         }
@@ -57,13 +72,6 @@ impl<A: Allocator + Copy> Market<A> {
         ensures { IfOk result (λ orders. orders.items ≡ self.now.state.orders) }
     {
         self.inside.book.orders()
-    }
-
-    /// The trades, the first one first.
-    pub fn trades(&self) -> &[Trade]
-        ensures { result.now ≡ self.now.state.trades }
-    {
-        self.inside.tape.as_slice()
     }
 
     /// Why a command is refused, memory aside.
@@ -78,7 +86,8 @@ impl<A: Allocator + Copy> Market<A> {
     pub fn reserve_for(&mut self, command: &Command) -> Result<(), OutOfMemory>
         requires hand { self.old.hand ≡ Empty }
         requires lawful { refusal_of self.old.state command.now ≡ None }
-        ensures ok { OnOk result (self.new ≡ record self.old { hand = hand_for self.old.state command.now }) }
+        ensures ok { OnOk result (self.new ≡ record self.old { hand = hand_for self.old.state command.now; room = self.new.room }) }
+        ensures room { OnOk result (HasRoom self.old.state command.now self.new.room) }
         ensures err { OnErr result (self.new ≡ self.old) }
     {
         self.inside.reserve_for(command)
@@ -89,10 +98,11 @@ impl<A: Allocator + Copy> Market<A> {
         requires hand { self.old.hand ≡ hand_for self.old.state command.now }
         requires served { IsTrue (is_served self.old.state.phase command.now) }
         requires lawful { refusal_of self.old.state command.now ≡ None }
-        ensures state { self.new ≡ record { state = step self.old.state command.now; hand = Empty } }
+        requires room { HasRoom self.old.state command.now self.old.room }
+        ensures state { self.new ≡ record { state = step self.old.state command.now; hand = Empty; room = self.new.room } }
         ensures reply { result ≡ reply self.old.state (step self.old.state command.now) }
     {
-        let first_trade = self.inside.tape.len() as u64;
+        let first_trade = self.inside.tape.len();
         self.inside.act(command);
         self.inside.settle();
         self.inside.count();
@@ -104,6 +114,28 @@ impl<A: Allocator + Copy> Market<A> {
         ensures { result ≡ self.now.state.settings }
     {
         self.inside.settings
+    }
+
+    /// The trades, the first one first.
+    pub fn trades(&self) -> &[Trade]
+        ensures trades { result.now ≡ self.now.state.trades }
+        ensures few { length result.now ≤ MAX_TRADES }
+        ensures sized { AreSized result.now }
+    {
+        let _ = self.inside.settings.limit.get(); // The range of the limit is known where it is asked for.
+        self.inside.tape.as_slice()
+    }
+
+    /// The price and the volume that a call has at this moment; nothing outside a call.
+    pub fn indicative(&self) -> Option<(Price, u64)>
+        ensures { result ≡ indicative self.now.state }
+    {
+        match self.inside.phase {
+            Phase::Call(_auction, _stage) => {
+                auction_price(&self.inside.book, self.inside.phase, self.inside.ref1())
+            }
+            _ => None,
+        }
     }
 
     /// The phase.
@@ -129,23 +161,26 @@ impl<A: Allocator + Copy> Market<A> {
 }
 
 impl<A: Allocator + Copy> Unsettled<A> {
-    /// The reply to a command that traded nothing.
-    fn reply(&self, first_trade: u64) -> Reply
-        ensures { result ≡ record {
+    /// The reply to a command before which there were so many trades.
+    fn reply(&self, first_trade: usize) -> Reply
+        requires first { first_trade ≤ length self.now.state.trades }
+        requires few { AreFew (drop first_trade self.now.state.trades) }
+        ensures { result ≡ (let trades = drop first_trade self.now.state.trades in record {
           version = self.now.state.accepted;
           first_trade = first_trade;
-          trades = 0;
-          quantity = 0;
-          money = 0;
+          trades = length trades;
+          quantity = total_quantity trades;
+          money = total_money trades;
           phase = self.now.state.phase;
-        } }
+        }) }
     {
+        let made = self.tape.after(first_trade);
         Reply {
             version: self.accepted,
-            first_trade,
-            trades: 0,
-            quantity: 0,
-            money: 0,
+            first_trade: first_trade as u64,
+            trades: made.len() as u64,
+            quantity: total_quantity(made),
+            money: total_money(made),
             phase: self.phase,
         }
     }

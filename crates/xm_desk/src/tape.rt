@@ -1,11 +1,16 @@
 //! The trades of a security, with the reference prices that they make.
-ghost use Rattle.std.specs.Prelude.{◌≡◌, if◌then◌else◌, ◌-◌, ◌<◌, ◌++◌, ◌∷◌, [], length, OnErr, OnOk};
+ghost use Rattle.std.specs.Prelude.{◌≡◌, if◌then◌else◌, ◌-◌, ◌<◌, ◌≤◌, ◌++◌, ◌∷◌, [], drop, length, OnErr, OnOk};
+ghost use Rattle.xm_auction.specs.Allotment.{uncrossing_of};
+ghost use Rattle.xm_rules.specs.Allotment.{auction_trades, orders_after_call};
+ghost use Rattle.xm_rules.specs.Auction.{volume as executable};
+ghost use Rattle.xm_rules.specs.declared.phases.Phase.TheVariants.{Call};
 ghost use Rattle.xm_rules.specs.State.{is_auction, last_auction_price, last_price};
 
 use std::alloc::Allocator;
 use std::marker::Model;
-use xm_book::Trades;
-use xm_rules::{OutOfMemory, Trade};
+use xm_auction::allocate;
+use xm_book::{Book, Trades};
+use xm_rules::{Auction, CallStage, OutOfMemory, Trade};
 use xm_ticks::Price;
 
 /// The most trades of a desk: 2,000,000 for each command that its journal takes, of members and of
@@ -83,6 +88,36 @@ impl<A: Allocator> Tape<A> {
         ensures err { OnErr result (self.new ≡ self.old) }
     {
         self.trades.reserve(trades)
+    }
+
+    /// The trades from this one on.
+    pub fn after(&self, first: usize) -> &[Trade]
+        requires { first ≤ length self.now.trades }
+        ensures { result.now ≡ drop first self.now.trades }
+    {
+        &self.trades.as_slice()[first..]
+    }
+
+    /// Takes the trades by which a call's volume, of at least a unit, is allotted to the orders of a book.
+    pub fn allot<B: Allocator + Copy>(
+        &mut self,
+        book: &mut Book<B>,
+        auction: Auction,
+        stage: CallStage,
+        sweep: u64,
+        price: Price,
+        volume: u64,
+    )
+        requires some { 0 < volume }
+        requires volume { volume ≤ executable (Call auction stage) book.old.orders price }
+        requires room { length book.old.orders ≤ self.old.room }
+        ensures orders { book.new ≡ record book.old { orders = orders_after_call (uncrossing_of auction stage book.old.orders price volume) } }
+        ensures trades { self.new ≡ record self.old { trades = self.old.trades ++ auction_trades sweep (uncrossing_of auction stage book.old.orders price volume); room = self.new.room } }
+        ensures number { length (auction_trades sweep (uncrossing_of auction stage book.old.orders price volume)) ≤ self.old.room }
+    {
+        allocate(book, auction, stage, sweep, price, volume, &mut self.trades);
+        self.last = price;
+        self.last_auction = price;
     }
 
     /// Takes a trade, in reserved room.

@@ -1,11 +1,12 @@
 //! A security in the middle of a command: settled up to the pending stops.
-ghost use Rattle.std.specs.Prelude.{◌≡◌, IsTrue, None};
-ghost use Rattle.xm_desk.specs.Growth.{hand_for};
+ghost use Rattle.std.specs.Prelude.{◌≡◌, ◌≤◌, IsTrue, None};
+ghost use Rattle.xm_desk.specs.Growth.{HasRoom, hand_for};
+ghost use Rattle.xm_desk.specs.Made.{AreFew, IsCounted};
 ghost use Rattle.xm_desk.specs.Settled.{played};
 ghost use Rattle.xm_rules.specs.Refusals.{refusal_of};
 ghost use Rattle.xm_rules.specs.Served.{is_served};
 ghost use Rattle.xm_rules.specs.State.{ref1, ref2};
-ghost use Rattle.xm_rules.specs.Step.{act};
+ghost use Rattle.xm_rules.specs.Step.{act, new_trades};
 
 use crate::entries::Entry;
 use crate::tape::Tape;
@@ -35,12 +36,15 @@ pub struct Unsettled<A: Allocator + Copy> {
     pub phase: Phase,
     pub book: Book<A>,
     pub tape: Tape<A>,
+    // The number of sweeps, and of calls that traded.
+    pub sweeps: u64,
     pub hand: Hand,
 }
 
 impl<A: Allocator + Copy> Model for Unsettled<A> {
-    ghost use Rattle.std.specs.Prelude.{◌≡◌, ◌+◌, ◌≤◌, [], length};
+    ghost use Rattle.std.specs.Prelude.{◌≡◌, ◌+◌, ◌≤◌, [], length, true};
     ghost use Rattle.xm_book.specs.Places.{SamePlaces};
+    ghost use Rattle.xm_desk.specs.Opening.{are_widths};
     ghost use Rattle.xm_desk.specs.Settled.{Unsettled, joined_in, places_in};
 
     ghost Value = { Unsettled };
@@ -53,15 +57,17 @@ impl<A: Allocator + Copy> Model for Unsettled<A> {
         orders = u.book.orders;
         stops = [];
         trades = u.tape.trades;
-        sweeps = 0;
+        sweeps = u.sweeps;
       };
       pending = [];
       hand = u.hand;
+      room = u.tape.room;
     } };
 
     // Each add is of a command that was accepted, or of the one in hand.
     ghost invariant = { λ u. record {
       opening : u.tape.opening ≡ u.settings.reference;
+      widths : are_widths u.settings.widths ≡ true;
       reserved : SamePlaces u.book.reserved (places_in u.hand);
       adds : u.book.adds ≤ u.accepted + joined_in u.hand;
       few : length u.book.orders ≤ u.accepted + joined_in u.hand;
@@ -88,7 +94,10 @@ impl<A: Allocator + Copy> Unsettled<A> {
         requires hand { self.old.hand ≡ hand_for self.old.state command.now }
         requires served { IsTrue (is_served self.old.state.phase command.now) }
         requires lawful { refusal_of self.old.state command.now ≡ None }
-        ensures { self.new ≡ record self.old { state = act self.old.state command.now; hand = played self.old.hand } }
+        requires room { HasRoom self.old.state command.now self.old.room }
+        requires counted { IsCounted self.old.state }
+        ensures acted { self.new ≡ record self.old { state = act self.old.state command.now; hand = played self.old.hand; room = self.new.room } }
+        ensures few { AreFew (new_trades self.old.state self.new.state) }
     {
         if let Some(entry) = Entry::of(command) {
             return self.enter(&entry);
@@ -103,6 +112,10 @@ impl<A: Allocator + Copy> Unsettled<A> {
             Command::Cancel { member, reference } => self.cancel(*member, *reference),
             Command::CancelAll { member } => self.cancel_all(*member),
             Command::StartOpening => self.start_call(Auction::Opening),
+            Command::StartIntraday => self.start_call(Auction::Intraday),
+            Command::StartClosing => self.start_call(Auction::Closing),
+            Command::Uncross => self.uncross(),
+            Command::EndDay => self.end_day(),
             _ => unreachable!(),
         }
     }

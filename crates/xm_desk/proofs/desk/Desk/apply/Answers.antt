@@ -2,10 +2,9 @@ use Rattle.std.proofs.Common.{◌≡◌, ◌∙◌, List, Some, None, [], ◌∷
 use Rattle.xm_rules.proofs.Journals.{is_lawful-push, journal_of, replay-push}
 use Rattle.xm_rules.proofs.Kept.{step-settings}
 use Rattle.xm_rules.proofs.Memory.{refusal-not_memory}
-use Rattle.xm_rules.proofs.Served.{step-no_stops, step-outside, step-trades}
+use Rattle.xm_rules.proofs.Served.{step-no_stops}
 use Rattle.xm_rules.specs.Refusals.{refusal_of}
 use Rattle.xm_rules.specs.Served.{is_served}
-use Rattle.xm_rules.specs.Settling.{is_continuous}
 use Rattle.xm_rules.specs.State.{State}
 use Rattle.xm_rules.specs.Step.{Journal, is_lawful, replay, reply, step}
 use Rattle.xm_rules.specs.declared.commands.Command.{Command}
@@ -39,9 +38,7 @@ invariant_of-self-2 g c =
       replayed = took ∙ ap (λ (t : State). step t command) i.replayed ∙ sym (replay-push j command) ∙ ap replay journal;
       lawful = subst (λ (k : Journal). is_lawful k ≡ true) journal (is_lawful-push j command i.lawful (subst (λ (t : State). refusal_of t command ≡ None) i.replayed passed));
       hand = search rules;
-      no_trades = ap (λ (t : State). t.trades) took ∙ step-trades s command served passed i.no_stops ∙ i.no_trades;
       no_stops = ap (λ (t : State). t.stops) took ∙ step-no_stops s command served passed i.no_stops;
-      outside = ap (λ (t : State). is_continuous t.phase) took ∙ step-outside s command served passed i.no_stops i.outside;
     }
 
 pub returns-clause-journal : goal.returns-clause-journal

@@ -1,7 +1,6 @@
 use Rattle.std.proofs.Common.{◌≡◌, ◌∙◌, [], ap, sym, refl}
 use Rattle.xm_desk.specs.Settled.{Settled}
 use Rattle.xm_rules.proofs.Journals.{is_lawful-opening, journal_of, replay-opening}
-use Rattle.xm_rules.specs.Settling.{is_continuous}
 use Rattle.xm_rules.specs.Step.{is_lawful, replay}
 use Rattle.xm_desk.proofs.desk.Desk.open.Goals as goal
 
@@ -14,7 +13,5 @@ invariant_of-result g c =
       replayed = ap (λ (m : Settled). m.state) fresh ∙ sym (replay-opening settings) ∙ ap replay (sym journal);
       lawful = ap is_lawful journal ∙ is_lawful-opening settings;
       hand = ap (λ (m : Settled). m.hand) fresh;
-      no_trades = ap (λ (m : Settled). m.state.trades) fresh;
       no_stops = ap (λ (m : Settled). m.state.stops) fresh;
-      outside = ap (λ (m : Settled). is_continuous m.state.phase) fresh;
     }

@@ -1,15 +1,11 @@
-use Rattle.std.proofs.Common.{◌≡◌, ◌∙◌, ℕ, ◌+◌, [], length, ap, sym}
-use Rattle.xm_desk.proofs.Stepping.{settled-accepted, settled-settings, settled-state}
+use Rattle.std.proofs.Common.{◌≡◌, ◌∙◌, length, ap, sym}
+use Rattle.xm_desk.proofs.Stepping.{Steps, settled-accepted, settled-settings, settled-state, steps}
 use Rattle.xm_desk.specs.Settled.{Settled, Unsettled}
-use Rattle.xm_desk.specs.declared.unsettled.Hand.TheVariants.{Empty}
 use Rattle.xm_rules.proofs.Accepted.{accepted-below}
-use Rattle.xm_rules.proofs.Kept.{step-counts}
-use Rattle.xm_rules.proofs.Served.{reply-without_trades, step-trades}
 use Rattle.xm_rules.specs.State.{State}
-use Rattle.xm_rules.specs.Step.{act, step}
-use Rattle.xm_rules.specs.Settling.{settle}
-use Rattle.xm_rules.specs.declared.replies.Reply.{Reply}
 use Rattle.xm_rules.specs.declared.settings.DeskSettings.{DeskSettings}
+use Rattle.xm_desk.specs.declared.unsettled.Hand.TheVariants.{Empty}
+use Rattle.xm_desk.proofs.market.Market.step.Given.{Over}
 use Rattle.xm_desk.proofs.market.Market.step.Goals as goal
 
 pub count-requires-clause-room : goal.count-requires-clause-room
@@ -17,34 +13,47 @@ count-requires-clause-room g c =
     let s = c.args.self.now.state in
     let command = c.args.command.now in
     let before : c.self.inside.inside.state ≡ s = ap (λ (m : Settled). m.state) c.self.view_is in
-    let settled = settled-state c.self.inside.inside c.act.new.self c.settle.new.self command c.self.invariant c.act.ensures c.settle.ensures in
+    let settled = settled-state c.self.inside.inside c.act.new.self c.settle.new.self command c.self.invariant.pending c.act.ensures.acted c.settle.ensures in
     let accepted = ap (λ (t : State). t.accepted) settled ∙ settled-accepted c.self.inside.inside.state command ∙ ap (λ (t : State). t.accepted) before in
     let settings = ap (λ (t : State). t.settings.limit) settled ∙ ap (λ (x : DeskSettings). x.limit) (settled-settings c.self.inside.inside.state command) ∙ ap (λ (t : State). t.settings.limit) before in
     rw (accepted, settings) (accepted-below s command c.requires.lawful)
 
-pub returns-clause-state : goal.returns-clause-state
-returns-clause-state g c =
+-- what is known when the command was counted
+at-reply : (g : Over) (c : goal.After-reply-arg-1 g) → Steps c.args.self.now.state c.args.command.now c.count.new.self.state c.len-first_trade.result
+at-reply g c =
     let s = c.args.self.now.state in
-    let command = c.args.command.now in
-    let before : c.self.inside.inside.state ≡ s = ap (λ (m : Settled). m.state) c.self.view_is in
-    let settled = settled-state c.self.inside.inside c.act.new.self c.settle.new.self command c.self.invariant c.act.ensures c.settle.ensures
-    ∙ ap (λ (t : State). settle (act t command) []) before in
-    let counted : State → Settled = λ t. record { state = record t { accepted = t.accepted + 1 }; hand = Empty } in
-    ap (λ (u : Unsettled). let m : Settled = record { state = u.state; hand = u.hand } in m) c.count.ensures
-    ∙ ap counted settled
-    ∙ ap (λ (t : State). let m : Settled = record { state = t; hand = Empty } in m) (sym (step-counts s command))
-
-pub returns-clause-reply : goal.returns-clause-reply
-returns-clause-reply g c =
-    let s = c.args.self.now.state in
-    let command = c.args.command.now in
     let before : c.self.inside.inside.state ≡ s = ap (λ (m : Settled). m.state) c.self.view_is in
     let none = ap (λ (t : State). t.stops) (sym before) ∙ sym (ap (λ m. m.inside.state.stops) c.self-inside.view_is) in
-    let after : c.count.new.self.state ≡ step s command = ap (λ (m : Settled). m.state) (returns-clause-state g c) in
-    let trades : c.len-first_trade.result ≡ length s.trades =
-    c.len-first_trade.ensures ∙ ap (λ m. length m.inside.state.trades) c.self-inside.view_is ∙ ap (λ (t : State). length t.trades) before in
-    let replied : State → ℕ → Reply = λ t first. record { version = t.accepted; first_trade = first; trades = 0; quantity = 0; money = 0; phase = t.phase } in
-    c.reply.ensures
-    ∙ ap (λ (t : State). replied t c.len-first_trade.result) after
-    ∙ ap (replied (step s command)) trades
-    ∙ sym (reply-without_trades s (step s command) (step-trades s command c.requires.served c.requires.lawful none))
+    let first = c.len-first_trade.ensures ∙ ap (λ m. length m.inside.state.trades) c.self-inside.view_is in
+    steps c.self.inside.inside c.act.new.self c.settle.new.self c.count.new.self s c.args.command.now c.len-first_trade.result before c.self.invariant.pending
+    c.act.ensures.acted c.settle.ensures c.count.ensures none c.self.invariant.counted c.requires.served c.requires.lawful c.act.ensures.few first
+
+replied : (g : Over) (c : goal.After-reply g) → Steps c.args.self.now.state c.args.command.now c.count.new.self.state c.len-first_trade.result
+replied g c =
+    let s = c.args.self.now.state in
+    let before : c.self.inside.inside.state ≡ s = ap (λ (m : Settled). m.state) c.self.view_is in
+    let none = ap (λ (t : State). t.stops) (sym before) ∙ sym (ap (λ m. m.inside.state.stops) c.self-inside.view_is) in
+    let first = c.len-first_trade.ensures ∙ ap (λ m. length m.inside.state.trades) c.self-inside.view_is in
+    steps c.self.inside.inside c.act.new.self c.settle.new.self c.count.new.self s c.args.command.now c.len-first_trade.result before c.self.invariant.pending
+    c.act.ensures.acted c.settle.ensures c.count.ensures none c.self.invariant.counted c.requires.served c.requires.lawful c.act.ensures.few first
+
+pub reply-requires-clause-first : goal.reply-requires-clause-first
+reply-requires-clause-first g c = (at-reply g c).within
+
+pub reply-requires-clause-few : goal.reply-requires-clause-few
+reply-requires-clause-few g c = (at-reply g c).few
+
+pub invariant_of-self : goal.invariant_of-self
+invariant_of-self g c = record {
+  pending = ap (λ (u : Unsettled). u.pending) c.count.ensures ∙ ap (λ (u : Unsettled). u.pending) c.settle.ensures;
+  counted = (replied g c).counted;
+}
+
+pub returns-clause-state : goal.returns-clause-state
+returns-clause-state g c =
+    let room = c.count.new.self.room in
+    ap (λ (u : Unsettled). let m : Settled = record { state = u.state; hand = u.hand; room = room } in m) c.count.ensures
+    ∙ ap (λ (t : State). let m : Settled = record { state = t; hand = Empty; room = room } in m) (sym (ap (λ (u : Unsettled). u.state) c.count.ensures) ∙ (replied g c).after)
+
+pub returns-clause-reply : goal.returns-clause-reply
+returns-clause-reply g c = c.reply.ensures ∙ (replied g c).replied

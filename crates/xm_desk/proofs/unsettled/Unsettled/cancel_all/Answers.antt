@@ -11,6 +11,7 @@ invariant_of-self g c =
     let fewer = filter-shorter (λ (o : Order). not (o.member == c.args.member)) u.book.orders in
     record {
       opening = c.self.invariant.opening;
+      widths = c.self.invariant.widths;
       reserved = rw (ap (λ (l : TimeList). l.reserved) left) c.self.invariant.reserved;
       adds = omega (arith, ap (λ (l : TimeList). l.adds) left, c.self.invariant.adds);
       few = omega (arith, ap (λ (l : TimeList). length l.orders) left, fewer, c.self.invariant.few);

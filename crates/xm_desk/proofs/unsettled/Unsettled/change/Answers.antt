@@ -39,6 +39,7 @@ invariant_of-self-else-keeps_priority g c =
     let fewer = filter-shorter (λ (o : Order). not (is_named c.args.member c.args.reference o)) u.book.orders in
     record {
       opening = c.self.invariant.opening;
+      widths = c.self.invariant.widths;
       reserved = rw (ap (λ (l : TimeList). l.reserved) left) c.self.invariant.reserved;
       adds = omega (arith, ap (λ (l : TimeList). l.adds) left, c.self.invariant.adds);
       few = omega (arith, ap (λ (l : TimeList). length l.orders) left, fewer, c.self.invariant.few);
@@ -74,9 +75,10 @@ returns-then-keeps_priority g c =
     let keeps : keeps_priority c.args.quantity c.args.limit o ≡ true = search rules in
     let reduced : Unsettled → Unsettled = λ w. record w { state = record w.state { orders = with_rest c.args.member c.args.reference c.args.quantity w.state.orders } } in
     ap (λ (l : TimeList). let w : Unsettled = record {
-      state = record { settings = u.settings; accepted = u.accepted; phase = u.phase; orders = l.orders; stops = []; trades = u.tape.trades; sweeps = 0 };
+      state = record { settings = u.settings; accepted = u.accepted; phase = u.phase; orders = l.orders; stops = []; trades = u.tape.trades; sweeps = u.sweeps };
       pending = [];
       hand = u.hand;
+      room = u.tape.room;
     } in w) c.reduce.ensures.reduced
     ∙ ap reduced c.self.view_is
     ∙ kept-change v c.args.member c.args.reference c.args.quantity c.args.limit o found keeps c.requires.hand
@@ -91,9 +93,10 @@ returns-else-keeps_priority g c =
     let again : c.changed_order.result ≡ changed_order c.args.quantity c.args.limit o = search rules in
     let none = sym (ap (λ (w : Unsettled). w.state.stops) c.self.view_is) in
     let comes : List Order → Order → Unsettled = λ orders x. record {
-      state = come (record { settings = u.settings; accepted = u.accepted; phase = u.phase; orders = orders; stops = []; trades = u.tape.trades; sweeps = 0 }) x;
+      state = come (record { settings = u.settings; accepted = u.accepted; phase = u.phase; orders = orders; stops = []; trades = u.tape.trades; sweeps = u.sweeps }) x;
       pending = [];
       hand = Joined;
+      room = u.tape.room;
     } in
     let replaces : Unsettled → Unsettled = λ w. record w { state = come (record w.state { orders = removed c.args.member c.args.reference w.state.orders }) (changed_order c.args.quantity c.args.limit o); hand = Joined } in
     c.come.ensures

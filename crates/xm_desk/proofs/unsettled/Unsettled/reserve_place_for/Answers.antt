@@ -4,7 +4,7 @@ use Rattle.xm_desk.proofs.Hands.{empty-none}
 use Rattle.xm_desk.specs.Settled.{Unsettled, joined_in}
 use Rattle.xm_desk.specs.declared.unsettled.Hand.TheVariants.{Empty}
 use Rattle.xm_rules.proofs.Accepted.{accepted-below}
-use Rattle.xm_desk.proofs.unsettled.Unsettled.reserve_for.Goals as goal
+use Rattle.xm_desk.proofs.unsettled.Unsettled.reserve_place_for.Goals as goal
 
 pub reserve_for-requires : goal.reserve_for-requires
 reserve_for-requires g c =
