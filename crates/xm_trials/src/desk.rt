@@ -51,6 +51,7 @@ macro_rules! change {
     };
 }
 
+mod auctions;
 mod changes;
 mod day;
 mod growths;

@@ -5,7 +5,7 @@ use std::process::Abort;
 use std::test::Fail;
 use xm_desk::Desk;
 use xm_names::Seed;
-use xm_rules::{Command, DeskSettings, Order, OutOfMemory, Phase, Refusal, Reply};
+use xm_rules::{Command, DeskSettings, Order, OutOfMemory, Phase, Refusal, Reply, Trade};
 
 /// A command with the version or the refusal that it is answered with.
 pub type Step = (Command, Result<u64, Refusal>);
@@ -114,6 +114,18 @@ impl<A: Allocator + Copy> Day<A> {
     /// The prices in ticks of the last trade and of the last trade of an auction.
     pub fn reference_prices(&self) -> (u32, u32) {
         (self.desk.ref1().get(), self.desk.ref2().get())
+    }
+
+    pub fn trades(&self) -> &[Trade] {
+        self.desk.trades()
+    }
+
+    /// The price of a call in ticks, with its volume.
+    pub fn indicative(&self) -> Option<(u32, u64)> {
+        match self.desk.indicative() {
+            None => None,
+            Some((price, volume)) => Some((price.get(), volume)),
+        }
     }
 
     pub fn journal(&self) -> &[Command] {

@@ -4,11 +4,10 @@ use std::process::Abort;
 use std::test::Fail;
 use xm_refusing::Refusing;
 use xm_rules::{
-    Auction, CallStage, Command, Condition, Kind, Order, OutOfMemory, Phase, Refusal, Restriction,
-    Side, Validity,
+    Command, Condition, Kind, Order, OutOfMemory, Phase, Refusal, Restriction, Side, Validity,
 };
 
-const COMMANDS: [Command; 10] = [
+const COMMANDS: [Command; 12] = [
     buy!(0, 1, 1000, 10),
     Command::StartOpening,
     buy!(1, 1, 1010, 5),
@@ -19,11 +18,13 @@ const COMMANDS: [Command; 10] = [
     change!(0, 2, 7, Some(985)),
     Command::CancelAll { member: 0 },
     buy!(0, 2, 990, 7),
+    sell!(0, 4, 1005, 4),
+    Command::Uncross,
 ];
 
-/// The list of orders after each of the ten commands makes good one refusal: it first asks for room for all of them, and
+/// The list of orders after each of the twelve commands makes good one refusal: it first asks for room for all of them, and
 /// grows as it goes where it can't have that.
-const MADE_GOOD: u64 = 10;
+const MADE_GOOD: u64 = 12;
 
 /// How often a call answered for want of memory.
 #[derive(Drop)]
@@ -55,6 +56,7 @@ impl Refused {
         assert!(rt; day.phase() == like.phase());
         assert!(rt; day.reference_prices() == like.reference_prices());
         assert!(rt; day.journal() == like.journal());
+        assert!(rt; day.trades() == like.trades());
         like.orders_are(rt, &self.orders(rt, day));
     }
 
@@ -87,8 +89,9 @@ impl Refused {
             self.give(rt, day, like, *command);
         }
         assert!(rt; like.journal() == COMMANDS.as_slice());
-        assert!(rt; like.phase() == Phase::Call(Auction::Opening, CallStage::Ordinary));
-        like.buys_are(rt, &[(1, 1, 1010, 6), (0, 2, 990, 7)]);
+        assert!(rt; like.phase() == Phase::Continuous);
+        assert!(rt; like.trades().len() == 1);
+        like.buys_are(rt, &[(1, 1, 1010, 2), (0, 2, 990, 7)]);
     }
 
     /// Runs a day in which the request of this number is refused, and answers whether one was.

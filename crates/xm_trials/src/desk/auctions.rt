@@ -1,0 +1,298 @@
+//! Calls, their auctions, and the end of the day.
+use super::day::Day;
+use std::alloc::Allocator;
+use std::process::Abort;
+use std::test::Fail;
+use xm_rules::{
+    Auction, CallStage, Command, Condition, Kind, Phase, Refusal, Restriction, Side, Validity,
+};
+
+const OPENING: Phase = Phase::Call(Auction::Opening, CallStage::Ordinary);
+
+/// A command, the number, quantity and money of the trades that it makes, and the phase after it.
+type Reply = (Command, u64, u64, u64, Phase);
+
+/// Gives a day each command, and compares what it answers.
+fn give_all<A: Allocator + Copy>(rt: &impl Abort, day: &mut Day<A>, replies: &[Reply]) {
+    for (command, trades, quantity, money, phase) in replies {
+        let reply = day.apply(rt, *command).expect(rt, "accepted");
+        let made = (reply.trades, reply.quantity, reply.money);
+        assert!(rt; made == (*trades, *quantity, *money), "at {command:?}");
+        assert!(rt; reply.phase == *phase, "at {command:?}");
+    }
+}
+
+/// An order that isn't free, or isn't for the day.
+macro_rules! order {
+    ($side:expr, $member:expr, $reference:expr, $limit:expr, $quantity:expr, $validity:expr, $restriction:expr) => {
+        Command::Enter {
+            member: $member,
+            reference: $reference,
+            side: $side,
+            kind: Kind::Limit($limit),
+            quantity: $quantity,
+            validity: $validity,
+            restriction: $restriction,
+            condition: Condition::Plain,
+        }
+    };
+}
+
+/// Two buys meet two sells: three trades at one price.
+const TRADING: [Reply; 6] = [
+    (buy!(0, 1, 1002, 30), 0, 0, 0, Phase::PreTrading),
+    (Command::StartOpening, 0, 0, 0, OPENING),
+    (buy!(0, 2, 1001, 40), 0, 0, 0, OPENING),
+    (sell!(1, 1, 1000, 20), 0, 0, 0, OPENING),
+    (sell!(1, 2, 1001, 30), 0, 0, 0, OPENING),
+    (Command::Uncross, 3, 50, 50_050, Phase::Continuous),
+];
+
+#[test]
+fn an_auction_that_trades(rt: HostRuntime) -> Result<(), Fail> {
+    let mut day = Day::open(rt.alloc(), 100)?;
+    give_all(&rt, &mut day, &TRADING[..5]);
+    assert!(rt; day.indicative() == Some((1001, 50)));
+    give_all(&rt, &mut day, &TRADING[5..]);
+    assert!(rt; day.indicative() == None);
+    assert!(rt; day.reference_prices() == (1001, 1001));
+    day.buys_are(&rt, &[(0, 2, 1001, 20)]);
+    Ok(())
+}
+
+/// A price outside the ranges of an ordinary call, and of an interrupted one; an extended call trades at it.
+const EXTENDED: [Reply; 6] = [
+    (Command::StartOpening, 0, 0, 0, OPENING),
+    (buy!(0, 1, 1100, 10), 0, 0, 0, OPENING),
+    (sell!(1, 1, 1100, 10), 0, 0, 0, OPENING),
+    (
+        Command::Uncross,
+        0,
+        0,
+        0,
+        Phase::Call(Auction::Opening, CallStage::Interrupted),
+    ),
+    (
+        Command::Uncross,
+        0,
+        0,
+        0,
+        Phase::Call(Auction::Opening, CallStage::Extended),
+    ),
+    (Command::Uncross, 1, 10, 11_000, Phase::Continuous),
+];
+
+#[test]
+fn an_auction_that_is_extended(rt: HostRuntime) -> Result<(), Fail> {
+    let mut day = Day::open(rt.alloc(), 100)?;
+    give_all(&rt, &mut day, &EXTENDED[..3]);
+    assert!(rt; day.indicative() == Some((1100, 10)));
+    give_all(&rt, &mut day, &EXTENDED[3..]);
+    assert!(rt; day.reference_prices() == (1100, 1100));
+    Ok(())
+}
+
+/// Auctions without a price, with orders and without; the day ends with the orders that are valid beyond it.
+const VALIDITIES: [Reply; 9] = [
+    (
+        order!(Side::Buy, 0, 1, 990, 5, Validity::Day, Restriction::Free),
+        0,
+        0,
+        0,
+        Phase::PreTrading,
+    ),
+    (
+        order!(
+            Side::Buy,
+            0,
+            2,
+            980,
+            5,
+            Validity::TillCancelled,
+            Restriction::Free
+        ),
+        0,
+        0,
+        0,
+        Phase::PreTrading,
+    ),
+    (
+        order!(
+            Side::Buy,
+            0,
+            3,
+            970,
+            5,
+            Validity::TillDate(20260106),
+            Restriction::Free
+        ),
+        0,
+        0,
+        0,
+        Phase::PreTrading,
+    ),
+    (
+        order!(
+            Side::Buy,
+            0,
+            4,
+            960,
+            5,
+            Validity::TillDate(20260105),
+            Restriction::Free
+        ),
+        0,
+        0,
+        0,
+        Phase::PreTrading,
+    ),
+    (Command::StartOpening, 0, 0, 0, OPENING),
+    (Command::Uncross, 0, 0, 0, Phase::Continuous),
+    (
+        Command::StartClosing,
+        0,
+        0,
+        0,
+        Phase::Call(Auction::Closing, CallStage::Ordinary),
+    ),
+    (Command::Uncross, 0, 0, 0, Phase::PostTrading),
+    (Command::EndDay, 0, 0, 0, Phase::Ended),
+];
+
+#[test]
+fn a_day_that_ends(rt: HostRuntime) -> Result<(), Fail> {
+    let mut day = Day::open(rt.alloc(), 100)?;
+    give_all(&rt, &mut day, &VALIDITIES);
+    let left = day.orders().expect(&rt, "memory");
+    assert!(rt; left.len() == 2);
+    assert!(rt; left[0].reference == 2 && left[1].reference == 3);
+    assert!(rt; day.give(&rt, buy!(0, 9, 990, 5)) == Err(Refusal::DayEnded));
+    assert!(rt; day.journal().len() == 9);
+    Ok(())
+}
+
+/// Orders for the opening, for auctions and for the closing alone, in each of these calls.
+const RESTRICTED: [Reply; 10] = [
+    (
+        order!(
+            Side::Buy,
+            0,
+            1,
+            1000,
+            10,
+            Validity::Day,
+            Restriction::OpeningOnly
+        ),
+        0,
+        0,
+        0,
+        Phase::PreTrading,
+    ),
+    (
+        order!(
+            Side::Sell,
+            1,
+            1,
+            1000,
+            4,
+            Validity::Day,
+            Restriction::AuctionsOnly
+        ),
+        0,
+        0,
+        0,
+        Phase::PreTrading,
+    ),
+    (
+        order!(
+            Side::Sell,
+            1,
+            2,
+            1000,
+            5,
+            Validity::Day,
+            Restriction::ClosingOnly
+        ),
+        0,
+        0,
+        0,
+        Phase::PreTrading,
+    ),
+    (
+        order!(
+            Side::Buy,
+            0,
+            2,
+            1000,
+            3,
+            Validity::Day,
+            Restriction::AuctionsOnly
+        ),
+        0,
+        0,
+        0,
+        Phase::PreTrading,
+    ),
+    (Command::StartOpening, 0, 0, 0, OPENING),
+    (Command::Uncross, 1, 4, 4_000, Phase::Continuous),
+    (
+        Command::StartIntraday,
+        0,
+        0,
+        0,
+        Phase::Call(Auction::Intraday, CallStage::Ordinary),
+    ),
+    (Command::Uncross, 0, 0, 0, Phase::Continuous),
+    (
+        Command::StartClosing,
+        0,
+        0,
+        0,
+        Phase::Call(Auction::Closing, CallStage::Ordinary),
+    ),
+    (Command::Uncross, 1, 3, 3_000, Phase::PostTrading),
+];
+
+#[test]
+fn restricted_orders_in_their_calls(rt: HostRuntime) -> Result<(), Fail> {
+    let mut day = Day::open(rt.alloc(), 100)?;
+    give_all(&rt, &mut day, &RESTRICTED);
+    assert!(rt; day.trades().len() == 2);
+    assert!(rt; day.trades()[0].sweep == 1 && day.trades()[1].sweep == 2);
+    Ok(())
+}
+
+/// Commands of the phases outside their phase, before the day and in a call.
+const OUTSIDE: [Command; 4] = [
+    Command::Uncross,
+    Command::StartIntraday,
+    Command::StartClosing,
+    Command::EndDay,
+];
+
+#[test]
+fn phase_commands_outside_their_phase(rt: HostRuntime) -> Result<(), Fail> {
+    let mut day = Day::open(rt.alloc(), 100)?;
+    for command in &OUTSIDE {
+        assert!(rt; day.give(&rt, *command) == Err(Refusal::WrongPhase));
+    }
+    assert!(rt; day.give(&rt, Command::StartOpening) == Ok(1));
+    assert!(rt; day.give(&rt, Command::StartOpening) == Err(Refusal::WrongPhase));
+    for command in &OUTSIDE[1..] {
+        assert!(rt; day.give(&rt, *command) == Err(Refusal::WrongPhase));
+    }
+    Ok(())
+}
+
+/// A journal that takes two commands of members takes those of the phases beyond them.
+#[test]
+fn a_full_journal(rt: HostRuntime) -> Result<(), Fail> {
+    let mut day = Day::open(rt.alloc(), 2)?;
+    assert!(rt; day.give(&rt, buy!(0, 1, 990, 5)) == Ok(1));
+    assert!(rt; day.give(&rt, buy!(0, 2, 990, 5)) == Ok(2));
+    assert!(rt; day.give(&rt, buy!(0, 3, 990, 5)) == Err(Refusal::JournalFull));
+    assert!(rt; day.give(&rt, buy!(0, 3, 990, 0)) == Err(Refusal::BadQuantity));
+    assert!(rt; day.give(&rt, Command::StartOpening) == Ok(3));
+    assert!(rt; day.give(&rt, Command::Uncross) == Ok(4));
+    Ok(())
+}
