@@ -2,7 +2,7 @@
 ghost use Rattle.std.specs.Prelude.{◌≡◌, ◌&&◌, IsTrue};
 ghost use Rattle.xm_rules.specs.Active.{is_active};
 ghost use Rattle.xm_rules.specs.Commands.{is_over, outlasts};
-ghost use Rattle.xm_rules.specs.Orders.{accepts, limit_of, meets};
+ghost use Rattle.xm_rules.specs.Orders.{accepts, limit_of, meets, trade_between};
 ghost use Rattle.xm_rules.specs.Priority.{is_better};
 ghost use Rattle.xm_rules.specs.Refusals.{is_given_in_range};
 ghost use Rattle.xm_rules.specs.Settling.{is_free, is_reached, order_of_stop};
@@ -301,4 +301,34 @@ pub struct Trade {
     /// The index of the member that sold.
     pub seller: u32,
     pub sell_ref: u32,
+}
+
+impl Trade {
+    /// The trade between an order of this side and one of the other, of so many units.
+    pub fn trade_between(
+        sweep: u64,
+        kind: TradeKind,
+        price: Price,
+        quantity: u32,
+        side: Side,
+        order: &Order,
+        other: &Order,
+    ) -> Trade
+        ensures { result ≡ trade_between sweep kind price quantity side order.now other.now }
+    {
+        let (buy, sell) = match side {
+            Side::Buy => (order, other),
+            Side::Sell => (other, order),
+        };
+        Trade {
+            sweep,
+            kind,
+            price,
+            quantity,
+            buyer: buy.member,
+            buy_ref: buy.reference,
+            seller: sell.member,
+            sell_ref: sell.reference,
+        }
+    }
 }

@@ -1,5 +1,5 @@
 //! The settings of a security for its day.
-ghost use Rattle.std.specs.Prelude.{◌≡◌, ◌≤◌, ℕ};
+ghost use Rattle.std.specs.Prelude.{ℕ, ◌≡◌, ◌≤◌};
 ghost use Rattle.xm_rules.specs.State.{inside_both, inside_wide};
 
 use xm_ticks::{JournalLimit, Price, TickSize, inside};
@@ -17,8 +17,8 @@ pub struct Widths {
 }
 
 impl Widths {
-    /// Whether a price is inside the dynamic range, which is around the last price, and the static range, which is around
-    /// the last auction price. Each width is at most 999 thousandths.
+    /// Whether a price is inside both the dynamic range, around the price of the last trade, and the static range, around
+    /// that of the last auction trade. The edges are inside.
     pub fn is_inside_both(&self, ref1: Price, ref2: Price, price: Price) -> bool
         requires dynamic { self.now.dynamic ≤ 999 }
         requires statics { self.now.statics ≤ 999 }
@@ -27,7 +27,8 @@ impl Widths {
         inside(price, ref1, self.dynamic) && inside(price, ref2, self.statics)
     }
 
-    /// Whether a price is inside the wide range, which is around the last price. Its width is at most 999 thousandths.
+    /// Whether a price is inside the wide range around the price of the last trade, whatever that of the last auction
+    /// trade. The edges are inside.
     pub fn is_inside_wide(&self, ref1: Price, price: Price) -> bool
         requires { self.now.wide ≤ 999 }
         ensures { (ref2 : ℕ) → result ≡ inside_wide (record { ref1 = ref1; ref2 = ref2; widths = self.now }) price }
