@@ -3,7 +3,6 @@ mod Crossings
 pub mod Curves
 mod Firsts
 mod Growing
-mod Naming
 mod NextTrade
 mod Owners
 mod Pricing

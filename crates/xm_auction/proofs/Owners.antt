@@ -2,11 +2,10 @@
 use Rattle.std.proofs.Common.{◌≡◌, ℕ, ◌+◌, ◌-◌, ◌<◌, ◌≤◌, min, Bool, true, false, ◌&&◌, if◌then◌else◌, List, [], ◌∷◌, sum_by, Contains, Some, refl, sym, ap, ◌∙◌, ◌⊎◌, inl, inr, arith}
 use Rattle.std.proofs.lemmas.Bool.{and_from, and_parts, or_cases}
 use Rattle.std.proofs.lemmas.List.Sums.{sum_by-cons}
-use Rattle.xm_auction.specs.Allotment.{taken_from_any, taken_from_best}
 use Rattle.xm_auction.proofs.Growing.{IsOther}
 use Rattle.xm_auction.proofs.Remaining.{best_left, lessened}
 use Rattle.xm_auction.proofs.Taking.{TakesFrom, taken_is}
-use Rattle.xm_book.specs.Queues.{best_order}
+use Rattle.xm_book.specs.Queues.{best_order, taken_from_any, taken_from_best}
 use Rattle.xm_book.specs.TimeList.{have_own_names}
 use Rattle.xm_book.proofs.Joining.{side-itself}
 use Rattle.xm_book.proofs.Members.{Contains-filter, Contains-here, Contains-there, Passes-filter}

@@ -4,12 +4,12 @@ use Rattle.std.specs.List.{filter_map, flat_map, list_all, list_any}
 use Rattle.std.specs.Prelude.{nat_lt}
 use Rattle.std.proofs.lemmas.Bool.{and_parts, both_ways, eq-eqb, true_from_ne_false}
 use Rattle.std.proofs.lemmas.Bool.Decides.{nat_tests}
-use Rattle.xm_auction.specs.Allotment.{Terms, best_trade, taken_from_any, taken_from_best, trade_of_two}
+use Rattle.xm_auction.specs.Allotment.{Terms, best_trade, trade_of_two}
 use Rattle.xm_auction.proofs.NextTrade.{IsCut, cut_after, cut_at_first, nothing_traded, next_trade_last, trade_of_next}
-use Rattle.xm_auction.proofs.Naming.{contains_best, named_itself}
+use Rattle.xm_book.proofs.Naming.{contains_best, named_itself}
 use Rattle.xm_auction.proofs.Owners.{IsNext, NextOf, allotted_to, best_now, best_taken, next_of, phase_of, raised, rest_now, upto}
 use Rattle.xm_auction.proofs.Remaining.{has_rest, lessened}
-use Rattle.xm_book.specs.Queues.{best_order}
+use Rattle.xm_book.specs.Queues.{best_order, taken_from_any, taken_from_best}
 use Rattle.xm_book.specs.TimeList.{TimeList, have_own_names}
 use Rattle.xm_book.proofs.Joining.{same_some}
 use Rattle.xm_book.proofs.Members.{list_any-false}

@@ -3,8 +3,8 @@ use Rattle.std.proofs.Common.{◌≡◌, ℕ, ◌+◌, ◌-◌, ◌<◌, ◌≤�
 use Rattle.std.specs.Prelude.{nat_lt}
 use Rattle.std.proofs.lemmas.Bool.{lt-ltb}
 use Rattle.std.proofs.lemmas.Bool.Decides.{nat_tests}
-use Rattle.xm_auction.specs.Allotment.{taken_from}
-use Rattle.xm_auction.proofs.Naming.{named_itself, one_of_name, order_in, own_positioned}
+use Rattle.xm_book.specs.Queues.{taken_from}
+use Rattle.xm_book.proofs.Naming.{named_itself, one_of_name, order_in, own_positioned}
 use Rattle.xm_auction.proofs.Remaining.{has_rest, lessened}
 use Rattle.xm_book.specs.TimeList.{have_own_names}
 use Rattle.xm_book.proofs.Members.{Contains-here, Contains-there}

@@ -1,6 +1,6 @@
 //! The allotment of a call: its volume goes, at its price, to the orders that are first in priority.
 ghost use Rattle.std.specs.Prelude.{◌≡◌, ◌+◌, ◌++◌, ◌<◌, ◌≤◌, IfSome, IsSome, Some, length};
-ghost use Rattle.xm_auction.specs.Allotment.{best_trade, taken_from_best, uncrossing_of};
+ghost use Rattle.xm_auction.specs.Allotment.{best_trade, uncrossing_of};
 ghost use Rattle.xm_book.specs.Queues.{best_order};
 ghost use Rattle.xm_rules.specs.Allotment.{auction_trades, orders_after_call};
 ghost use Rattle.xm_rules.specs.Auction.{volume as executable};
@@ -35,8 +35,8 @@ pub fn allocate<A: Allocator + Copy, B: Allocator>(
     let mut left = volume;
     while 0 < left {
         let trade = next_trade(book, &phase, sweep, kind, price, left);
-        fill_best(book, Side::Buy, &phase, trade.quantity);
-        fill_best(book, Side::Sell, &phase, trade.quantity);
+        book.fill_best(Side::Buy, phase, trade.quantity);
+        book.fill_best(Side::Sell, phase, trade.quantity);
         left -= u64::from(trade.quantity);
         trades.push(trade);
     }
@@ -56,16 +56,8 @@ fn next_trade<A: Allocator + Copy>(
 {
     let buy = best_of(book, Side::Buy, phase);
     let sell = best_of(book, Side::Sell, phase);
-    Trade {
-        sweep,
-        kind,
-        price,
-        quantity: u64::from(buy.rest.min(sell.rest)).min(units) as u32,
-        buyer: buy.member,
-        buy_ref: buy.reference,
-        seller: sell.member,
-        sell_ref: sell.reference,
-    }
+    let quantity = u64::from(buy.rest.min(sell.rest)).min(units) as u32;
+    Trade::trade_between(sweep, kind, price, quantity, Side::Buy, &buy, &sell)
 }
 
 /// The best active order of a side that has one.
@@ -74,23 +66,4 @@ fn best_of<A: Allocator + Copy>(book: &Book<A>, side: Side, phase: &Phase) -> Or
     ensures { Some result ≡ best_order phase.now side book.now.orders }
 {
     *book.best(side, *phase).unwrap()
-}
-
-/// Takes units from the best active order of a side, which has as many.
-fn fill_best<A: Allocator + Copy>(book: &mut Book<A>, side: Side, phase: &Phase, units: u32)
-    requires { IfSome (best_order phase.now side book.old.orders) (λ o. (1 ≤ units) × (units ≤ o.rest)) }
-    ensures { book.new ≡ record book.old { orders = taken_from_best phase.now side units book.old.orders } }
-{
-    let _ = book.len(); // What every book keeps is known of one whose length is asked.
-    match book.best(side, *phase) {
-        None => {}
-        Some(best) => {
-            let order = *best;
-            if units == order.rest {
-                book.remove(order.member, order.reference);
-            } else {
-                book.reduce(order.member, order.reference, order.rest - units);
-            }
-        }
-    }
 }

@@ -12,6 +12,7 @@ pub mod Limited
 pub mod Members
 pub mod Merging
 pub mod Named
+pub mod Naming
 pub mod Opening
 pub mod Paired
 pub mod Placing

@@ -1,9 +1,9 @@
 -- The active orders of a side in order of priority.
-use Rattle.std.specs.Prelude.{ℕ, not, List, filter, find, sum_by, Option, Some, None, option_map}
+use Rattle.std.specs.Prelude.{ℕ, ◌-◌, ◌==◌, if◌then◌else◌, not, List, filter, find, sum_by, Option, Some, None, option_map}
 use Rattle.std.specs.List.{list_any}
 use Rattle.xm_ladders.specs.Ladder.{same_kind}
 use Rattle.xm_rules.specs.Active.{Positioned, active, limits}
-use Rattle.xm_rules.specs.Orders.{is_named}
+use Rattle.xm_rules.specs.Orders.{is_named, removed, with_rest}
 use Rattle.xm_rules.specs.Priority.{is_ahead}
 use Rattle.xm_rules.specs.Sides.{best, reaches}
 use Rattle.xm_rules.specs.declared.orders.Order.{Order}
@@ -27,6 +27,19 @@ order_at i = option_map (λ (i : Positioned). i.order) i
 -- the best active order of a side
 abbrev pub best_order : Phase → Side → List Order → Option Order
 best_order phase side orders = order_at (first side (active phase side orders))
+
+-- a time list after these units were taken from one of its orders: an order that has none left is gone, and another keeps
+-- its position
+abbrev pub taken_from : Order → ℕ → List Order → List Order
+taken_from o units orders = if units == o.rest then removed o.member o.reference orders else with_rest o.member o.reference (o.rest - units) orders
+
+abbrev pub taken_from_any : Option Order → ℕ → List Order → List Order
+taken_from_any None units orders = orders
+taken_from_any (Some o) units orders = taken_from o units orders
+
+-- the same of the best active order of a side, where there is one
+abbrev pub taken_from_best : Phase → Side → ℕ → List Order → List Order
+taken_from_best phase side units orders = taken_from_any (best_order phase side orders) units orders
 
 -- the active order of a side that is next in priority after the one of this name
 abbrev pub next_order : Phase → Side → ℕ → ℕ → List Order → Option Order

@@ -2,7 +2,7 @@
 ghost use Rattle.std.specs.Prelude.{◌≡◌, ◌+◌, ◌++◌, ◌∷◌, ◌<◌, ◌≤◌, ◌^◌, [], IsTrue, filter, length, find, false, option_copied, IfOk, IfSome, OnErr, OnOk};
 ghost use Rattle.std.specs.Option.{option_map};
 ghost use Rattle.xm_book.specs.Places.{SamePlaces, place_of};
-ghost use Rattle.xm_book.specs.Queues.{best_order, level_after, market_sum, next_order};
+ghost use Rattle.xm_book.specs.Queues.{best_order, level_after, market_sum, next_order, taken_from_best};
 ghost use Rattle.xm_book.specs.TimeList.{IsBook, Reserves, is_known, is_reserved, references_of};
 ghost use Rattle.xm_rules.specs.Active.{active, limits};
 ghost use Rattle.xm_rules.specs.Commands.{is_in_range, outlasts};
@@ -215,6 +215,26 @@ impl<A: Allocator + Copy> Book<A> {
         ensures { option_copied result ≡ best_order phase side self.now.orders }
     {
         order_of(self.queues.first(side, phase))
+    }
+
+    /// Takes units from the best active order of a side, which has as many. An order that has none left is gone, and
+    /// another keeps its place in time. Where no order of the side is active, nothing changes.
+    pub fn fill_best(&mut self, side: Side, phase: Phase, units: u32)
+        requires { IfSome (best_order phase side self.old.orders) (λ o. (1 ≤ units) × (units ≤ o.rest)) }
+        ensures { self.new ≡ record self.old { orders = taken_from_best phase side units self.old.orders } }
+    {
+        let _ = self.len(); // What every book keeps is known of one whose length is asked.
+        match self.best(side, phase) {
+            None => {}
+            Some(best) => {
+                let order = *best;
+                if units == order.rest {
+                    self.remove(order.member, order.reference);
+                } else {
+                    self.reduce(order.member, order.reference, order.rest - units);
+                }
+            }
+        }
     }
 
     /// The active order of a side that is next in priority after the order of this name; nothing where no active order

@@ -1,7 +1,8 @@
 use Rattle.std.proofs.Common.{refl, ◌≡◌, ◌++◌, ◌∷◌, [], ◌-◌, sym, ap, subst, ◌∙◌, List, arith}
-use Rattle.xm_auction.specs.Allotment.{taken_from_best, uncrossing_of}
+use Rattle.xm_auction.specs.Allotment.{uncrossing_of}
 use Rattle.xm_auction.proofs.Progress.{CanBeAllotted, HasUnits, at_begin, has_trade, rest_stays, the_same, turn}
 use Rattle.xm_auction.proofs.allotment.allocate.Goals as goal
+use Rattle.xm_book.specs.Queues.{taken_from_best}
 use Rattle.xm_book.specs.TimeList.{TimeList}
 use Rattle.xm_book.specs.Trades.{TradeList}
 use Rattle.xm_rules.specs.declared.orders.Order.{Order}
@@ -66,13 +67,13 @@ loop-left-preserved g c =
     let trade = c.next_trade-trade.result in
     let t = turn u c.args.sweep c.loop-left.left before old c.loop-left.trades.trades room c.loop-left.trades.room can c.loop-left.invariant.progress c.loop-left-test.true trade c.next_trade-trade.ensures in
     let phase = Call c.args.auction c.args.stage in
-    let between : c.fill_best.new.book.orders ≡ taken_from_best phase Buy trade.quantity before = ap (λ (b : TimeList). b.orders) c.fill_best.ensures in
-    let after : c.fill_best-in-loop-left.new.book.orders ≡ taken_from_best phase Sell trade.quantity (taken_from_best phase Buy trade.quantity before) =
+    let between : c.fill_best.new.self.orders ≡ taken_from_best phase Buy trade.quantity before = ap (λ (b : TimeList). b.orders) c.fill_best.ensures in
+    let after : c.fill_best-in-loop-left.new.self.orders ≡ taken_from_best phase Sell trade.quantity (taken_from_best phase Buy trade.quantity before) =
     ap (λ (b : TimeList). b.orders) c.fill_best-in-loop-left.ensures ∙ ap (taken_from_best phase Sell trade.quantity) between in
     record {
-      book = rest_stays c.args.book.now c.loop-left.book c.fill_best.new.book c.fill_best-in-loop-left.new.book _ _ c.loop-left.invariant.book c.fill_best.ensures c.fill_best-in-loop-left.ensures;
+      book = rest_stays c.args.book.now c.loop-left.book c.fill_best.new.self c.fill_best-in-loop-left.new.self _ _ c.loop-left.invariant.book c.fill_best.ensures c.fill_best-in-loop-left.ensures;
       progress =
           the_same u c.args.sweep (c.loop-left.left - trade.quantity) (taken_from_best phase Sell trade.quantity (taken_from_best phase Buy trade.quantity before)) old
-          (c.loop-left.trades.trades ++ trade ∷ []) room (c.loop-left.trades.room - 1) (c.loop-left.left - c.from-left.result) c.fill_best-in-loop-left.new.book.orders c.push.new.self.trades c.push.new.self.room
+          (c.loop-left.trades.trades ++ trade ∷ []) room (c.loop-left.trades.room - 1) (c.loop-left.left - c.from-left.result) c.fill_best-in-loop-left.new.self.orders c.push.new.self.trades c.push.new.self.room
           (ap (λ n. c.loop-left.left - n) c.from-left.ensures) after (ap (λ (s : TradeList). s.trades) c.push.ensures) (ap (λ (s : TradeList). s.room) c.push.ensures) t.next;
     }

@@ -63,8 +63,9 @@ orders_of_positioned k (o ∷ os) = ap (λ (l : List Order). o ∷ l) (orders_of
 pub own_positioned : (orders : List Order) → have_own_names orders ≡ true → have_own_names (map order_in (positioned_from 0 orders)) ≡ true
 own_positioned orders own = ap have_own_names (orders_of_positioned 0 orders) ∙ own
 
-contains_by : (k : ℕ) (orders : List Order) (i : Positioned) → Contains (positioned_from k orders) i → Contains orders i.order
-contains_by k orders i at = subst (λ (os : List Order). Contains os i.order) (orders_of_positioned k orders) (Contains-map order_in (positioned_from k orders) i at)
+-- its order is in the list
+pub contains_order : (k : ℕ) (orders : List Order) (i : Positioned) → Contains (positioned_from k orders) i → Contains orders i.order
+contains_order k orders i at = subst (λ (os : List Order). Contains os i.order) (orders_of_positioned k orders) (Contains-map order_in (positioned_from k orders) i at)
 
 found_best : (phase : Phase) (side : Side) (orders : List Order) (o : Order) (found : Option Positioned) → first side (active phase side orders) ≡ found
     → order_at found ≡ Some o → Contains orders o
@@ -74,7 +75,7 @@ found_best phase side orders o (Some i) e h =
     let in_queue = find-Some (λ (j : Positioned). not (list_any (λ (x : Positioned). is_ahead side x j) queue)) queue i e in
     let at = Passes-filter (is_active_on phase side) (positioned_from 0 orders) i in_queue.contains in
     let same : i.order ≡ o = cc in
-    subst (λ (p : Order). Contains orders p) same (contains_by 0 orders i at.contains)
+    subst (λ (p : Order). Contains orders p) same (contains_order 0 orders i at.contains)
 
 pub contains_best : (phase : Phase) (side : Side) (orders : List Order) (o : Order) → best_order phase side orders ≡ Some o → Contains orders o
 contains_best phase side orders o h = found_best phase side orders o (first side (active phase side orders)) refl h
