@@ -1,64 +1,15 @@
 -- Trades of pairs: where one pair gives one more number and value, and the greatest number, it comes last.
-use Rattle.std.proofs.Common.{◌≡◌, ℕ, ◌<◌, List, [], ◌∷◌, ◌++◌, Contains, Option, Some, None, refl, sym, ap, subst, ◌∙◌, ◌⊎◌, inl, inr, append_assoc, arith}
-use Rattle.std.specs.List.{filter_map, flat_map, cons_option}
-use Rattle.std.proofs.lemmas.List.Elements.{Contains-append_cases, filter_map-append}
-use Rattle.xm_auction.proofs.Firsts.{later_in}
-use Rattle.xm_auction.proofs.Sorting.{Below, in_order_last}
-use Rattle.xm_book.proofs.Members.{Contains-cases, Contains-here, Contains-there, Contains-none, IsGiven-filter_map}
+use Rattle.std.proofs.Common.{◌≡◌, ℕ, ◌<◌, List, [], ◌∷◌, ◌++◌, Contains, Option, Some, None, refl, sym, ap, subst, ◌∙◌, ◌⊎◌, inl, inr, append_assoc}
+use Rattle.std.specs.List.{filter_map, flat_map}
+use Rattle.std.proofs.lemmas.List.Elements.{Contains-append_cases}
+use Rattle.xm_book.proofs.Cutting.{CutAt, IsOther, cut_at, given_same, row_is}
+use Rattle.xm_book.proofs.Members.{Contains-here, Contains-there, Contains-none, IsGiven-filter_map}
+use Rattle.xm_book.proofs.Sorting.{Below, in_order_last}
 use Rattle.xm_rules.specs.Active.{Positioned}
 use Rattle.xm_rules.specs.Priority.{in_order}
-use Rattle.xm_rules.proofs.Positions.{Later, Rising}
-
--- at another position
-abbrev pub IsOther : Positioned → Positioned → Type 0
-IsOther x i = i.position ≡ x.position → ⊥
-
--- a list, cut at one of its orders
-pub record CutAt (xs : List Positioned) (x : Positioned) : Type 0 where
-  pub ahead : List Positioned
-  pub behind : List Positioned
-  pub is : xs ≡ ahead ++ x ∷ behind
-  pub others_ahead : (i : Positioned) → Contains ahead i → Contains xs i × IsOther x i
-  pub others_behind : (i : Positioned) → Contains behind i → Contains xs i × IsOther x i
-
-cut_here : (y : Positioned) (xs : List Positioned) (x : Positioned) → Later y xs → y ≡ x → CutAt (y ∷ xs) x
-cut_here y xs x late e = record {
-  ahead = [];
-  behind = xs;
-  is = ap (λ (z : Positioned). z ∷ xs) e;
-  others_ahead = λ i at. absurd (Contains-none i at);
-  others_behind = λ i at. (Contains-there y xs i at, λ f. absurd (let l = later_in y xs i late at in let p : y.position ≡ x.position = ap (λ (z : Positioned). z.position) e in omega arith));
-}
-
-cut_later : (y : Positioned) (xs : List Positioned) (x : Positioned) → Later y xs → Contains xs x → CutAt xs x → CutAt (y ∷ xs) x
-cut_later y xs x late at c = record {
-  ahead = y ∷ c.ahead;
-  behind = c.behind;
-  is = ap (λ (l : List Positioned). y ∷ l) c.is;
-  others_ahead = λ i to. by_cases i (Contains-cases y c.ahead i to);
-  others_behind = λ i to. let o = c.others_behind i to in (Contains-there y xs i o.0, o.1);
-}
-  where
-    by_cases : (i : Positioned) → (y ≡ i) ⊎ Contains c.ahead i → Contains (y ∷ xs) i × IsOther x i
-    by_cases i (inl e) = (
-      subst (λ (z : Positioned). Contains (y ∷ xs) z) e (Contains-here y xs),
-      λ f. absurd (let l = later_in y xs x late at in let p : y.position ≡ i.position = ap (λ (z : Positioned). z.position) e in omega arith),
-    )
-    by_cases i (inr to) = let o = c.others_ahead i to in (Contains-there y xs i o.0, o.1)
-
-pub cut_at : (xs : List Positioned) → Rising xs → (x : Positioned) → Contains xs x → CutAt xs x
-cut_at [] rising x at = absurd (Contains-none x at)
-cut_at (y ∷ xs) rising x at = cut_by y xs x rising.0 (λ i. cut_at xs rising.1 x i) (Contains-cases y xs x at)
-  where
-    cut_by : (y : Positioned) (xs : List Positioned) (x : Positioned) → Later y xs → (Contains xs x → CutAt xs x) → (y ≡ x) ⊎ Contains xs x → CutAt (y ∷ xs) x
-    cut_by y xs x late rest (inl e) = cut_here y xs x late e
-    cut_by y xs x late rest (inr i) = cut_later y xs x late i (rest i)
+use Rattle.xm_rules.proofs.Positions.{Rising}
 
 module _ {X A : Type 0} where
-  given_same : (f g : X → Option A) (xs : List X) → ((x : X) → Contains xs x → g x ≡ f x) → filter_map g xs ≡ filter_map f xs
-  given_same f g [] h = refl
-  given_same f g (x ∷ xs) h = (λ i. cons_option (h x (Contains-here x xs) i) (given_same f g xs (λ y at. h y (Contains-there x xs y at)) i))
-
   flat_same : (f g : X → List A) (xs : List X) → ((x : X) → Contains xs x → g x ≡ f x) → flat_map g xs ≡ flat_map f xs
   flat_same f g [] h = refl
   flat_same f g (x ∷ xs) h = (λ i. h x (Contains-here x xs) i ++ flat_same f g xs (λ y at. h y (Contains-there x xs y at)) i)
@@ -99,14 +50,6 @@ module _ {A : Type 0} (f g : Positioned → Positioned → Option (ℕ × A)) (x
       let given = IsGiven-filter_map (f one.from) ys z one.has in
       h.below one.from given.from z one.contained given.contains given.given
 
-  -- the row of the pair
-  row_is : (h : Positioned → Positioned → Option (ℕ × A)) (b s : Positioned) (c : CutAt ys s) (o : Option (ℕ × A)) → h b s ≡ o
-      → ((y : Positioned) → Contains ys y → IsOther s y → h b y ≡ f b y) → filter_map (h b) ys ≡ filter_map (f b) c.ahead ++ cons_option o (filter_map (f b) c.behind)
-  row_is h b s c o e same =
-      ap (filter_map (h b)) c.is ∙ filter_map-append (h b) c.ahead (s ∷ c.behind)
-      ∙ (λ i. given_same (f b) (h b) c.ahead (λ y at. let t = c.others_ahead y at in same y t.0 t.1) i
-      ++ cons_option (e i) (given_same (f b) (h b) c.behind (λ y at. let t = c.others_behind y at in same y t.0 t.1) i))
-
   -- the whole, cut at the row
   whole_is : (h : Positioned → Positioned → Option (ℕ × A)) (b : Positioned) (c : CutAt xs b) (row : List (ℕ × A)) → filter_map (h b) ys ≡ row
       → ((x y : Positioned) → Contains xs x → Contains ys y → IsOther b x → h x y ≡ f x y)
@@ -131,8 +74,8 @@ module _ {A : Type 0} (f g : Positioned → Positioned → Option (ℕ × A)) (x
       let r = filter_map (f b) cy.behind in
       let t = flat_map of_f cx.behind in
       let before : all_of f ≡ (p ++ q) ++ (r ++ t) =
-      whole_is f b cx (q ++ r) (row_is f b s cy None h.none (λ y at other. refl)) (λ x y at to other. refl) ∙ joined p q r t in
+      whole_is f b cx (q ++ r) (row_is (f b) (f b) ys s cy None h.none (λ y at other. refl)) (λ x y at to other. refl) ∙ joined p q r t in
       let after : all_of g ≡ (p ++ q) ++ e ∷ (r ++ t) =
-      whole_is g b cx (q ++ e ∷ r) (row_is g b s cy (Some e) h.some (λ y at other. h.same b y h.first at (inr other))) (λ x y at to other. h.same x y at to (inl other)) ∙ joined p q (e ∷ r) t in
+      whole_is g b cx (q ++ e ∷ r) (row_is (f b) (g b) ys s cy (Some e) h.some (λ y at other. h.same b y h.first at (inr other))) (λ x y at to other. h.same x y at to (inl other)) ∙ joined p q (e ∷ r) t in
       let low : Below e.0 ((p ++ q) ++ (r ++ t)) = subst (λ (l : List (ℕ × A)). Below e.0 l) before (all_below b s e h) in
       ap in_order after ∙ in_order_last e (p ++ q) (r ++ t) low ∙ ap (λ (l : List (ℕ × A)). in_order l ++ e.1 ∷ []) (sym before)

@@ -3,7 +3,8 @@ use Rattle.std.proofs.Common.{◌≡◌, ℕ, ◌+◌, ◌-◌, ◌<◌, ◌≤�
 use Rattle.std.specs.Prelude.{nat_lt}
 use Rattle.std.proofs.lemmas.Bool.{and_from, cases_eq, ltb-true, lt-ltb}
 use Rattle.std.proofs.lemmas.Bool.Decides.{nat_tests}
-use Rattle.xm_auction.proofs.Growing.{GivesLast, IsOther, gives_last}
+use Rattle.xm_auction.proofs.Growing.{GivesLast, gives_last}
+use Rattle.xm_book.proofs.Cutting.{IsOther}
 use Rattle.xm_auction.proofs.Owners.{IsNext, apart_in, is_on, phase_of, upto}
 use Rattle.xm_book.proofs.Members.{Contains-filter, Passes-filter}
 use Rattle.xm_rules.specs.Active.{Positioned, is_active_on}

@@ -2,9 +2,9 @@
 use Rattle.std.proofs.Common.{◌≡◌, ℕ, ◌+◌, ◌-◌, ◌<◌, ◌≤◌, min, Bool, true, false, ◌&&◌, if◌then◌else◌, List, [], ◌∷◌, sum_by, Contains, Some, refl, sym, ap, ◌∙◌, ◌⊎◌, inl, inr, arith}
 use Rattle.std.proofs.lemmas.Bool.{and_from, and_parts, or_cases}
 use Rattle.std.proofs.lemmas.List.Sums.{sum_by-cons}
-use Rattle.xm_auction.proofs.Growing.{IsOther}
-use Rattle.xm_auction.proofs.Remaining.{best_left, lessened}
-use Rattle.xm_auction.proofs.Taking.{TakesFrom, taken_is}
+use Rattle.xm_book.proofs.Cutting.{IsOther}
+use Rattle.xm_book.proofs.Remaining.{best_left, lessened}
+use Rattle.xm_book.proofs.Taking.{TakesFrom, taken_is}
 use Rattle.xm_book.specs.Queues.{best_order, taken_from_any, taken_from_best}
 use Rattle.xm_book.specs.TimeList.{have_own_names}
 use Rattle.xm_book.proofs.Joining.{side-itself}

@@ -1,64 +1,28 @@
 -- How far an allotment has come: what it has traded is that of the call with a lower volume, and each trade takes it on.
-use Rattle.std.proofs.Common.{◌≡◌, ℕ, ◌+◌, ◌-◌, ◌<◌, ◌≤◌, min, max, Bool, true, false, not, ◌==◌, if◌then◌else◌, IfSome, IsSome, List, [], ◌∷◌, ◌++◌, length, length-append, append_assoc, append-nil, filter, map, Contains, Option, Some, None, refl, sym, ap, subst, ◌∙◌, ◌⊎◌, inl, inr, arith}
-use Rattle.std.specs.List.{filter_map, flat_map, list_all, list_any}
-use Rattle.std.specs.Prelude.{nat_lt}
-use Rattle.std.proofs.lemmas.Bool.{and_parts, both_ways, eq-eqb, true_from_ne_false}
-use Rattle.std.proofs.lemmas.Bool.Decides.{nat_tests}
+use Rattle.std.proofs.Common.{◌≡◌, ℕ, ◌+◌, ◌-◌, ◌<◌, ◌≤◌, min, max, Bool, true, false, if◌then◌else◌, IsSome, List, [], ◌∷◌, ◌++◌, length, length-append, append_assoc, append-nil, Some, refl, sym, ap, subst, ◌∙◌, ◌⊎◌, inl, inr, arith}
+use Rattle.std.specs.List.{filter_map, flat_map, list_all}
 use Rattle.xm_auction.specs.Allotment.{Terms, best_trade, trade_of_two}
 use Rattle.xm_auction.proofs.NextTrade.{IsCut, cut_after, cut_at_first, nothing_traded, next_trade_last, trade_of_next}
-use Rattle.xm_book.proofs.Naming.{contains_best, named_itself}
 use Rattle.xm_auction.proofs.Owners.{IsNext, NextOf, allotted_to, best_now, best_taken, next_of, phase_of, raised, rest_now, upto}
-use Rattle.xm_auction.proofs.Remaining.{has_rest, lessened}
-use Rattle.xm_book.specs.Queues.{best_order, taken_from_any, taken_from_best}
-use Rattle.xm_book.specs.TimeList.{TimeList, have_own_names}
+use Rattle.xm_book.proofs.Remaining.{all_kept, lessened}
+use Rattle.xm_book.proofs.Shortening.{no_more, one_less, some_there}
+use Rattle.xm_book.proofs.Taking.{HasUnits, has_units}
+use Rattle.xm_book.specs.Queues.{best_order, taken_from_best}
+use Rattle.xm_book.specs.TimeList.{have_own_names}
+use Rattle.xm_book.proofs.Cutting.{none_given}
 use Rattle.xm_book.proofs.Joining.{same_some}
-use Rattle.xm_book.proofs.Members.{list_any-false}
-use Rattle.xm_book.proofs.Named.{fewer-left, length-kept}
-use Rattle.xm_rules.specs.Active.{Positioned, positioned_from}
+use Rattle.xm_rules.specs.Active.{Positioned}
 use Rattle.xm_rules.specs.Allotment.{Uncrossing, allotted, auction_trades, end_unit, first_unit, parties, takes_part, trade_of_pair}
 use Rattle.xm_rules.specs.Auction.{volume as executable}
 use Rattle.xm_rules.specs.Commands.{is_in_range}
-use Rattle.xm_rules.specs.Orders.{is_named, removed, trade_between, with_rest}
+use Rattle.xm_rules.specs.Orders.{trade_between}
 use Rattle.xm_rules.specs.Priority.{in_order, without_units}
 use Rattle.xm_rules.specs.declared.orders.Order.{Order}
 use Rattle.xm_rules.specs.declared.orders.Side.{Side}
 use Rattle.xm_rules.specs.declared.orders.Side.TheVariants.{Buy, Sell}
 use Rattle.xm_rules.specs.declared.orders.Trade.{Trade}
 use Rattle.xm_rules.specs.declared.orders.TradeKind.TheVariants.{Auction}
-use Rattle.xm_rules.specs.declared.phases.Phase.{Phase}
 use Rattle.xm_rules.proofs.Queues.{units}
-
--- ---- how many orders there are after units were taken
-with_rest_length : (member reference rest : ℕ) (os : List Order) → length (with_rest member reference rest os) ≡ length os
-with_rest_length member reference rest [] = refl
-with_rest_length member reference rest (o ∷ os) = omega (arith, with_rest_length member reference rest os)
-
-taken_if : (o : Order) (n : ℕ) (os : List Order) (b : Bool)
-    → length (if b then removed o.member o.reference os else with_rest o.member o.reference (o.rest - n) os) ≤ length os
-taken_if o n os true = length-kept (λ (p : Order). not (is_named o.member o.reference p)) os
-taken_if o n os false = omega (arith, with_rest_length o.member o.reference (o.rest - n) os)
-
-no_more : (n : ℕ) (os : List Order) (o : Option Order) → length (taken_from_any o n os) ≤ length os
-no_more n os None = omega arith
-no_more n os (Some o) = taken_if o n os (n == o.rest)
-
-listed : (os : List Order) (o : Order) → Contains os o → list_any (is_named o.member o.reference) os ≡ true
-listed os o at =
-    true_from_ne_false (list_any (is_named o.member o.reference) os)
-    (λ e. both_ways (is_named o.member o.reference o) (list_any-false (is_named o.member o.reference) os o e at) (named_itself o))
-
-one_less : (phase : Phase) (side : Side) (n : ℕ) (os : List Order) (o : Order) → best_order phase side os ≡ Some o → n ≡ o.rest
-    → length (taken_from_best phase side n os) < length os
-one_less phase side n os o e f =
-    let fewer = fewer-left o.member o.reference os (listed os o (contains_best phase side os o e)) in
-    let same : taken_from_best phase side n os ≡ removed o.member o.reference os =
-    ap (λ (found : Option Order). taken_from_any found n os) e
-    ∙ ap (λ (b : Bool). if b then removed o.member o.reference os else with_rest o.member o.reference (o.rest - n) os) (eq-eqb n o.rest f) in
-    let long : length (taken_from_best phase side n os) ≡ length (removed o.member o.reference os) = ap length same in
-    omega arith
-
-some_there : (phase : Phase) (side : Side) (os : List Order) (o : Order) → best_order phase side os ≡ Some o → 0 < length os
-some_there phase side os o e = let at = contains_best phase side os o e in let l = at.1 in omega arith
 
 -- ---- the premises, and how far it has come
 pub record CanBeAllotted (u : Uncrossing) : Type 0 where
@@ -76,13 +40,6 @@ pub record Progress (u : Uncrossing) (number left : ℕ) (now : List Order) (old
   pub rooms : room + length (auction_trades number (upto done u)) ≡ before
   pub cut : 0 < left → IsCut u Buy done ⊎ IsCut u Sell done
   pub enough : 0 < left → length now ≤ room
-
--- the best order of a side has as many units
-abbrev pub HasUnits : Phase → Side → ℕ → List Order → Type 0
-HasUnits phase side n os = IfSome (best_order phase side os) (λ (o : Order). (1 ≤ n) × (n ≤ o.rest))
-
-has_units : (phase : Phase) (side : Side) (n : ℕ) (os : List Order) (o : Order) → best_order phase side os ≡ Some o → 0 < n → n ≤ o.rest → HasUnits phase side n os
-has_units phase side n os o e h l = rw e (h, l)
 
 -- what a trade does
 pub record Turn (u : Uncrossing) (number left : ℕ) (now : List Order) (old made : List Trade) (before room : ℕ) (trade : Trade) : Type 0 where
@@ -236,32 +193,8 @@ no_part : (b : Bool) (first count : ℕ) → ◌≡◌ {A = ℕ} (if b then min 
 no_part true first count = omega arith
 no_part false first count = refl
 
-some_rest : (n : ℕ) → is_in_range n ≡ true → nat_lt 0 n ≡ true
-some_rest n h = grind (arith, nat_tests)
-
-all_some : (os : List Order) → list_all (λ (o : Order). is_in_range o.rest) os ≡ true → filter has_rest os ≡ os
-all_some [] h = refl
-all_some (o ∷ os) h =
-    let parts = and_parts (is_in_range o.rest) (list_all (λ (p : Order). is_in_range p.rest) os) h in
-    rw (some_rest o.rest parts.0) (ap (λ (l : List Order). o ∷ l) (all_some os parts.1))
-
-none_lessened : (taken : Positioned → ℕ) (k : ℕ) (os : List Order) → ((i : Positioned) → taken i ≡ 0) → map (lessened taken) (positioned_from k os) ≡ os
-none_lessened taken k [] none = refl
-none_lessened taken k (o ∷ os) none =
-    let nothing = none (record { position = k; order = o }) in
-    let same : o.rest - taken (record { position = k; order = o }) ≡ o.rest = omega arith in
-    (λ i. (record o { rest = same i }) ∷ none_lessened taken (k + 1) os none i)
-
-all_kept : (taken : Positioned → ℕ) (os : List Order) → ((i : Positioned) → taken i ≡ 0) → list_all (λ (o : Order). is_in_range o.rest) os ≡ true
-    → without_units taken os ≡ os
-all_kept taken os none h = ap (filter has_rest) (none_lessened taken 0 os none) ∙ all_some os h
-
 none_allotted : (u : Uncrossing) (i : Positioned) → allotted (upto 0 u) i ≡ 0
 none_allotted u i = no_part (takes_part u i.order.side i) (first_unit u i.order.side i) (units i)
-
-none_given : {X A : Type 0} (f : X → Option A) (xs : List X) → ((x : X) → f x ≡ None) → filter_map f xs ≡ []
-none_given f [] h = refl
-none_given f (x ∷ xs) h = rw (h x) (none_given f xs h)
 
 flat_none : {X A : Type 0} (f : X → List A) (xs : List X) → ((x : X) → f x ≡ []) → flat_map f xs ≡ []
 flat_none f [] h = refl
@@ -288,11 +221,3 @@ at_begin u number old room rests enough = record {
 pub the_same : (u : Uncrossing) (number left : ℕ) (now : List Order) (old made : List Trade) (before room m : ℕ) (os : List Order) (ts : List Trade) (n : ℕ)
     → m ≡ left → os ≡ now → ts ≡ made → n ≡ room → Progress u number left now old made before room → Progress u number m os old ts before n
 the_same u number left now old made before room m os ts n e f g h p = rw (e, f, g, h) p
-
--- the rest of a book stays as it was
-pub rest_stays : (start before between after : TimeList) (xs ys : List Order) → before ≡ record start { orders = before.orders } → between ≡ record before { orders = xs } → after ≡ record between { orders = ys }
-    → after ≡ record start { orders = after.orders }
-rest_stays start before between after xs ys e f g =
-    let places = ap (λ (b : TimeList). b.reserved) g ∙ ap (λ (b : TimeList). b.reserved) f ∙ ap (λ (b : TimeList). b.reserved) e in
-    let adds = ap (λ (b : TimeList). b.adds) g ∙ ap (λ (b : TimeList). b.adds) f ∙ ap (λ (b : TimeList). b.adds) e in
-    (λ i. record { orders = after.orders; reserved = places i; adds = adds i })

@@ -1,5 +1,7 @@
 pub mod Collecting
+pub mod Cutting
 pub mod Expiring
+pub mod Firsts
 pub mod Growing
 pub mod Heading
 pub mod InTime
@@ -18,10 +20,14 @@ pub mod Paired
 pub mod Placing
 pub mod Priorities
 pub mod Reducing
+pub mod Remaining
 pub mod Reserved
 pub mod Reserving
 pub mod Sameness
+pub mod Shortening
 pub mod SlotKeys
+pub mod Sorting
 pub mod Standing
+pub mod Taking
 pub mod Timeline
 pub mod Walking

@@ -1,9 +1,10 @@
 use Rattle.std.proofs.Common.{refl, ◌≡◌, ◌++◌, ◌∷◌, [], ◌-◌, sym, ap, subst, ◌∙◌, List, arith}
 use Rattle.xm_auction.specs.Allotment.{uncrossing_of}
-use Rattle.xm_auction.proofs.Progress.{CanBeAllotted, HasUnits, at_begin, has_trade, rest_stays, the_same, turn}
-use Rattle.xm_auction.proofs.allotment.allocate.Goals as goal
 use Rattle.xm_book.specs.Queues.{taken_from_best}
+use Rattle.xm_auction.proofs.Progress.{CanBeAllotted, at_begin, has_trade, the_same, turn}
+use Rattle.xm_auction.proofs.allotment.allocate.Goals as goal
 use Rattle.xm_book.specs.TimeList.{TimeList}
+use Rattle.xm_book.proofs.Taking.{HasUnits, rest_stays}
 use Rattle.xm_book.specs.Trades.{TradeList}
 use Rattle.xm_rules.specs.declared.orders.Order.{Order}
 use Rattle.xm_rules.specs.declared.orders.Side.TheVariants.{Buy, Sell}
@@ -71,7 +72,7 @@ loop-left-preserved g c =
     let after : c.fill_best-in-loop-left.new.self.orders ≡ taken_from_best phase Sell trade.quantity (taken_from_best phase Buy trade.quantity before) =
     ap (λ (b : TimeList). b.orders) c.fill_best-in-loop-left.ensures ∙ ap (taken_from_best phase Sell trade.quantity) between in
     record {
-      book = rest_stays c.args.book.now c.loop-left.book c.fill_best.new.self c.fill_best-in-loop-left.new.self _ _ c.loop-left.invariant.book c.fill_best.ensures c.fill_best-in-loop-left.ensures;
+      book = rest_stays c.args.book.now c.fill_best.new.self c.fill_best-in-loop-left.new.self _ (rest_stays c.args.book.now c.loop-left.book c.fill_best.new.self _ c.loop-left.invariant.book c.fill_best.ensures) c.fill_best-in-loop-left.ensures;
       progress =
           the_same u c.args.sweep (c.loop-left.left - trade.quantity) (taken_from_best phase Sell trade.quantity (taken_from_best phase Buy trade.quantity before)) old
           (c.loop-left.trades.trades ++ trade ∷ []) room (c.loop-left.trades.room - 1) (c.loop-left.left - c.from-left.result) c.fill_best-in-loop-left.new.self.orders c.push.new.self.trades c.push.new.self.room

@@ -1,17 +1,19 @@
 -- Units that are taken from one order of what is left of a time list.
-use Rattle.std.proofs.Common.{◌≡◌, ℕ, ◌+◌, ◌-◌, ◌<◌, ◌≤◌, Bool, true, false, ◌==◌, if◌then◌else◌, List, [], ◌∷◌, map, filter, Contains, refl, sym, ap, subst, ◌∙◌, arith}
+use Rattle.std.proofs.Common.{◌≡◌, ℕ, ◌+◌, ◌-◌, ◌<◌, ◌≤◌, Bool, true, false, ◌==◌, if◌then◌else◌, IfSome, List, [], ◌∷◌, map, filter, Contains, Some, refl, sym, ap, subst, ◌∙◌, arith}
 use Rattle.std.specs.Prelude.{nat_lt}
 use Rattle.std.proofs.lemmas.Bool.{lt-ltb}
 use Rattle.std.proofs.lemmas.Bool.Decides.{nat_tests}
-use Rattle.xm_book.specs.Queues.{taken_from}
+use Rattle.xm_book.specs.Queues.{best_order, taken_from}
 use Rattle.xm_book.proofs.Naming.{named_itself, one_of_name, order_in, own_positioned}
-use Rattle.xm_auction.proofs.Remaining.{has_rest, lessened}
-use Rattle.xm_book.specs.TimeList.{have_own_names}
+use Rattle.xm_book.proofs.Remaining.{has_rest, lessened}
+use Rattle.xm_book.specs.TimeList.{TimeList, have_own_names}
 use Rattle.xm_book.proofs.Members.{Contains-here, Contains-there}
 use Rattle.xm_rules.specs.Active.{Positioned, positioned_from}
 use Rattle.xm_rules.specs.Orders.{is_named, removed, with_rest}
 use Rattle.xm_rules.specs.Priority.{without_units}
 use Rattle.xm_rules.specs.declared.orders.Order.{Order}
+use Rattle.xm_rules.specs.declared.orders.Side.{Side}
+use Rattle.xm_rules.specs.declared.phases.Phase.{Phase}
 use Rattle.xm_rules.proofs.Queues.{units}
 
 module _ (taken more : Positioned → ℕ) (member reference : ℕ) where
@@ -103,3 +105,18 @@ module _ (orders : List Order) (taken more : Positioned → ℕ) (n : ℕ) (x : 
 
   pub taken_is : taken_from (lessened taken x) n (without_units taken orders) ≡ without_units more orders
   taken_is = taken_if (n == (units x - taken x)) refl
+
+-- the best order of a side has as many units
+abbrev pub HasUnits : Phase → Side → ℕ → List Order → Type 0
+HasUnits phase side n os = IfSome (best_order phase side os) (λ (o : Order). (1 ≤ n) × (n ≤ o.rest))
+
+pub has_units : (phase : Phase) (side : Side) (n : ℕ) (os : List Order) (o : Order) → best_order phase side os ≡ Some o → 0 < n → n ≤ o.rest → HasUnits phase side n os
+has_units phase side n os o e h l = rw e (h, l)
+
+-- the rest of a book stays as it was
+pub rest_stays : (start before after : TimeList) (xs : List Order) → before ≡ record start { orders = before.orders } → after ≡ record before { orders = xs }
+    → after ≡ record start { orders = after.orders }
+rest_stays start before after xs e f =
+    let places = ap (λ (b : TimeList). b.reserved) f ∙ ap (λ (b : TimeList). b.reserved) e in
+    let adds = ap (λ (b : TimeList). b.adds) f ∙ ap (λ (b : TimeList). b.adds) e in
+    (λ i. record { orders = after.orders; reserved = places i; adds = adds i })

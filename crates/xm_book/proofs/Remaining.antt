@@ -1,11 +1,14 @@
 -- What is left of a time list after units were taken from its orders, and which of it is the best.
-use Rattle.std.proofs.Common.{◌≡◌, ℕ, ◌+◌, ◌-◌, ◌<◌, ◌≤◌, Bool, true, false, not, ◌&&◌, ◌||◌, if◌then◌else◌, List, [], ◌∷◌, map, filter, Contains, Some, refl, sym, ap, subst, ◌∙◌, ◌⊎◌, inl, inr, arith}
+use Rattle.std.proofs.Common.{◌≡◌, ℕ, ◌+◌, ◌-◌, ◌<◌, ◌≤◌, Bool, true, false, not, ◌&&◌, ◌||◌, if◌then◌else◌, List, [], ◌∷◌, map, filter, Contains, Some, None, refl, sym, ap, subst, ◌∙◌, ◌⊎◌, inl, inr, arith}
+use Rattle.std.specs.List.{list_all}
 use Rattle.std.specs.Prelude.{nat_lt}
-use Rattle.std.proofs.lemmas.Bool.{false_from_ne_true, ltb-true, lt-ltb}
-use Rattle.xm_auction.proofs.Firsts.{first_is, later_in}
+use Rattle.std.proofs.lemmas.Bool.{and_parts, false_from_ne_true, ltb-true, lt-ltb}
+use Rattle.std.proofs.lemmas.Bool.Decides.{nat_tests}
+use Rattle.xm_book.proofs.Firsts.{first_is, later_in}
 use Rattle.xm_book.specs.Queues.{best_order, first, order_at}
-use Rattle.xm_book.proofs.Members.{Contains-cases, Contains-filter, Contains-here, Contains-map, Contains-none, Contains-there, IsMade-map, Passes-filter}
+use Rattle.xm_book.proofs.Members.{Contains-cases, Contains-filter, Contains-here, Contains-map, Contains-none, Contains-there, IsMade-map, Passes-filter, filter_none}
 use Rattle.xm_rules.specs.Active.{Positioned, active, is_active_on, positioned_from}
+use Rattle.xm_rules.specs.Commands.{is_in_range}
 use Rattle.xm_rules.specs.Priority.{is_ahead, is_better, without_units}
 use Rattle.xm_rules.specs.declared.orders.Order.{Order}
 use Rattle.xm_rules.specs.declared.orders.Side.{Side}
@@ -181,3 +184,56 @@ module _ (taken : Positioned → ℕ) where
           let w = made.from in
           subst (λ (j : Positioned). is_ahead side j z.now ≡ false) made.made
           (false_from_ne_true (is_ahead side w.now z.now) (not_ahead w z made.contains zt was (ap (is_active_on phase side) made.made ∙ passes.passes)))
+
+  -- no active order of a side is left where all have lost their units
+  pub no_best_left : (phase : Phase) (side : Side) (orders : List Order) → ((i : Positioned) → Contains (active phase side orders) i → units i ≤ taken i)
+      → best_order phase side (without_units taken orders) ≡ None
+  no_best_left phase side orders all =
+      let ps = positioned_from 0 orders in
+      ap (λ (l : List Positioned). order_at (first side (filter (is_active_on phase side) l))) (left_are 0 ps)
+      ∙ ap (λ (l : List Positioned). order_at (first side l)) (filter_none (is_active_on phase side) (map now_of (left_from 0 ps)) none)
+    where
+      gone : (w : Left) → Contains (left_from 0 (positioned_from 0 orders)) w → is_active_on phase side w.now ≡ true → ⊥
+      gone w wt on =
+          let known = is_left 0 (positioned_from 0 orders) w wt in
+          let on_was : is_active_on phase side w.was ≡ true = sym (active_before phase side 0 (positioned_from 0 orders) w known) ∙ on in
+          let lost = all w.was (Contains-filter (is_active_on phase side) (positioned_from 0 orders) w.was on_was known.stood) in
+          let stayed = ltb-true 0 (units w.was - taken w.was) known.rest in
+          omega arith
+
+      none : (i : Positioned) → Contains (map now_of (left_from 0 (positioned_from 0 orders))) i → is_active_on phase side i ≡ false
+      none i at =
+          let made = IsMade-map now_of (left_from 0 (positioned_from 0 orders)) i at in
+          subst (λ (j : Positioned). is_active_on phase side j ≡ false) made.made
+          (false_from_ne_true (is_active_on phase side made.from.now) (gone made.from made.contains))
+
+some_rest : (n : ℕ) → is_in_range n ≡ true → nat_lt 0 n ≡ true
+some_rest n h = grind (arith, nat_tests)
+
+all_some : (os : List Order) → list_all (λ (o : Order). is_in_range o.rest) os ≡ true → filter has_rest os ≡ os
+all_some [] h = refl
+all_some (o ∷ os) h =
+    let parts = and_parts (is_in_range o.rest) (list_all (λ (p : Order). is_in_range p.rest) os) h in
+    rw (some_rest o.rest parts.0) (ap (λ (l : List Order). o ∷ l) (all_some os parts.1))
+
+none_lessened : (taken : Positioned → ℕ) (k : ℕ) (os : List Order) → ((i : Positioned) → taken i ≡ 0) → map (lessened taken) (positioned_from k os) ≡ os
+none_lessened taken k [] none = refl
+none_lessened taken k (o ∷ os) none =
+    let nothing = none (record { position = k; order = o }) in
+    let same : o.rest - taken (record { position = k; order = o }) ≡ o.rest = omega arith in
+    (λ i. (record o { rest = same i }) ∷ none_lessened taken (k + 1) os none i)
+
+-- where nothing is taken, all is left
+pub all_kept : (taken : Positioned → ℕ) (os : List Order) → ((i : Positioned) → taken i ≡ 0) → list_all (λ (o : Order). is_in_range o.rest) os ≡ true
+    → without_units taken os ≡ os
+all_kept taken os none h = ap (filter has_rest) (none_lessened taken 0 os none) ∙ all_some os h
+
+-- the same is left where the same is taken
+less_same : (f g : Positioned → ℕ) (is : List Positioned) → ((i : Positioned) → Contains is i → f i ≡ g i) → map (lessened f) is ≡ map (lessened g) is
+less_same f g [] h = refl
+less_same f g (i ∷ is) h =
+    let same = h i (Contains-here i is) in
+    (λ k. (let o = i.order in record o { rest = o.rest - same k }) ∷ less_same f g is (λ j at. h j (Contains-there i is j at)) k)
+
+pub same_left : (f g : Positioned → ℕ) (orders : List Order) → ((i : Positioned) → Contains (positioned_from 0 orders) i → f i ≡ g i) → without_units f orders ≡ without_units g orders
+same_left f g orders h = ap (filter has_rest) (less_same f g (positioned_from 0 orders) h)
