@@ -1,0 +1,194 @@
+-- Where there is no further trade, a sweep has come to its end: it has filled what the rules fill, and it is interrupted where
+-- the next order is met.
+use Rattle.std.proofs.Common.{◌≡◌, ℕ, ◌+◌, ◌-◌, ◌<◌, ◌≤◌, Bool, true, false, not, ◌&&◌, if◌then◌else◌, List, ◌++◌, length, sum_by, Contains, Option, Some, None, refl, sym, ap, ◌∙◌, ◌⊎◌, inl, inr, arith}
+use Rattle.std.specs.List.{list_all}
+use Rattle.std.specs.Prelude.{nat_lt}
+use Rattle.std.proofs.lemmas.Bool.{and_from, both_ways, lt-ltb, ltb-true}
+use Rattle.std.proofs.lemmas.List.Elements.{All-contains_itself}
+use Rattle.xm_book.proofs.Cutting.{given_same}
+use Rattle.xm_book.proofs.Joining.{some_none}
+use Rattle.xm_book.proofs.Members.{Contains-filter, Passes-filter, list_any-none}
+use Rattle.xm_book.proofs.Remaining.{same_left}
+use Rattle.xm_match.specs.Meeting.{interrupts, is_met_if, next_trade, terms_of}
+use Rattle.xm_match.specs.declared.terms.Terms.{Terms}
+use Rattle.xm_match.proofs.Cuts.{AllDone, IsNext, IsSound, fill_none, fill_of, false_if, next_or_all, not_behind, not_inside, placed, some_units, upto}
+use Rattle.xm_match.proofs.Lists.{all_of_each, all_pass, any_of_one}
+use Rattle.xm_match.proofs.Progress.{Progress, best_now, count, met_same, next_is, no_best, some_or_none}
+use Rattle.xm_match.proofs.Trading.{fill_off, given_of, trade_of, trades_are}
+use Rattle.xm_rules.specs.Active.{Positioned, is_active_on, positioned_from}
+use Rattle.xm_rules.specs.Priority.{in_order, is_ahead}
+use Rattle.xm_rules.specs.Sweep.{Sweep, ahead_of, fill, filled, interrupts_at, is_executable, is_interrupted, is_met, is_met_inside, orders_after_sweep, other_side, queue, rest_after, sweep_trades, units_before}
+use Rattle.xm_rules.specs.declared.orders.Order.{Order}
+use Rattle.xm_rules.specs.declared.orders.Trade.{Trade}
+use Rattle.xm_rules.specs.declared.phases.Phase.TheVariants.{Continuous}
+use Rattle.xm_rules.proofs.Queues.{units}
+use Rattle.xm_rules.proofs.Sums.{sum-same}
+
+pub record Ended (w : Sweep) (number left : ℕ) (now : List Order) (old made : List Trade) (from room : ℕ) : Type 0 where
+  pub orders : now ≡ orders_after_sweep w
+  pub trades : made ≡ old ++ sweep_trades number w
+  pub rooms : room + length (sweep_trades number w) ≡ from
+  pub filled : w.incoming.rest - left ≡ filled w
+  pub rest : left ≡ rest_after w
+  pub interrupted : interrupts (terms_of w) left now ≡ is_interrupted w
+
+-- no order is filled another number of units
+abbrev FillsSame : Sweep → ℕ → Type 0
+FillsSame w done = (i : Positioned) → Contains (queue w) i → fill (upto done w) i ≡ fill w i
+
+some_traded : (a : Bool) (t : Trade) → (if a then Some t else None) ≡ None → a ≡ false
+some_traded true t e = absurd (some_none e)
+some_traded false t e = refl
+
+not_executable : (a e b : Bool) → e ≡ true → ((a && not e) && b) ≡ false
+not_executable true true b h = refl
+not_executable false true b h = refl
+not_executable a false b h = absurd (cc)
+
+not_met : (a e b : Bool) → a ≡ false → ((a && not e) && b) ≡ false
+not_met true e b h = absurd (cc)
+not_met false e b h = refl
+
+not_all : (a e l b : Bool) → l ≡ false → ((a && not e) && (l && b)) ≡ false
+not_all true true l b h = refl
+not_all true false true b h = absurd (cc)
+not_all true false false b h = refl
+not_all false e l b h = refl
+
+no_units : (a e l b : Bool) → (b ≡ true → e ≡ true) → ((a && not e) && (l && b)) ≡ false
+no_units true true l b h = refl
+no_units true false true true h = absurd (let f = h refl in cc)
+no_units true false true false h = refl
+no_units true false false b h = refl
+no_units false e l b h = refl
+
+and_false : (a : Bool) → (a && false) ≡ false
+and_false true = refl
+and_false false = refl
+
+module _ (w : Sweep) (number left : ℕ) (now : List Order) (old made : List Trade) (from room : ℕ) (s : IsSound w) (p : Progress w number left now old made from room) where
+  -- so it has ended
+  ended_from : FillsSame w p.done → interrupts (terms_of w) left now ≡ is_interrupted w → Ended w number left now old made from room
+  ended_from same interrupted =
+      let trades : sweep_trades number (upto p.done w) ≡ sweep_trades number w =
+      trades_are number w p.done
+      ∙ ap in_order (given_same (λ (i : Positioned). given_of number w i (fill w i)) (λ (i : Positioned). given_of number w i (fill (upto p.done w) i)) (queue w) (λ i at. ap (given_of number w i) (same i at)))
+      ∙ sym (trades_are number w w.incoming.rest) in
+      let sums : sum_by (fill (upto p.done w)) (queue w) ≡ sum_by (fill w) (queue w) =
+      sum-same (fill (upto p.done w)) (fill w) (queue w) (λ k e l. same _ (All-contains_itself (queue w) k e l)) in
+      let whole = p.is_done.whole in
+      let all = p.whole in
+      record {
+        orders = p.orders ∙ same_left (fill (upto p.done w)) (fill w) w.orders (λ i at. of_list i at (is_active_on Continuous (other_side w) i) refl);
+        trades = p.trades ∙ ap (λ (l : List Trade). old ++ l) trades;
+        rooms = (let long = ap length trades in let r = p.rooms in omega arith);
+        filled = omega arith;
+        rest = omega arith;
+        interrupted = interrupted;
+      }
+    where
+      of_list : (i : Positioned) → Contains (positioned_from 0 w.orders) i → (b : Bool) → is_active_on Continuous (other_side w) i ≡ b → fill (upto p.done w) i ≡ fill w i
+      of_list i at true e = same i (Contains-filter (is_active_on Continuous (other_side w)) (positioned_from 0 w.orders) i e at)
+      of_list i at false e = fill_off w p.done i e ∙ sym (fill_off w w.incoming.rest i e)
+
+  -- ---- nothing is left of the incoming order
+  all_executed : left ≡ 0 → p.done ≡ w.incoming.rest
+  all_executed e = let h = p.whole in omega arith
+
+  nothing_left : left ≡ 0 → Ended w number left now old made from room
+  nothing_left e =
+      ended_from (λ i at. ap (λ (n : ℕ). fill (upto n w) i) (all_executed e))
+      (ap (λ (n : ℕ). interrupts (terms_of w) n now) e
+      ∙ sym (list_any-none (interrupts_at w) (queue w) (λ i at.
+      no_units (is_met w i) (is_executable w i) (list_all (is_executable w) (ahead_of w i)) (nat_lt (units_before w i) w.incoming.rest)
+      (λ h. let l = ltb-true (units_before w i) w.incoming.rest h in let f = all_executed e in p.is_done.executed i at (omega arith)))))
+
+  -- ---- units are left
+  module _ (some : 0 < left) where
+    executed_past : (i : Positioned) → Contains (queue w) i → units_before w i + units i ≤ p.done → is_executable w i ≡ true
+    executed_past i at l = let u = some_units w s i at in p.is_done.executed i at (omega arith)
+
+    same_past : (i : Positioned) → Contains (queue w) i → units_before w i + units i ≤ p.done → fill (upto p.done w) i ≡ fill w i
+    same_past i at l =
+        let exec = executed_past i at l in
+        let a = fill_of w p.done i exec in
+        let b = fill_of w w.incoming.rest i exec in
+        let h = p.whole in
+        omega arith
+
+    same_none : (i : Positioned) → is_executable w i ≡ false → fill (upto p.done w) i ≡ fill w i
+    same_none i e = fill_none w p.done i e ∙ sym (fill_none w w.incoming.rest i e)
+
+    -- no order is left
+    all_past : AllDone w p.done → Ended w number left now old made from room
+    all_past all =
+        ended_from (λ i at. same_past i at (all i at))
+        (ap (λ o. nat_lt 0 left && is_met_if (terms_of w) o) (no_best w number left now old made from room s p all)
+        ∙ and_false (nat_lt 0 left)
+        ∙ sym (list_any-none (interrupts_at w) (queue w) (λ i at.
+        not_executable (is_met w i) (is_executable w i) (list_all (is_executable w) (ahead_of w i) && nat_lt (units_before w i) w.incoming.rest) (executed_past i at (all i at)))))
+
+    -- the next order isn't met inside the ranges
+    module _ (m : Positioned) (next : IsNext w p.done m) (outside : is_met_inside w m ≡ false) where
+      abbrev Place : Positioned → Type 0
+      Place i = (units_before w i + units i ≤ p.done) ⊎ ((i ≡ m) ⊎ (is_ahead (other_side w) m i ≡ true))
+
+      place : (i : Positioned) → Contains (queue w) i → Place i
+      place = placed w p.done s p.is_done (p.cut some) m next
+
+      not_next : is_executable w m ≡ false
+      not_next = not_inside w p.done s p.is_done (p.cut some) m next outside
+
+      same_by : (i : Positioned) → Contains (queue w) i → Place i → fill (upto p.done w) i ≡ fill w i
+      same_by i at (inl l) = same_past i at l
+      same_by i at (inr (inl e)) = same_none i (ap (is_executable w) e ∙ not_next)
+      same_by i at (inr (inr h)) = same_none i (not_behind w p.done s p.is_done (p.cut some) m next outside i h)
+
+      next_met : interrupts (terms_of w) left now ≡ is_met w m
+      next_met =
+          (λ k. lt-ltb 0 left some k && is_met_if (terms_of w) (best_now w number left now old made from room s p some m next k))
+          ∙ met_same w m next.contained
+
+      no_interruption : is_met w m ≡ false → (i : Positioned) → Contains (queue w) i → Place i → interrupts_at w i ≡ false
+      no_interruption e i at (inl l) =
+          not_executable (is_met w i) (is_executable w i) (list_all (is_executable w) (ahead_of w i) && nat_lt (units_before w i) w.incoming.rest) (executed_past i at l)
+      no_interruption e i at (inr (inl f)) =
+          not_met (is_met w i) (is_executable w i) (list_all (is_executable w) (ahead_of w i) && nat_lt (units_before w i) w.incoming.rest) (ap (is_met w) f ∙ e)
+      no_interruption e i at (inr (inr h)) =
+          not_all (is_met w i) (is_executable w i) (list_all (is_executable w) (ahead_of w i)) (nat_lt (units_before w i) w.incoming.rest)
+          (false_if (list_all (is_executable w) (ahead_of w i))
+          (λ all. both_ways (is_executable w m) not_next
+          (all_pass (is_executable w) (ahead_of w i) m all (Contains-filter (λ (j : Positioned). is_ahead (other_side w) j i) (queue w) m h next.contained))))
+
+      interruption : is_met w m ≡ true → interrupts_at w m ≡ true
+      interruption e =
+          and_from (is_met w m && not (is_executable w m)) (list_all (is_executable w) (ahead_of w m) && nat_lt (units_before w m) w.incoming.rest)
+          (and_from (is_met w m) (not (is_executable w m)) e (ap not not_next))
+          (and_from (list_all (is_executable w) (ahead_of w m)) (nat_lt (units_before w m) w.incoming.rest)
+          (all_of_each (is_executable w) (ahead_of w m) (λ i at.
+          let passes = Passes-filter (λ (j : Positioned). is_ahead (other_side w) j m) (queue w) i at in
+          executed_past i passes.contains (next.ahead i passes.contains passes.passes)))
+          (lt-ltb (units_before w m) w.incoming.rest (let at = next.at in let h = p.whole in omega arith)))
+
+      interrupted_by : (b : Bool) → is_met w m ≡ b → is_met w m ≡ is_interrupted w
+      interrupted_by true e = e ∙ sym (any_of_one (interrupts_at w) (queue w) m (interruption e) next.contained)
+      interrupted_by false e = e ∙ sym (list_any-none (interrupts_at w) (queue w) (λ i at. no_interruption e i at (place i at)))
+
+      pub outside_ranges : Ended w number left now old made from room
+      outside_ranges = ended_from (λ i at. same_by i at (place i at)) (next_met ∙ interrupted_by (is_met w m) refl)
+
+    ended_by : next_trade number (terms_of w) left now ≡ None → AllDone w p.done ⊎ ((m : Positioned) × IsNext w p.done m) → Ended w number left now old made from room
+    ended_by e (inl all) = all_past all
+    ended_by e (inr next) =
+        let m = next.0 in
+        let no_trade : (nat_lt 0 left && is_met_inside w m) ≡ false =
+        some_traded (nat_lt 0 left && is_met_inside w m) (trade_of number w (count w number left now old made from room s p some m next.1) m)
+        (sym (next_is w number left now old made from room s p some m next.1) ∙ e) in
+        outside_ranges m next.1 (ap (λ (b : Bool). b && is_met_inside w m) (sym (lt-ltb 0 left some)) ∙ no_trade)
+
+  ended_if : next_trade number (terms_of w) left now ≡ None → (0 < left) ⊎ (left ≡ 0) → Ended w number left now old made from room
+  ended_if e (inl some) = ended_by some e (next_or_all w p.done s p.is_done (p.cut some))
+  ended_if e (inr none) = nothing_left none
+
+  pub ended : (t : Terms) → t ≡ terms_of w → (o : Option Trade) → o ≡ next_trade number t left now → o ≡ None → Ended w number left now old made from room
+  ended t same o e none = ended_if (sym (e ∙ ap (λ (u : Terms). next_trade number u left now) same) ∙ none) (some_or_none left)

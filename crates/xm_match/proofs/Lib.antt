@@ -1,0 +1,7 @@
+mod Betters
+mod Covering
+mod Cuts
+mod Ending
+mod Lists
+mod Progress
+mod Trading

@@ -1,0 +1,9 @@
+//! Continuous trading: an incoming order is executed against the other side of the book.
+#![tactic(auto)]
+
+mod filling;
+mod sweeping;
+mod terms;
+
+pub use crate::filling::fillable;
+pub use crate::sweeping::{Swept, sweep};

@@ -1,0 +1,108 @@
+//! The sweep of continuous trading: an incoming order takes the orders of the other side, the best first.
+ghost use Rattle.std.specs.Prelude.{◌≡◌, ◌+◌, ◌++◌, ◌≤◌, length};
+ghost use Rattle.xm_match.specs.Meeting.{interrupts, next_trade, sweep_of, trade_with};
+ghost use Rattle.xm_rules.specs.Sweep.{filled, is_interrupted, orders_after_sweep, rest_after, sweep_trades};
+
+use crate::terms::Terms;
+use std::alloc::Allocator;
+use xm_book::{Book, Trades};
+use xm_rules::{Order, Phase, Trade, TradeKind, Widths};
+use xm_ticks::Price;
+
+/// What a sweep came to.
+#[derive(Clone, Copy, PartialEq, Eq, Debug)]
+pub struct Swept {
+    /// The units that were executed.
+    pub filled: u32,
+    /// The units of the incoming order that are left.
+    pub rest: u32,
+    /// Whether trading is interrupted: units are left, and the next order is met outside a range.
+    pub interrupted: bool,
+}
+
+/// Executes an incoming order against the other side of a book, in order of priority, as long as the next order is met at a
+/// price inside both ranges. The ranges are those around the references, the price of the last trade and that of the last
+/// auction trade, before the first fill; their widths are in thousandths, at most 999. There is room for as many trades as
+/// there are orders. The trades bear the number of the sweep. It takes no memory.
+pub fn sweep<A: Allocator + Copy, B: Allocator>(
+    book: &mut Book<A>,
+    incoming: &Order,
+    number: u64,
+    ref1: Price,
+    ref2: Price,
+    widths: &Widths,
+    trades: &mut Trades<B>,
+) -> Swept
+    requires dynamic { widths.now.dynamic ≤ 999 }
+    requires statics { widths.now.statics ≤ 999 }
+    requires room { length book.old.orders ≤ trades.old.room }
+    ensures orders { book.new ≡ record book.old { orders = orders_after_sweep (sweep_of book.old.orders incoming.now ref1 ref2 widths.now) } }
+    ensures trades { trades.new.trades ≡ trades.old.trades ++ sweep_trades number (sweep_of book.old.orders incoming.now ref1 ref2 widths.now) }
+    ensures room { trades.new.room + length (sweep_trades number (sweep_of book.old.orders incoming.now ref1 ref2 widths.now)) ≡ trades.old.room }
+    ensures filled { result.filled ≡ filled (sweep_of book.old.orders incoming.now ref1 ref2 widths.now) }
+    ensures rest { result.rest ≡ rest_after (sweep_of book.old.orders incoming.now ref1 ref2 widths.now) }
+    ensures interrupted { result.interrupted ≡ is_interrupted (sweep_of book.old.orders incoming.now ref1 ref2 widths.now) }
+{
+    let _ = book.len(); // What every book keeps is known of one whose length is asked.
+    let terms = Terms::new(book, incoming, ref1, ref2, widths);
+    let mut rest = incoming.rest;
+    while let Some(trade) = next_trade(book, &terms, number, rest) {
+        book.fill_best(terms.other_side(), Phase::Continuous, trade.quantity);
+        rest -= trade.quantity;
+        trades.push(trade);
+    }
+    Swept {
+        filled: incoming.rest - rest,
+        rest,
+        interrupted: interrupts(book, &terms, rest),
+    }
+}
+
+/// The trade with the best order of the other side, of no more than so many units, where it is met inside both ranges and
+/// there are units.
+fn next_trade<A: Allocator + Copy>(
+    book: &Book<A>,
+    terms: &Terms,
+    number: u64,
+    units: u32,
+) -> Option<Trade>
+    requires dynamic { terms.now.widths.dynamic ≤ 999 }
+    requires statics { terms.now.widths.statics ≤ 999 }
+    ensures { result ≡ next_trade number terms.now units book.now.orders }
+{
+    match book.best(terms.other_side(), Phase::Continuous) {
+        None => None,
+        Some(best) => {
+            if 0 < units && terms.meets_inside(&best.kind) {
+                Some(trade_with(best, terms, number, units))
+            } else {
+                None
+            }
+        }
+    }
+}
+
+/// The trade with an order that is met, in what it has and no more than so many units.
+fn trade_with(order: &Order, terms: &Terms, number: u64, units: u32) -> Trade
+    ensures { result ≡ trade_with number terms.now units order.now }
+{
+    Trade::trade_between(
+        number,
+        TradeKind::Continuous,
+        terms.price_met(order.kind),
+        order.rest.min(units),
+        terms.incoming.side,
+        &terms.incoming,
+        order,
+    )
+}
+
+/// Whether units are left, and the best order of the other side is met, inside the ranges or not.
+fn interrupts<A: Allocator + Copy>(book: &Book<A>, terms: &Terms, units: u32) -> bool
+    ensures { result ≡ interrupts terms.now units book.now.orders }
+{
+    match book.best(terms.other_side(), Phase::Continuous) {
+        None => false,
+        Some(best) => 0 < units && terms.is_met(best.kind),
+    }
+}
