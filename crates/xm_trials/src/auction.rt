@@ -79,7 +79,8 @@ const EXAMPLES: [Example; 9] = [
     },
 ];
 
-fn order(side: Side, reference: u32, limit: Option<u32>, rest: u32) -> Order {
+/// A free order of the first member, which is valid for the day.
+pub fn order(side: Side, reference: u32, limit: Option<u32>, rest: u32) -> Order {
     let kind = match limit.and_then(Price::new) {
         None => OrderKind::Market,
         Some(price) => OrderKind::Limit(price),
@@ -96,7 +97,7 @@ fn order(side: Side, reference: u32, limit: Option<u32>, rest: u32) -> Order {
 }
 
 /// Puts in the orders of a side, with references from this one on.
-fn enter<A: Allocator + Copy>(
+pub fn enter<A: Allocator + Copy>(
     rt: &impl Abort,
     book: &mut Entries<A>,
     side: Side,

@@ -13,6 +13,8 @@ mod desk;
 #[cfg(test)]
 mod ladders;
 #[cfg(test)]
+mod matching;
+#[cfg(test)]
 mod names;
 #[cfg(test)]
 mod prices;

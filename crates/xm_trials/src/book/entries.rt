@@ -8,9 +8,18 @@ use std::alloc::Allocator;
 use std::marker::Model;
 use xm_auction::{allocate, auction_price};
 use xm_book::{Book, Place, Trades};
+use xm_match::{Swept, fillable, sweep};
 use xm_names::Seed;
-use xm_rules::{Auction, CallStage, Order, OutOfMemory, Phase, Side};
+use xm_rules::{Auction, CallStage, Order, OutOfMemory, Phase, Side, Widths};
 use xm_ticks::Price;
+
+/// The widths of the ranges at which a test's sweeps are made: around 1,000 ticks a dynamic range of 20 to each side, inside a
+/// static one of 50.
+const WIDTHS: Widths = Widths {
+    dynamic: 20,
+    statics: 50,
+    wide: 60,
+};
 
 /// A book with no reserved place, which takes up to 1,000,000 orders in all. What its calls answer
 /// is for a test to compare, so they promise nothing.
@@ -104,6 +113,29 @@ impl<A: Allocator + Copy> Entries<A> {
                 Ok(Some((price, volume)))
             }
         }
+    }
+
+    /// Executes an incoming order, where both references are the same. The trades bear the number 1.
+    pub fn sweep<B: Allocator>(
+        &mut self,
+        incoming: &Order,
+        reference: Price,
+        trades: &mut Trades<B>,
+    ) -> Result<Swept, OutOfMemory> {
+        trades.reserve(self.book.len())?;
+        Ok(sweep(
+            &mut self.book,
+            incoming,
+            1,
+            reference,
+            reference,
+            &WIDTHS,
+            trades,
+        ))
+    }
+
+    pub fn fillable(&self, incoming: &Order, reference: Price) -> bool {
+        fillable(&self.book, incoming, reference, reference, &WIDTHS)
     }
 
     pub fn remove_expired(&mut self, today: u32) {
