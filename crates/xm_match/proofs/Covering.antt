@@ -3,6 +3,7 @@
 use Rattle.std.proofs.Common.{◌≡◌, ℕ, ◌+◌, ◌-◌, ◌<◌, ◌≤◌, min, Bool, true, false, not, if◌then◌else◌, List, filter, find, sum_by, Contains, Option, Some, None, refl, sym, ap, subst, ◌∙◌, ◌⊎◌, inl, inr, arith}
 use Rattle.std.specs.List.{list_any}
 use Rattle.std.specs.Prelude.{nat_le}
+use Rattle.std.proofs.lemmas.Bool.{false_from_ne_true}
 use Rattle.std.proofs.lemmas.Bool.Decides.{nat_tests}
 use Rattle.std.proofs.lemmas.List.Elements.{All-contains_itself}
 use Rattle.xm_book.specs.Queues.{best_order, first, first_behind, next_order, order_at}
@@ -12,7 +13,7 @@ use Rattle.xm_book.proofs.Members.{Contains-filter, Passes, Passes-filter, filte
 use Rattle.xm_book.proofs.Naming.{named_itself, one_of_name, order_in, own_positioned}
 use Rattle.xm_match.specs.Meeting.{meets_inside, terms_of}
 use Rattle.xm_match.specs.declared.terms.Terms.{Terms}
-use Rattle.xm_match.proofs.Cuts.{AllDone, IsCut, IsDone, IsNext, IsSound, executable_next, false_if, filled_whole, in_list, next_or_all, not_behind, not_inside, placed, some_units, upto}
+use Rattle.xm_match.proofs.Cuts.{AllDone, IsCut, IsDone, IsNext, IsSound, executable_next, filled_whole, in_list, next_or_all, not_behind, not_inside, placed, some_units, upto}
 use Rattle.xm_match.proofs.Progress.{inside_same, none_done}
 use Rattle.xm_match.proofs.Trading.{cut_after, done_after}
 use Rattle.xm_rules.specs.Active.{Positioned, positioned_from}
@@ -107,7 +108,7 @@ module _ (w : Sweep) (s : IsSound w) where
         m,
         is,
         ap order_at (first_is (other_side w) (queue w) rises m is.contained
-            (λ i at. false_if (is_ahead (other_side w) i m) (λ h. let u = some_units w s i at in let l = is.ahead i at h in omega arith))),
+            (λ i at. false_from_ne_true (is_ahead (other_side w) i m) (λ h. let u = some_units w s i at in let l = is.ahead i at h in omega arith))),
       )
 
   pub at_start : Reached w w.incoming.rest (best_order Continuous (other_side w) w.orders)
@@ -140,7 +141,7 @@ module _ (w : Sweep) (s : IsSound w) where
         inl (
           all,
           next_is ∙ ap (λ (l : List Positioned). order_at (first (other_side w) l)) (filter_none (λ (j : Positioned). is_ahead (other_side w) m j) (queue w)
-              (λ i at. false_if (is_ahead (other_side w) m i)
+              (λ i at. false_from_ne_true (is_ahead (other_side w) m i)
               (λ h. let g = gap (other_side w) (queue w) m i next.contained h in let u = some_units w s i at in let l = all i at in let at = next.at in omega arith))),
         )
     front_after (inr after) =
@@ -162,7 +163,7 @@ module _ (w : Sweep) (s : IsSound w) where
 
         none_between : (n : Positioned) → IsNext w (done + units m) n → (i : Positioned) → Passes (λ (j : Positioned). is_ahead (other_side w) m j) (queue w) i → is_ahead (other_side w) i n ≡ false
         none_between n is i p =
-            false_if (is_ahead (other_side w) i n)
+            false_from_ne_true (is_ahead (other_side w) i n)
             (λ h. let l = is.ahead i p.contains h in
             let g = gap (other_side w) (queue w) m i next.contained p.passes in
             let u = some_units w s i p.contains in

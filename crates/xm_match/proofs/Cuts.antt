@@ -3,7 +3,7 @@
 use Rattle.std.proofs.Common.{◌≡◌, ℕ, ◌+◌, ◌-◌, ◌<◌, ◌≤◌, min, Bool, true, false, if◌then◌else◌, List, [], ◌∷◌, filter, sum_by, Contains, refl, sym, ap, subst, ◌⊎◌, inl, inr, arith}
 use Rattle.std.specs.List.{list_all}
 use Rattle.std.specs.Prelude.{nat_le}
-use Rattle.std.proofs.lemmas.Bool.{and_from, and_parts, both_ways}
+use Rattle.std.proofs.lemmas.Bool.{and_from, and_parts, both_ways, false_from_ne_true}
 use Rattle.std.proofs.lemmas.Bool.Decides.{nat_tests}
 use Rattle.std.proofs.lemmas.List.Elements.{All-contains_itself}
 use Rattle.xm_book.specs.TimeList.{have_own_names}
@@ -28,10 +28,6 @@ pub record IsLeast (side : Side) (xs : List Positioned) (m : Positioned) : Type 
   pub contained : Contains xs m
   pub none : (i : Positioned) → Contains xs i → is_ahead side i m ≡ false
 
-pub false_if : (b : Bool) → (b ≡ true → ⊥) → b ≡ false
-false_if true h = absurd (h refl)
-false_if false h = refl
-
 not_ahead : (side : Side) (x m : Positioned) (xs : List Positioned) (i : Positioned) → (Contains xs i → is_ahead side i m ≡ false) → (x ≡ i) ⊎ Contains xs i → is_ahead side x m ≡ false
     → is_ahead side i m ≡ false
 not_ahead side x m xs i rest (inl e) h = subst (λ (z : Positioned). is_ahead side z m ≡ false) e h
@@ -43,7 +39,7 @@ least_by side x m xs least true e = (
   record {
     contained = Contains-here x xs;
     none = λ i at.
-        not_ahead side x x xs i (λ to. false_if (is_ahead side i x) (λ h. both_ways (is_ahead side i m) (least.none i to) (ahead_on side i x m h e))) (Contains-cases x xs i at) (not_ahead_of_itself side x);
+        not_ahead side x x xs i (λ to. false_from_ne_true (is_ahead side i x) (λ h. both_ways (is_ahead side i m) (least.none i to) (ahead_on side i x m h e))) (Contains-cases x xs i at) (not_ahead_of_itself side x);
   },
 )
 least_by side x m xs least false e = (
@@ -197,12 +193,12 @@ module _ (w : Sweep) (done : ℕ) (s : IsSound w) (d : IsDone w done) (c : IsCut
   module _ (m : Positioned) (next : IsNext w done m) (outside : is_met_inside w m ≡ false) where
     pub not_inside : is_executable w m ≡ false
     not_inside =
-        false_if (is_executable w m)
+        false_from_ne_true (is_executable w m)
         (λ e. both_ways (is_met_inside w m) outside (and_parts (is_met_inside w m) (list_all (is_met_inside w) (ahead_of w m)) e).0)
 
     pub not_behind : (i : Positioned) → is_ahead (other_side w) m i ≡ true → is_executable w i ≡ false
     not_behind i h =
-        false_if (is_executable w i)
+        false_from_ne_true (is_executable w i)
         (λ e. both_ways (is_met_inside w m) outside
         (all_pass (is_met_inside w) (ahead_of w i) m (and_parts (is_met_inside w i) (list_all (is_met_inside w) (ahead_of w i)) e).1
         (Contains-filter (λ (j : Positioned). is_ahead (other_side w) j i) (queue w) m h next.contained)))

@@ -3,7 +3,7 @@
 use Rattle.std.proofs.Common.{◌≡◌, ℕ, ◌+◌, ◌-◌, ◌<◌, ◌≤◌, Bool, true, false, not, ◌&&◌, if◌then◌else◌, List, ◌++◌, length, sum_by, Contains, Option, Some, None, refl, sym, ap, ◌∙◌, ◌⊎◌, inl, inr, arith}
 use Rattle.std.specs.List.{list_all}
 use Rattle.std.specs.Prelude.{nat_lt}
-use Rattle.std.proofs.lemmas.Bool.{and_from, both_ways, lt-ltb, ltb-true}
+use Rattle.std.proofs.lemmas.Bool.{and_from, both_ways, false_from_ne_true, lt-ltb, ltb-true}
 use Rattle.std.proofs.lemmas.List.Elements.{All-contains_itself}
 use Rattle.xm_book.proofs.Cutting.{given_same}
 use Rattle.xm_book.proofs.Joining.{some_none}
@@ -11,7 +11,7 @@ use Rattle.xm_book.proofs.Members.{Contains-filter, Passes-filter, list_any-none
 use Rattle.xm_book.proofs.Remaining.{same_left}
 use Rattle.xm_match.specs.Meeting.{interrupts, is_met_if, next_trade, terms_of}
 use Rattle.xm_match.specs.declared.terms.Terms.{Terms}
-use Rattle.xm_match.proofs.Cuts.{AllDone, IsNext, IsSound, fill_none, fill_of, false_if, next_or_all, not_behind, not_inside, placed, some_units, upto}
+use Rattle.xm_match.proofs.Cuts.{AllDone, IsNext, IsSound, fill_none, fill_of, next_or_all, not_behind, not_inside, placed, some_units, upto}
 use Rattle.xm_match.proofs.Lists.{all_of_each, all_pass, any_of_one}
 use Rattle.xm_match.proofs.Progress.{Progress, best_now, count, met_same, next_is, no_best, some_or_none}
 use Rattle.xm_match.proofs.Trading.{fill_off, given_of, trade_of, trades_are}
@@ -156,7 +156,7 @@ module _ (w : Sweep) (number left : ℕ) (now : List Order) (old made : List Tra
           not_met (is_met w i) (is_executable w i) (list_all (is_executable w) (ahead_of w i) && nat_lt (units_before w i) w.incoming.rest) (ap (is_met w) f ∙ e)
       no_interruption e i at (inr (inr h)) =
           not_all (is_met w i) (is_executable w i) (list_all (is_executable w) (ahead_of w i)) (nat_lt (units_before w i) w.incoming.rest)
-          (false_if (list_all (is_executable w) (ahead_of w i))
+          (false_from_ne_true (list_all (is_executable w) (ahead_of w i))
           (λ all. both_ways (is_executable w m) not_next
           (all_pass (is_executable w) (ahead_of w i) m all (Contains-filter (λ (j : Positioned). is_ahead (other_side w) j i) (queue w) m h next.contained))))
 

@@ -72,9 +72,6 @@ given_below number w i n done z true e below h =
     omega arith
 given_below number w i n done z false e below h = absurd (cc)
 
-same_part : (b : Bool) (m n : ℕ) → m ≡ n → ◌≡◌ {A = ℕ} (if b then m else 0) (if b then n else 0)
-same_part b m n e = ap (λ (k : ℕ). if b then k else 0) e
-
 some_part : (b : Bool) (n t m : ℕ) → 0 < (if b then min n (t - m) else 0) → m < t
 some_part true n t m l = omega arith
 some_part false n t m l = absurd (omega arith)
@@ -107,10 +104,12 @@ module _ (w : Sweep) (number done : ℕ) (s : IsSound w) (d : IsDone w done) (c 
         by_place (inl e) = absurd (other e)
         by_place (inr (inl l)) =
             let at = next.at in
-            same_part (is_executable w i) (min (units i) ((done + n) - units_before w i)) (min (units i) (done - units_before w i)) (omega arith)
+            let same : min (units i) ((done + n) - units_before w i) ≡ min (units i) (done - units_before w i) = omega arith in
+            ap (λ (k : ℕ). if is_executable w i then k else 0) same
         by_place (inr (inr l)) =
             let at = next.at in
-            same_part (is_executable w i) (min (units i) ((done + n) - units_before w i)) (min (units i) (done - units_before w i)) (omega arith)
+            let same : min (units i) ((done + n) - units_before w i) ≡ min (units i) (done - units_before w i) = omega arith in
+            ap (λ (k : ℕ). if is_executable w i then k else 0) same
 
     gives : IsLast (λ (i : Positioned). given_of number w i (fill (upto done w) i)) (λ (i : Positioned). given_of number w i (fill (upto (done + n) w) i)) (queue w) m (done, trade_of number w n m)
     gives = record {

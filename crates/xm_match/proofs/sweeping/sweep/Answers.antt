@@ -6,8 +6,9 @@ use Rattle.xm_book.proofs.Taking.{HasUnits, has_units, rest_stays}
 use Rattle.xm_match.specs.Meeting.{interrupts, sweep_of}
 use Rattle.xm_match.specs.declared.terms.Terms.{Terms}
 use Rattle.xm_match.proofs.Cuts.{IsSound}
-use Rattle.xm_match.proofs.Ending.{ended}
+use Rattle.xm_match.proofs.Ending.{Ended, ended}
 use Rattle.xm_match.proofs.Progress.{at_begin, the_same, turn}
+use Rattle.xm_match.proofs.sweeping.sweep.Given as given
 use Rattle.xm_match.proofs.sweeping.sweep.Goals as goal
 use Rattle.xm_rules.specs.Sides.{opposite}
 use Rattle.xm_rules.specs.Sweep.{other_side}
@@ -66,50 +67,32 @@ loop-trade-preserved g c =
           (ap (λ (s : TradeList). s.trades) c.push.ensures) (ap (λ (s : TradeList). s.room) c.push.ensures) t.next;
     }
 
-pub returns-clause-orders : goal.returns-clause-orders
-returns-clause-orders g c =
+-- where there is no further trade, the sweep has come to its end
+at_end : (g : given.Over) (c : goal.After-interrupts g)
+    → Ended (sweep_of c.args.book.now.orders c.args.incoming.now c.args.ref1 c.args.ref2 c.args.widths.now) c.args.number c.loop-trade.rest c.loop-trade.book.orders c.args.trades.now.trades
+    c.loop-trade.trades.trades c.args.trades.now.room c.loop-trade.trades.room
+at_end g c =
     let w = sweep_of c.args.book.now.orders c.args.incoming.now c.args.ref1 c.args.ref2 c.args.widths.now in
     let sound : IsSound w = record { own = c.len.ensures.book.names; rests = c.len.ensures.book.rests } in
     let l = c.loop-trade in
-    let e = ended w c.args.number l.rest l.book.orders c.args.trades.now.trades l.trades.trades c.args.trades.now.room l.trades.room sound l.invariant.progress c.new-terms.result c.new-terms.ensures c.next_trade.result c.next_trade.ensures c.in_default.is in
-    l.invariant.book ∙ (λ i. record (c.args.book.now) { orders = e.orders i })
+    ended w c.args.number l.rest l.book.orders c.args.trades.now.trades l.trades.trades c.args.trades.now.room l.trades.room sound l.invariant.progress c.new-terms.result c.new-terms.ensures
+    c.next_trade.result c.next_trade.ensures c.in_default.is
+
+pub returns-clause-orders : goal.returns-clause-orders
+returns-clause-orders g c = c.loop-trade.invariant.book ∙ (λ i. record (c.args.book.now) { orders = (at_end g c).orders i })
 
 pub returns-clause-trades : goal.returns-clause-trades
-returns-clause-trades g c =
-    let w = sweep_of c.args.book.now.orders c.args.incoming.now c.args.ref1 c.args.ref2 c.args.widths.now in
-    let sound : IsSound w = record { own = c.len.ensures.book.names; rests = c.len.ensures.book.rests } in
-    let l = c.loop-trade in
-    let e = ended w c.args.number l.rest l.book.orders c.args.trades.now.trades l.trades.trades c.args.trades.now.room l.trades.room sound l.invariant.progress c.new-terms.result c.new-terms.ensures c.next_trade.result c.next_trade.ensures c.in_default.is in
-    e.trades
+returns-clause-trades g c = (at_end g c).trades
 
 pub returns-clause-room : goal.returns-clause-room
-returns-clause-room g c =
-    let w = sweep_of c.args.book.now.orders c.args.incoming.now c.args.ref1 c.args.ref2 c.args.widths.now in
-    let sound : IsSound w = record { own = c.len.ensures.book.names; rests = c.len.ensures.book.rests } in
-    let l = c.loop-trade in
-    let e = ended w c.args.number l.rest l.book.orders c.args.trades.now.trades l.trades.trades c.args.trades.now.room l.trades.room sound l.invariant.progress c.new-terms.result c.new-terms.ensures c.next_trade.result c.next_trade.ensures c.in_default.is in
-    e.rooms
+returns-clause-room g c = (at_end g c).rooms
 
 pub returns-clause-filled : goal.returns-clause-filled
-returns-clause-filled g c =
-    let w = sweep_of c.args.book.now.orders c.args.incoming.now c.args.ref1 c.args.ref2 c.args.widths.now in
-    let sound : IsSound w = record { own = c.len.ensures.book.names; rests = c.len.ensures.book.rests } in
-    let l = c.loop-trade in
-    let e = ended w c.args.number l.rest l.book.orders c.args.trades.now.trades l.trades.trades c.args.trades.now.room l.trades.room sound l.invariant.progress c.new-terms.result c.new-terms.ensures c.next_trade.result c.next_trade.ensures c.in_default.is in
-    e.filled
+returns-clause-filled g c = (at_end g c).filled
 
 pub returns-clause-rest : goal.returns-clause-rest
-returns-clause-rest g c =
-    let w = sweep_of c.args.book.now.orders c.args.incoming.now c.args.ref1 c.args.ref2 c.args.widths.now in
-    let sound : IsSound w = record { own = c.len.ensures.book.names; rests = c.len.ensures.book.rests } in
-    let l = c.loop-trade in
-    let e = ended w c.args.number l.rest l.book.orders c.args.trades.now.trades l.trades.trades c.args.trades.now.room l.trades.room sound l.invariant.progress c.new-terms.result c.new-terms.ensures c.next_trade.result c.next_trade.ensures c.in_default.is in
-    e.rest
+returns-clause-rest g c = (at_end g c).rest
 
 pub returns-clause-interrupted : goal.returns-clause-interrupted
 returns-clause-interrupted g c =
-    let w = sweep_of c.args.book.now.orders c.args.incoming.now c.args.ref1 c.args.ref2 c.args.widths.now in
-    let sound : IsSound w = record { own = c.len.ensures.book.names; rests = c.len.ensures.book.rests } in
-    let l = c.loop-trade in
-    let e = ended w c.args.number l.rest l.book.orders c.args.trades.now.trades l.trades.trades c.args.trades.now.room l.trades.room sound l.invariant.progress c.new-terms.result c.new-terms.ensures c.next_trade.result c.next_trade.ensures c.in_default.is in
-    c.interrupts.ensures ∙ ap (λ (u : Terms). interrupts u l.rest l.book.orders) c.new-terms.ensures ∙ e.interrupted
+    c.interrupts.ensures ∙ ap (λ (u : Terms). interrupts u c.loop-trade.rest c.loop-trade.book.orders) c.new-terms.ensures ∙ (at_end g c).interrupted
