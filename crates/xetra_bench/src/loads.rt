@@ -6,7 +6,10 @@ use std::alloc::Global;
 use std::marker::Model;
 use xm_desk::Desk;
 use xm_names::Seed;
-use xm_rules::{Command, Condition, DeskSettings, Kind, Restriction, Side, Validity, Widths};
+use xm_rules::{
+    Command, Condition, DeskSettings, Kind, Order, Phase, Restriction, Side, Trade, Validity,
+    Widths,
+};
 use xm_ticks::{JournalLimit, Price, TickSize};
 
 /// The load did not run as it should, or could not be told.
@@ -70,9 +73,8 @@ impl Model for Loaded {
 }
 
 impl Loaded {
-    /// A desk without orders, of one member.
-    pub fn open(alloc: Global) -> Result<Loaded, LoadFault> {
-        let settings = settings().ok_or(LoadFault)?;
+    /// A desk without orders.
+    pub fn open(alloc: Global, settings: DeskSettings) -> Result<Loaded, LoadFault> {
         match Desk::open(alloc, Seed::fixed(), settings) {
             Ok(desk) => Ok(Loaded { desk }),
             Err(_) => Err(LoadFault),
@@ -104,17 +106,51 @@ impl Loaded {
         }
     }
 
+    /// Gives the desk a command that it serves and accepts.
+    pub fn accept(&mut self, command: Command) -> Result<(), LoadFault> {
+        if self.is_accepted(command)? {
+            Ok(())
+        } else {
+            Err(LoadFault)
+        }
+    }
+
     /// How many orders are live.
     pub fn orders(&self) -> Result<usize, LoadFault> {
+        Ok(self.list()?.len())
+    }
+
+    /// The live orders in time order.
+    pub fn list(&self) -> Result<Vec<Order>, LoadFault> {
         match self.desk.orders() {
-            Ok(orders) => Ok(orders.len()),
+            Ok(orders) => Ok(orders),
             Err(_) => Err(LoadFault),
         }
+    }
+
+    pub fn phase(&self) -> Phase {
+        self.desk.phase()
+    }
+
+    pub fn is_in_call(&self) -> bool {
+        matches!(self.desk.phase(), Phase::Call(_, _))
+    }
+
+    /// The price of a call in ticks, with its volume.
+    pub fn indicative(&self) -> Option<(u32, u64)> {
+        match self.desk.indicative() {
+            None => None,
+            Some((price, volume)) => Some((price.get(), volume)),
+        }
+    }
+
+    pub fn trades(&self) -> &[Trade] {
+        self.desk.trades()
     }
 }
 
 /// The settings of a day of one member.
-fn settings() -> Option<DeskSettings> {
+pub fn settings() -> Option<DeskSettings> {
     Some(DeskSettings {
         today: 20260105,
         members: 1,

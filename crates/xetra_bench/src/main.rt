@@ -1,13 +1,15 @@
-//! `xetra_bench`: loads of commands on one desk, and of calls on books of several shapes. Alone it runs small ones and
-//! prints what they did; with the word `measure` it runs large ones and prints the nanoseconds that a command or a call
-//! took for an order.
+//! `xetra_bench`: loads of commands on one desk, and on books of several shapes, and calls of many orders. Alone it runs
+//! small ones, with days that are drawn at random, and prints what they did; with the word `measure` it runs large ones and
+//! prints the time that they took.
 #![tactic(auto)]
 
 mod books;
+mod calls;
+mod days;
 mod loads;
 mod shelves;
 
-use crate::loads::{LoadFault, Loaded, Part, parts};
+use crate::loads::{LoadFault, Loaded, Part, parts, settings};
 use std::process::ExitCode;
 use std::rt::{Clock, Env};
 use std::time::Instant;
@@ -29,10 +31,13 @@ fn main(rt: HostRuntime) -> ExitCode {
 fn run<R: Env + AllocGlobal + Print + Clock>(rt: &R) -> Result<(), LoadFault> {
     if is_measured(rt)? {
         measure(rt, MEASURED)?;
-        shelves::measure(rt)
+        shelves::measure(rt)?;
+        calls::measure(rt)
     } else {
         count(rt, COUNTED)?;
-        shelves::count(rt)
+        shelves::count(rt)?;
+        calls::count(rt)?;
+        days::count(rt)
     }
 }
 
@@ -50,7 +55,8 @@ fn is_measured<R: Env + AllocGlobal>(rt: &R) -> Result<bool, LoadFault> {
 
 /// Prints how many commands of each part of a load were accepted, and how many orders it left.
 fn count<R: AllocGlobal + Print>(rt: &R, orders: u32) -> Result<(), LoadFault> {
-    let mut loaded = Loaded::open(rt.alloc())?;
+    let settings = settings().ok_or(LoadFault)?;
+    let mut loaded = Loaded::open(rt.alloc(), settings)?;
     count_parts(rt, &mut loaded, orders)
 }
 
@@ -76,7 +82,8 @@ fn tell_counts<R: Print>(
 
 /// Prints the nanoseconds that a command of each part of a load took.
 fn measure<R: AllocGlobal + Print + Clock>(rt: &R, orders: u32) -> Result<(), LoadFault> {
-    let mut loaded = Loaded::open(rt.alloc())?;
+    let settings = settings().ok_or(LoadFault)?;
+    let mut loaded = Loaded::open(rt.alloc(), settings)?;
     measure_parts(rt, &mut loaded, orders)
 }
 

@@ -1,0 +1,344 @@
+//! The load of a call: orders that come in before its end, are executed, and are deleted at the end of the day.
+ghost use Rattle.std.specs.Prelude.{◌≤◌, ◌<◌};
+
+use crate::loads::{LoadFault, Loaded, mixed};
+use crate::{nanoseconds_since, said};
+use std::rt::Clock;
+use std::time::Instant;
+use xm_rules::{Command, Condition, DeskSettings, Kind, Restriction, Side, Validity, Widths};
+use xm_ticks::{JournalLimit, Price, TickSize};
+
+/// The orders of a call that is counted, and of those that are measured.
+const COUNTED: u32 = 200;
+
+const MEASURED: [u32; 2] = [100_000, 400_000];
+
+/// How many members enter the orders.
+const MEMBERS: u32 = 1_000;
+
+/// The last price of the day before, around which the limits lie.
+const REFERENCE: u32 = 500_000;
+
+/// How often a call is asked for its price.
+const QUESTIONS: u32 = 10;
+
+/// In which order limits come.
+#[derive(Clone, Copy)]
+enum Arrival {
+    Rising,
+    Falling,
+    Mixed,
+}
+
+/// How the orders of a call lie: at how many limits, and how they come.
+#[derive(Clone, Copy)]
+struct Shape {
+    limits: u32,
+    arrival: Arrival,
+    name: &'static str,
+}
+
+const SHAPES: [Shape; 9] = [
+    Shape {
+        limits: 100,
+        arrival: Arrival::Rising,
+        name: "call, 100 limits, rising",
+    },
+    Shape {
+        limits: 100,
+        arrival: Arrival::Falling,
+        name: "call, 100 limits, falling",
+    },
+    Shape {
+        limits: 100,
+        arrival: Arrival::Mixed,
+        name: "call, 100 limits, mixed",
+    },
+    Shape {
+        limits: 1_000,
+        arrival: Arrival::Rising,
+        name: "call, 1,000 limits, rising",
+    },
+    Shape {
+        limits: 1_000,
+        arrival: Arrival::Falling,
+        name: "call, 1,000 limits, falling",
+    },
+    Shape {
+        limits: 1_000,
+        arrival: Arrival::Mixed,
+        name: "call, 1,000 limits, mixed",
+    },
+    Shape {
+        limits: 100_000,
+        arrival: Arrival::Rising,
+        name: "call, 100,000 limits, rising",
+    },
+    Shape {
+        limits: 100_000,
+        arrival: Arrival::Falling,
+        name: "call, 100,000 limits, falling",
+    },
+    Shape {
+        limits: 100_000,
+        arrival: Arrival::Mixed,
+        name: "call, 100,000 limits, mixed",
+    },
+];
+
+impl Arrival {
+    /// The place among the limits of the order that comes at this place.
+    fn rank(self, place: u32, orders: u32) -> u32
+        requires some { place < orders }
+        requires few { orders ≤ 1000000 }
+    {
+        match self {
+            Arrival::Rising => place,
+            Arrival::Falling => orders - 1 - place,
+            Arrival::Mixed => mixed(place, orders),
+        }
+    }
+}
+
+impl Shape {
+    /// The limit of the order that comes at this place.
+    fn limit(self, place: u32, orders: u32) -> u32
+        requires some { place < orders }
+        requires few { orders ≤ 1000000 }
+    {
+        let limits = u64::from(self.limits);
+        let rank = u64::from(self.arrival.rank(place, orders));
+        let above = rank.wrapping_mul(limits) / u64::from(orders);
+        (REFERENCE - self.limits.min(REFERENCE) / 2).wrapping_add(above.min(limits) as u32)
+    }
+
+    /// The entry that comes at this place: buys and sells in turn. Each side lies over all the limits, so that half of
+    /// its orders are at the reference or cross it.
+    fn entry(self, reference: u32, place: u32, orders: u32) -> Command
+        requires some { place < orders }
+        requires few { orders ≤ 1000000 }
+    {
+        let side = if place % 2 == 0 {
+            Side::Buy
+        } else {
+            Side::Sell
+        };
+        Command::Enter {
+            member: reference % MEMBERS,
+            reference,
+            side,
+            kind: Kind::Limit(self.limit(place, orders)),
+            quantity: 1 + place % 97,
+            validity: Validity::Day,
+            restriction: Restriction::Free,
+            condition: Condition::Plain,
+        }
+    }
+}
+
+/// What is done with a desk in turn.
+#[derive(Clone, Copy)]
+enum Step {
+    Enter,
+    Ask,
+    Uncross,
+    /// The closing call, which finds no price.
+    Close,
+    /// After trading as many orders enter as were executed.
+    EnterAgain,
+    EndDay,
+}
+
+const STEPS: [Step; 6] = [
+    Step::Enter,
+    Step::Ask,
+    Step::Uncross,
+    Step::Close,
+    Step::EnterAgain,
+    Step::EndDay,
+];
+
+impl Step {
+    /// What the parts of a step are.
+    fn name(self) -> &'static str {
+        match self {
+            Step::Enter => "entries",
+            Step::Ask => "indicative prices",
+            Step::Uncross => "trades",
+            Step::Close => "commands of the closing",
+            Step::EnterAgain => "entries",
+            Step::EndDay => "deletions",
+        }
+    }
+}
+
+/// What is told of a step.
+#[derive(Clone, Copy)]
+enum Figure {
+    /// The number of its parts.
+    Parts,
+    /// The time that it took as well.
+    Time,
+}
+
+/// A call of so many orders, and what is told of it.
+#[derive(Clone, Copy)]
+struct Load {
+    shape: Shape,
+    orders: u32,
+    figure: Figure,
+}
+
+/// Prints how many parts each step of a load had.
+pub fn count<R: AllocGlobal + Print + Clock>(rt: &R) -> Result<(), LoadFault> {
+    tell_shapes(rt, COUNTED, Figure::Parts)
+}
+
+/// Prints the time that each step of a load took.
+pub fn measure<R: AllocGlobal + Print + Clock>(rt: &R) -> Result<(), LoadFault> {
+    for orders in &MEASURED {
+        tell_shapes(rt, *orders, Figure::Time)?;
+    }
+    Ok(())
+}
+
+fn tell_shapes<R: AllocGlobal + Print + Clock>(
+    rt: &R,
+    orders: u32,
+    figure: Figure,
+) -> Result<(), LoadFault> {
+    for shape in &SHAPES {
+        let load = Load {
+            shape: *shape,
+            orders,
+            figure,
+        };
+        tell_load(rt, load)?;
+    }
+    Ok(())
+}
+
+fn tell_load<R: AllocGlobal + Print + Clock>(rt: &R, load: Load) -> Result<(), LoadFault> {
+    let settings = settings().ok_or(LoadFault)?;
+    let mut loaded = Loaded::open(rt.alloc(), settings)?;
+    tell_steps(rt, &mut loaded, load)
+}
+
+/// Prints a line for a load.
+fn tell_steps<R: Print + Clock>(rt: &R, loaded: &mut Loaded, load: Load) -> Result<(), LoadFault> {
+    let name = load.shape.name;
+    let orders = load.orders;
+    said(print!(rt; "{name:<29} {orders:>6} orders"))?;
+    let mut before = ":";
+    for step in &STEPS {
+        said(print!(rt; "{before}"))?;
+        tell_step(rt, loaded, load, *step)?;
+        before = ";";
+    }
+    said(println!(rt; ""))
+}
+
+/// Does a step, and prints its figures.
+fn tell_step<R: Print + Clock>(
+    rt: &R,
+    loaded: &mut Loaded,
+    load: Load,
+    step: Step,
+) -> Result<(), LoadFault> {
+    let Ok(start) = Instant::now(rt) else {
+        return Err(LoadFault);
+    };
+    let parts = take(loaded, load.shape, step, load.orders)?;
+    match load.figure {
+        Figure::Parts => {}
+        Figure::Time => tell_time(rt, &start, parts)?,
+    }
+    let name = step.name();
+    said(print!(rt; " {parts} {name}"))
+}
+
+/// Prints the microseconds since, and the nanoseconds that each of so many parts took.
+fn tell_time<R: Print + Clock>(rt: &R, start: &Instant, parts: u32) -> Result<(), LoadFault> {
+    let whole = nanoseconds_since(rt, start, 1)? / 1_000;
+    let each = nanoseconds_since(rt, start, parts)?;
+    said(print!(rt; " {whole} us, {each} ns for each of"))
+}
+
+/// Does a step, and answers with the number of its parts.
+fn take(loaded: &mut Loaded, shape: Shape, step: Step, orders: u32) -> Result<u32, LoadFault> {
+    match step {
+        Step::Enter => {
+            loaded.accept(Command::StartOpening)?;
+            enter(loaded, shape, 0, orders)
+        }
+        Step::Ask => ask(loaded),
+        Step::Uncross => {
+            loaded.accept(Command::Uncross)?;
+            number_of(loaded.trades().len())
+        }
+        Step::Close => {
+            loaded.accept(Command::StartClosing)?;
+            loaded.accept(Command::Uncross)?;
+            Ok(2)
+        }
+        Step::EnterAgain => {
+            let executed = orders.saturating_sub(number_of(loaded.orders()?)?);
+            enter(loaded, shape, orders, executed)
+        }
+        Step::EndDay => end_day(loaded, orders),
+    }
+}
+
+fn number_of(items: usize) -> Result<u32, LoadFault> {
+    match u32::try_from(items) {
+        Ok(number) => Ok(number),
+        Err(_) => Err(LoadFault),
+    }
+}
+
+/// Enters so many orders, whose references follow this one.
+fn enter(loaded: &mut Loaded, shape: Shape, reference: u32, orders: u32) -> Result<u32, LoadFault> {
+    if orders > 1_000_000 {
+        return Err(LoadFault);
+    }
+    for place in 0..orders {
+        loaded.accept(shape.entry(reference.wrapping_add(place), place, orders))?;
+    }
+    Ok(orders)
+}
+
+/// Asks the price of a call some times.
+fn ask(loaded: &Loaded) -> Result<u32, LoadFault> {
+    for _question in 0..QUESTIONS {
+        if loaded.indicative().is_none() {
+            return Err(LoadFault);
+        }
+    }
+    Ok(QUESTIONS)
+}
+
+/// Ends the day of so many orders, none of which is valid beyond it.
+fn end_day(loaded: &mut Loaded, orders: u32) -> Result<u32, LoadFault> {
+    loaded.accept(Command::EndDay)?;
+    if loaded.orders()? == 0 {
+        Ok(orders)
+    } else {
+        Err(LoadFault)
+    }
+}
+
+/// The settings of a day whose calls trade at a price within a hundredth of the reference.
+fn settings() -> Option<DeskSettings> {
+    Some(DeskSettings {
+        today: 20260105,
+        members: MEMBERS,
+        tick: TickSize::new(100)?,
+        reference: Price::new(REFERENCE)?,
+        widths: Widths {
+            dynamic: 20,
+            statics: 50,
+            wide: 40,
+        },
+        limit: JournalLimit::new(1_000_000)?,
+    })
+}
