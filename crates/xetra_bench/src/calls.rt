@@ -30,63 +30,28 @@ enum Arrival {
     Mixed,
 }
 
-/// How the orders of a call lie: at how many limits, and how they come.
-#[derive(Clone, Copy)]
-struct Shape {
-    limits: u32,
-    arrival: Arrival,
-    name: &'static str,
-}
-
-const SHAPES: [Shape; 9] = [
-    Shape {
-        limits: 100,
-        arrival: Arrival::Rising,
-        name: "call, 100 limits, rising",
-    },
-    Shape {
-        limits: 100,
-        arrival: Arrival::Falling,
-        name: "call, 100 limits, falling",
-    },
-    Shape {
-        limits: 100,
-        arrival: Arrival::Mixed,
-        name: "call, 100 limits, mixed",
-    },
-    Shape {
-        limits: 1_000,
-        arrival: Arrival::Rising,
-        name: "call, 1,000 limits, rising",
-    },
-    Shape {
-        limits: 1_000,
-        arrival: Arrival::Falling,
-        name: "call, 1,000 limits, falling",
-    },
-    Shape {
-        limits: 1_000,
-        arrival: Arrival::Mixed,
-        name: "call, 1,000 limits, mixed",
-    },
-    Shape {
-        limits: 100_000,
-        arrival: Arrival::Rising,
-        name: "call, 100,000 limits, rising",
-    },
-    Shape {
-        limits: 100_000,
-        arrival: Arrival::Falling,
-        name: "call, 100,000 limits, falling",
-    },
-    Shape {
-        limits: 100_000,
-        arrival: Arrival::Mixed,
-        name: "call, 100,000 limits, mixed",
-    },
+/// How the orders of a call lie: at how many limits, and how these come.
+const SHAPES: [(u32, Arrival); 9] = [
+    (100, Arrival::Rising),
+    (100, Arrival::Falling),
+    (100, Arrival::Mixed),
+    (1_000, Arrival::Rising),
+    (1_000, Arrival::Falling),
+    (1_000, Arrival::Mixed),
+    (100_000, Arrival::Rising),
+    (100_000, Arrival::Falling),
+    (100_000, Arrival::Mixed),
 ];
 
 impl Arrival {
+    fn name(self) -> &'static str {
+        match self {
+            Arrival::Rising => "rising",
+            Arrival::Falling => "falling",
+            Arrival::Mixed => "mixed",
+        }
+    }
+
     /// The place among the limits of the order that comes at this place.
     fn rank(self, place: u32, orders: u32) -> u32
         requires some { place < orders }
@@ -100,7 +65,16 @@ impl Arrival {
     }
 }
 
-impl Shape {
+/// A call of so many orders at so many limits, and what is told of it.
+#[derive(Clone, Copy)]
+struct Load {
+    orders: u32,
+    limits: u32,
+    arrival: Arrival,
+    figure: Figure,
+}
+
+impl Load {
     /// The limit of the order that comes at this place.
     fn limit(self, place: u32, orders: u32) -> u32
         requires some { place < orders }
@@ -109,7 +83,8 @@ impl Shape {
         let limits = u64::from(self.limits);
         let rank = u64::from(self.arrival.rank(place, orders));
         let above = rank.wrapping_mul(limits) / u64::from(orders);
-        (REFERENCE - self.limits.min(REFERENCE) / 2).wrapping_add(above.min(limits) as u32)
+        let lowest = REFERENCE.wrapping_sub(self.limits / 2);
+        lowest.wrapping_add(above.min(limits) as u32)
     }
 
     /// The entry that comes at this place: buys and sells in turn. Each side lies over all the limits, so that half of
@@ -181,14 +156,6 @@ enum Figure {
     Time,
 }
 
-/// A call of so many orders, and what is told of it.
-#[derive(Clone, Copy)]
-struct Load {
-    shape: Shape,
-    orders: u32,
-    figure: Figure,
-}
-
 /// Prints how many parts each step of a load had.
 pub fn count<R: AllocGlobal + Print + Clock>(rt: &R) -> Result<(), LoadFault> {
     tell_shapes(rt, COUNTED, Figure::Parts)
@@ -207,10 +174,11 @@ fn tell_shapes<R: AllocGlobal + Print + Clock>(
     orders: u32,
     figure: Figure,
 ) -> Result<(), LoadFault> {
-    for shape in &SHAPES {
+    for (limits, arrival) in &SHAPES {
         let load = Load {
-            shape: *shape,
             orders,
+            limits: *limits,
+            arrival: *arrival,
             figure,
         };
         tell_load(rt, load)?;
@@ -226,9 +194,8 @@ fn tell_load<R: AllocGlobal + Print + Clock>(rt: &R, load: Load) -> Result<(), L
 
 /// Prints a line for a load.
 fn tell_steps<R: Print + Clock>(rt: &R, loaded: &mut Loaded, load: Load) -> Result<(), LoadFault> {
-    let name = load.shape.name;
-    let orders = load.orders;
-    said(print!(rt; "{name:<29} {orders:>6} orders"))?;
+    let (orders, limits, arrival) = (load.orders, load.limits, load.arrival.name());
+    said(print!(rt; "call of {orders:>6} orders at {limits:>6} limits, {arrival}"))?;
     let mut before = ":";
     for step in &STEPS {
         said(print!(rt; "{before}"))?;
@@ -248,7 +215,7 @@ fn tell_step<R: Print + Clock>(
     let Ok(start) = Instant::now(rt) else {
         return Err(LoadFault);
     };
-    let parts = take(loaded, load.shape, step, load.orders)?;
+    let parts = take(loaded, load, step)?;
     match load.figure {
         Figure::Parts => {}
         Figure::Time => tell_time(rt, &start, parts)?,
@@ -265,11 +232,11 @@ fn tell_time<R: Print + Clock>(rt: &R, start: &Instant, parts: u32) -> Result<()
 }
 
 /// Does a step, and answers with the number of its parts.
-fn take(loaded: &mut Loaded, shape: Shape, step: Step, orders: u32) -> Result<u32, LoadFault> {
+fn take(loaded: &mut Loaded, load: Load, step: Step) -> Result<u32, LoadFault> {
     match step {
         Step::Enter => {
             loaded.accept(Command::StartOpening)?;
-            enter(loaded, shape, 0, orders)
+            enter(loaded, load, 0, load.orders)
         }
         Step::Ask => ask(loaded),
         Step::Uncross => {
@@ -282,10 +249,10 @@ fn take(loaded: &mut Loaded, shape: Shape, step: Step, orders: u32) -> Result<u3
             Ok(2)
         }
         Step::EnterAgain => {
-            let executed = orders.saturating_sub(number_of(loaded.orders()?)?);
-            enter(loaded, shape, orders, executed)
+            let left = number_of(loaded.orders()?)?;
+            enter(loaded, load, load.orders, load.orders.saturating_sub(left))
         }
-        Step::EndDay => end_day(loaded, orders),
+        Step::EndDay => end_day(loaded, load.orders),
     }
 }
 
@@ -297,12 +264,12 @@ fn number_of(items: usize) -> Result<u32, LoadFault> {
 }
 
 /// Enters so many orders, whose references follow this one.
-fn enter(loaded: &mut Loaded, shape: Shape, reference: u32, orders: u32) -> Result<u32, LoadFault> {
+fn enter(loaded: &mut Loaded, load: Load, reference: u32, orders: u32) -> Result<u32, LoadFault> {
     if orders > 1_000_000 {
         return Err(LoadFault);
     }
     for place in 0..orders {
-        loaded.accept(shape.entry(reference.wrapping_add(place), place, orders))?;
+        loaded.accept(load.entry(reference.wrapping_add(place), place, orders))?;
     }
     Ok(orders)
 }

@@ -13,6 +13,9 @@ use xm_ticks::{JournalLimit, Price, TickSize};
 /// How many days are drawn.
 const DAYS: u32 = 2_000;
 
+/// Where the generator begins.
+const SEED: u64 = 20260105;
+
 const TODAY: u32 = 20260105;
 
 const MEMBERS: u32 = 3;
@@ -205,7 +208,7 @@ struct Days {
 impl Days {
     fn new() -> Days {
         Days {
-            draws: Draws { state: 20260105 },
+            draws: Draws { state: SEED },
             tally: Tally {
                 calls: 0,
                 interrupted: 0,
@@ -253,7 +256,7 @@ impl Days {
         Ok(())
     }
 
-    /// Ends the stage of a call, where there is one. In the next one some orders come, and a member may withdraw its own.
+    /// Ends the stage of a call, where there is one.
     fn end_stage(&mut self, loaded: &mut Loaded, orders: Orders) -> Result<(), LoadFault> {
         if !loaded.is_in_call() {
             return Ok(());
@@ -270,6 +273,7 @@ impl Days {
         Ok(())
     }
 
+    /// Some orders come, and a member may withdraw its own.
     fn come_and_go(&mut self, loaded: &mut Loaded, orders: Orders) -> Result<(), LoadFault> {
         self.enter_below(loaded, orders, 3)?;
         if self.draws.is_one_in(3) {
