@@ -257,8 +257,9 @@ const RESTRICTED: [Reply; 10] = [
 fn restricted_orders_in_their_calls(rt: HostRuntime) -> Result<(), Fail> {
     let mut day = Day::open(rt.alloc(), 100)?;
     give_all(&rt, &mut day, &RESTRICTED);
-    assert!(rt; day.trades().len() == 2);
-    assert!(rt; day.trades()[0].sweep == 1 && day.trades()[1].sweep == 2);
+    let trades = day.trades();
+    assert!(rt; trades.len() == 2);
+    assert!(rt; trades[0].sweep == 1 && trades[1].sweep == 2);
     Ok(())
 }
 
