@@ -115,7 +115,7 @@ fn each_growth_refused_in_turn(rt: HostRuntime) -> Result<(), Fail> {
         commands: 0,
         lists: 0,
     };
-    for nth in 1..100 {
+    for nth in 1..200 {
         if !refused.run(&rt, rt.alloc(), nth)? {
             let answered = refused.commands.wrapping_add(refused.lists);
             assert_eq!(rt; answered.wrapping_add(MADE_GOOD), nth - 1);
