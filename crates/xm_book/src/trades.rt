@@ -1,5 +1,6 @@
 //! The trades of a security, in the order in which they were made.
-ghost use Rattle.std.specs.Prelude.{◌≡◌, ◌-◌, ◌<◌, ◌++◌, ◌∷◌, [], OnErr, OnOk};
+ghost use Rattle.std.specs.Prelude.{◌≡◌, ◌-◌, ◌<◌, ◌≤◌, ◌++◌, ◌∷◌, [], All, OnErr, OnOk};
+ghost use Rattle.xm_ticks.specs.declared.numbers.TheConstants.{MAX_PRICE};
 
 use std::alloc::Allocator;
 use std::marker::Model;
@@ -13,15 +14,19 @@ pub struct Trades<A: Allocator> {
 }
 
 impl<A: Allocator> Model for Trades<A> {
-    ghost use Rattle.std.specs.Prelude.{◌+◌, ◌≤◌, vec_len};
+    ghost use Rattle.std.specs.Prelude.{◌+◌, ◌≤◌, All, vec_len};
     ghost use Rattle.std.specs.Vec.{vec_capacity};
     ghost use Rattle.xm_book.specs.Trades.{TradeList};
+    ghost use Rattle.xm_ticks.specs.declared.numbers.TheConstants.{MAX_PRICE};
 
     ghost Value = { TradeList };
 
     ghost view = { λ t. record { trades = t.items.items; room = t.room } };
 
-    ghost invariant = { λ t. vec_len t.items + t.room ≤ vec_capacity t.items };
+    ghost invariant = { λ t. record {
+      fits : vec_len t.items + t.room ≤ vec_capacity t.items;
+      priced : All (λ trade. trade.price ≤ MAX_PRICE) t.items.items;
+    } };
 }
 
 impl<A: Allocator> Trades<A> {
@@ -35,9 +40,10 @@ impl<A: Allocator> Trades<A> {
         }
     }
 
-    /// The trades, the first one first.
+    /// The trades, the first one first. Their prices are in range.
     pub fn as_slice(&self) -> &[Trade]
-        ensures { result.now ≡ self.now.trades }
+        ensures trades { result.now ≡ self.now.trades }
+        ensures priced { All (λ trade. trade.price ≤ MAX_PRICE) result.now }
     {
         self.items.as_slice()
     }
@@ -57,6 +63,7 @@ impl<A: Allocator> Trades<A> {
         requires { 0 < self.old.room }
         ensures { self.new ≡ record { trades = self.old.trades ++ trade ∷ []; room = self.old.room - 1 } }
     {
+        let _ = trade.price.get(); // The range of a price is known where it is asked for.
         self.items.push_reserved(trade);
         self.room -= 1;
     }

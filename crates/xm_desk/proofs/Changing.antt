@@ -14,7 +14,7 @@ use Rattle.std.specs.Option.{IsSome}
 use Rattle.xm_book.specs.Places.{place_of}
 use Rattle.xm_desk.specs.Growth.{keeping, place_of_change}
 use Rattle.xm_desk.specs.Settled.{Unsettled, played}
-use Rattle.xm_desk.specs.declared.unsettled.Hand.TheVariants.{Empty, Joined, Kept}
+use Rattle.xm_desk.specs.declared.unsettled.Hand.TheVariants.{Empty, Played, Kept}
 use Rattle.xm_rules.specs.Orders.{removed, with_rest}
 use Rattle.xm_rules.specs.Settling.{come}
 use Rattle.xm_rules.specs.Step.{changed, changed_order, keeps_priority}
@@ -68,7 +68,7 @@ kept-change v member reference quantity limit o found keeps hand =
 pub replaced-change : (v : Unsettled) (member reference quantity : ℕ) (limit : Option ℕ) (o : Order)
     → find (is_named member reference) v.state.orders ≡ Some o → keeps_priority quantity limit o ≡ false
     → v.hand ≡ keeping (place_of_change quantity limit (find (is_named member reference) v.state.orders)) → HoldsNoStops v.state
-    → record v { state = come (record v.state { orders = removed member reference v.state.orders }) (changed_order quantity limit o); hand = Joined }
+    → record v { state = come (record v.state { orders = removed member reference v.state.orders }) (changed_order quantity limit o); hand = Played }
     ≡ record v { state = changed v.state quantity limit (find (is_named member reference) v.state.orders); hand = played v.hand }
 replaced-change v member reference quantity limit o found joins hand none =
     let name = find-named member reference v.state.orders o found in

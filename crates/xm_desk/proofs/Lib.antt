@@ -4,4 +4,5 @@ mod Entering
 mod Hands
 mod Named
 mod Stepping
+mod Sweeping
 mod Tapes

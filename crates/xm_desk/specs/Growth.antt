@@ -1,15 +1,17 @@
 -- What a command may need, beside its entry in the journal.
-use Rattle.std.specs.Prelude.{◌≡◌, ℕ, if◌then◌else◌, find, length, Option, Some, None}
+use Rattle.std.specs.Prelude.{◌≤◌, ℕ, Bool, true, false, if◌then◌else◌, find, length, IsTrue, Option, Some, None}
 use Rattle.xm_book.specs.Places.{place_of}
 use Rattle.xm_book.specs.declared.places.Place.{Place}
 use Rattle.xm_desk.specs.declared.unsettled.Hand.{Hand}
 use Rattle.xm_desk.specs.declared.unsettled.Hand.TheVariants.{Empty, Kept}
 use Rattle.xm_rules.specs.Orders.{is_named}
+use Rattle.xm_rules.specs.Settling.{is_continuous}
 use Rattle.xm_rules.specs.State.{State}
 use Rattle.xm_rules.specs.Step.{changed_order, entered_order, keeps_priority}
 use Rattle.xm_rules.specs.declared.commands.Command.{Command}
 use Rattle.xm_rules.specs.declared.commands.Command.TheVariants.{Enter, Change, Uncross}
 use Rattle.xm_rules.specs.declared.orders.Order.{Order}
+use Rattle.xm_rules.specs.declared.phases.Phase.{Phase}
 
 -- a changed order needs a place where it comes in again
 abbrev pub place_of_change : ℕ → Option ℕ → Option Order → Option Place
@@ -23,10 +25,16 @@ place_for s (Enter member reference side kind quantity validity restriction cond
 place_for s (Change member reference quantity limit) = place_of_change quantity limit (find (is_named member reference) s.orders)
 place_for s _ = None
 
+-- the end of a call may trade, and in continuous trading an entry and a change
+abbrev pub may_trade : Phase → Command → Bool
+may_trade phase Uncross = true
+may_trade phase (Enter member reference side kind quantity validity restriction condition) = is_continuous phase
+may_trade phase (Change member reference quantity limit) = is_continuous phase
+may_trade phase _ = false
+
 -- a command that may trade has room for as many trades as there are orders
 abbrev pub HasRoom : State → Command → ℕ → Type 0
-HasRoom s Uncross room = room ≡ length s.orders
-HasRoom s _ room = Unit {0}
+HasRoom s command room = IsTrue (may_trade s.phase command) → length s.orders ≤ room
 
 -- the hand that keeps a place, where there is one
 abbrev pub keeping : Option Place → Hand

@@ -1,7 +1,6 @@
 -- The trades of one command, and of all so far.
 use Rattle.std.specs.Prelude.{◌≤◌, ◌+◌, ◌*◌, List, All, length}
 use Rattle.xm_rules.specs.State.{State}
-use Rattle.xm_rules.specs.Sums.{total_money, total_quantity}
 use Rattle.xm_rules.specs.declared.orders.Trade.{Trade}
 use Rattle.xm_rules.specs.declared.settings.TheConstants.{PHASE_COMMANDS_MORE}
 use Rattle.xm_ticks.specs.declared.numbers.TheConstants.{MAX_QUANTITY}
@@ -14,8 +13,6 @@ AreSized trades = All (λ (t : Trade). t.quantity ≤ MAX_QUANTITY) trades
 pub record AreFew (trades : List Trade) : Type 0 where
   pub number : length trades ≤ 2000000
   pub sized : AreSized trades
-  pub quantity : total_quantity trades ≤ 2000000000000
-  pub money : total_money trades ≤ 2000000000000000000
 
 -- sweeps and trades are counted by the accepted commands, and those by the journal's limit
 pub record IsCounted (s : State) : Type 0 where

@@ -2,7 +2,7 @@
 use Rattle.std.specs.Prelude.{ℕ, List, [], ◌∷◌}
 use Rattle.xm_book.specs.declared.places.Place.{Place}
 use Rattle.xm_desk.specs.declared.unsettled.Hand.{Hand}
-use Rattle.xm_desk.specs.declared.unsettled.Hand.TheVariants.{Empty, Kept, Joined}
+use Rattle.xm_desk.specs.declared.unsettled.Hand.TheVariants.{Empty, Kept, Played}
 use Rattle.xm_rules.specs.State.{State}
 use Rattle.xm_rules.specs.declared.orders.Stop.{Stop}
 
@@ -24,16 +24,16 @@ pub record Settled : Type 0 where
 abbrev pub places_in : Hand → List Place
 places_in Empty = []
 places_in (Kept place) = place ∷ []
-places_in Joined = []
+places_in Played = []
 
--- how many orders the command has added to the book
+-- how many orders the command may have added to the book
 abbrev pub joined_in : Hand → ℕ
 joined_in Empty = 0
 joined_in (Kept place) = 0
-joined_in Joined = 1
+joined_in Played = 1
 
--- the order in hand has joined the book
+-- the order in hand has come in
 abbrev pub played : Hand → Hand
 played Empty = Empty
-played (Kept place) = Joined
-played Joined = Joined
+played (Kept place) = Played
+played Played = Played

@@ -1,12 +1,12 @@
 //! Changes and cancellations of orders.
 ghost use Rattle.std.specs.Prelude.{◌≡◌, IsTrue, None, find};
-ghost use Rattle.xm_desk.specs.Growth.{keeping, place_of_change};
+ghost use Rattle.xm_desk.specs.Growth.{HasRoom, keeping, place_of_change};
+ghost use Rattle.xm_desk.specs.Made.{AreFew, IsCounted};
 ghost use Rattle.xm_desk.specs.Settled.{played};
 ghost use Rattle.xm_desk.specs.declared.unsettled.Hand.TheVariants.{Empty};
 ghost use Rattle.xm_rules.specs.Orders.{is_named};
 ghost use Rattle.xm_rules.specs.Refusals.{refusal_of};
-ghost use Rattle.xm_rules.specs.Served.{IsOutsideContinuousTrading};
-ghost use Rattle.xm_rules.specs.Step.{all_cancelled, cancelled, changed};
+ghost use Rattle.xm_rules.specs.Step.{all_cancelled, cancelled, changed, new_trades};
 ghost use Rattle.xm_rules.specs.declared.commands.Command.TheVariants.{Change};
 
 use crate::unsettled::Unsettled;
@@ -18,18 +18,21 @@ impl<A: Allocator + Copy> Unsettled<A> {
     pub fn change(&mut self, member: u32, reference: u32, quantity: u32, limit: Option<u32>)
         requires hand { self.old.hand ≡ keeping (place_of_change quantity limit (find (is_named member reference) self.old.state.orders)) }
         requires lawful { refusal_of self.old.state (Change member reference quantity limit) ≡ None }
-        requires outside { IsOutsideContinuousTrading self.old.state }
-        ensures { self.new ≡ record self.old {
+        requires room { HasRoom self.old.state (Change member reference quantity limit) self.old.room }
+        requires counted { IsCounted self.old.state }
+        ensures changed { self.new ≡ record self.old {
           state = changed self.old.state quantity limit (find (is_named member reference) self.old.state.orders);
           hand = played self.old.hand;
+          room = self.new.room;
         } }
+        ensures few { AreFew (new_trades self.old.state self.new.state) }
     {
         let order = *self.book.find(member, reference).unwrap();
         if order.keeps_priority(quantity, limit) {
             self.book.reduce(member, reference, quantity);
         } else {
             self.book.remove(member, reference);
-            self.come(order.changed_order(quantity, limit));
+            self.come(&order.changed_order(quantity, limit));
         }
     }
 

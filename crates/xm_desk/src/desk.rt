@@ -82,10 +82,10 @@ impl<A: Allocator + Copy> Desk<A> {
 
     /// Takes a command into the journal and answers its reply. A refused one changes nothing.
     ///
-    /// The command must be served in the desk's phase, see `Command::is_served`. The refusal is
-    /// that of `refusal_of`, or `OutOfMemory` where a growth was refused.
+    /// The command must be served, see `Command::is_served`. The refusal is that of `refusal_of`, or `OutOfMemory` where a
+    /// growth was refused.
     pub fn apply(&mut self, command: Command) -> Result<Reply, Refusal>
-        requires { IsTrue (is_served (replay self.old).phase command) }
+        requires { IsTrue (is_served command) }
         ensures accepted { OnOk result (refusal_of (replay self.old) command ≡ None) }
         ensures journal { OnOk result (self.new ≡ record self.old { commands = self.old.commands ++ command ∷ [] }) }
         ensures reply { IfOk result (λ answer. answer ≡ reply (replay self.old) (replay self.new)) }

@@ -1,6 +1,6 @@
 //! The growth that a command may need. It comes before the first change, and it alone can be refused.
 ghost use Rattle.std.specs.Prelude.{◌≡◌, ◌≤◌, IsTrue, None, OnErr, OnOk, find};
-ghost use Rattle.xm_desk.specs.Growth.{HasRoom, hand_for, place_for, place_of_change};
+ghost use Rattle.xm_desk.specs.Growth.{HasRoom, hand_for, may_trade, place_for, place_of_change};
 ghost use Rattle.xm_desk.specs.declared.unsettled.Hand.TheVariants.{Empty};
 ghost use Rattle.xm_rules.specs.Orders.{is_named};
 ghost use Rattle.xm_rules.specs.Refusals.{is_given_in_range, refusal_of};
@@ -9,21 +9,21 @@ use crate::entries::Entry;
 use crate::unsettled::{Hand, Unsettled};
 use std::alloc::Allocator;
 use xm_book::Place;
-use xm_rules::{Command, OutOfMemory};
+use xm_rules::{Command, OutOfMemory, Phase};
 
 impl<A: Allocator + Copy> Unsettled<A> {
-    /// Reserves all that an accepted command may need: a place in the book, or room for trades. The state is unchanged.
+    /// Reserves all that an accepted command may need: room for trades, and a place in the book. The state is unchanged.
     pub fn reserve_for(&mut self, command: &Command) -> Result<(), OutOfMemory>
         requires hand { self.old.hand ≡ Empty }
         requires lawful { refusal_of self.old.state command.now ≡ None }
         ensures ok { OnOk result (self.new ≡ record self.old { hand = hand_for self.old.state command.now; room = self.new.room }) }
         ensures room { OnOk result (HasRoom self.old.state command.now self.new.room) }
-        ensures err { OnErr result (self.new ≡ self.old) }
+        ensures err { OnErr result (self.new ≡ record self.old { room = self.new.room }) }
     {
-        match command {
-            Command::Uncross => self.tape.reserve(self.book.len()),
-            _ => self.reserve_place_for(command),
+        if may_trade(self.phase, command) {
+            self.tape.reserve(self.book.len())?;
         }
+        self.reserve_place_for(command)
     }
 
     /// Reserves the place in the book that an accepted command may need.
@@ -81,5 +81,16 @@ impl<A: Allocator + Copy> Unsettled<A> {
                 }
             }
         }
+    }
+}
+
+/// Whether a command may trade in a phase.
+fn may_trade(phase: Phase, command: &Command) -> bool
+    ensures { result ≡ may_trade phase command.now }
+{
+    match command {
+        Command::Uncross => true,
+        Command::Enter { .. } | Command::Change { .. } => phase.is_continuous(),
+        _ => false,
     }
 }

@@ -1,42 +1,132 @@
 //! Orders that come in.
-ghost use Rattle.std.specs.Prelude.{◌≡◌, ◌+◌, ◌<◌, IsTrue, None, false};
+ghost use Rattle.std.specs.Prelude.{◌≡◌, IsTrue, None, false};
 ghost use Rattle.xm_book.specs.Places.{place_of};
 ghost use Rattle.xm_desk.specs.Entries.{command_of, order_in};
-ghost use Rattle.xm_desk.specs.declared.unsettled.Hand.TheVariants.{Joined, Kept};
-ghost use Rattle.xm_rules.specs.Commands.{is_in_range};
+ghost use Rattle.xm_desk.specs.Growth.{HasRoom};
+ghost use Rattle.xm_desk.specs.Incoming.{CanComeIn, CanJoin};
+ghost use Rattle.xm_desk.specs.Made.{AreFew, IsCounted};
+ghost use Rattle.xm_desk.specs.declared.unsettled.Hand.TheVariants.{Kept, Played};
 ghost use Rattle.xm_rules.specs.Refusals.{has_order, refusal_of};
-ghost use Rattle.xm_rules.specs.Served.{IsOutsideContinuousTrading, is_served};
-ghost use Rattle.xm_rules.specs.Settling.{come};
-ghost use Rattle.xm_rules.specs.Step.{act};
-ghost use Rattle.xm_rules.specs.declared.settings.TheConstants.{PHASE_COMMANDS_MORE};
+ghost use Rattle.xm_rules.specs.Served.{is_served};
+ghost use Rattle.xm_rules.specs.Settling.{come, is_continuous, joined, sweep_of, swept};
+ghost use Rattle.xm_rules.specs.Step.{act, come_under, new_trades};
+ghost use Rattle.xm_rules.specs.Sweep.{is_fillable, rest_after};
+ghost use Rattle.xm_rules.specs.declared.commands.Condition.TheVariants.{Fok, Ioc};
 
 use crate::entries::Entry;
 use crate::unsettled::{Hand, Unsettled};
 use std::alloc::Allocator;
-use xm_rules::Order;
+use xm_book::Place;
+use xm_match::fillable;
+use xm_rules::{Auction, CallStage, Condition, Order, Phase};
 
 impl<A: Allocator + Copy> Unsettled<A> {
-    /// The order of an entry comes in.
+    /// The order of an entry comes in, on its condition.
     pub fn enter(&mut self, entry: &Entry)
         requires hand { self.old.hand ≡ Kept (place_of (order_in entry.now)) }
-        requires served { IsTrue (is_served self.old.state.phase (command_of entry.now)) }
+        requires served { IsTrue (is_served (command_of entry.now)) }
         requires lawful { refusal_of self.old.state (command_of entry.now) ≡ None }
-        ensures { self.new ≡ record self.old { state = act self.old.state (command_of entry.now); hand = Joined } }
+        requires room { HasRoom self.old.state (command_of entry.now) self.old.room }
+        requires counted { IsCounted self.old.state }
+        ensures acted { self.new ≡ record self.old { state = act self.old.state (command_of entry.now); hand = Played; room = self.new.room } }
+        ensures few { AreFew (new_trades self.old.state self.new.state) }
     {
-        self.come(entry.order());
+        let order = entry.order();
+        match entry.condition {
+            Condition::Plain => self.come(&order),
+            Condition::Ioc => self.execute_or_kill(&order),
+            Condition::Fok => self.fill_or_kill(&order),
+        }
     }
 
-    /// An order comes in, outside continuous trading: it joins the book last, in the place that is
-    /// kept for it.
-    pub fn come(&mut self, order: Order)
-        requires hand { self.old.hand ≡ Kept (place_of order) }
-        requires name { has_order self.old.state order.member order.reference ≡ false }
-        requires rest { IsTrue (is_in_range order.rest) }
-        requires outside { IsOutsideContinuousTrading self.old.state }
-        requires room { self.old.state.accepted < self.old.state.settings.limit + PHASE_COMMANDS_MORE }
-        ensures { self.new ≡ record self.old { state = come self.old.state order; hand = Joined } }
+    /// An order comes in. In continuous trading a free one is executed, and its rest joins the book last; any other order
+    /// joins last.
+    pub fn come(&mut self, order: &Order)
+        requires { CanComeIn self.old order.now }
+        ensures come { self.new ≡ record self.old { state = come self.old.state order.now; hand = Played; room = self.new.room } }
+        ensures few { AreFew (new_trades self.old.state self.new.state) }
+    {
+        if !(self.phase.is_continuous() && order.restriction.is_free()) {
+            return self.join(*order);
+        }
+        let rest = self.execute(order);
+        if rest == 0 {
+            self.give_up_place(Place::of(order));
+        } else {
+            self.join(Order { rest, ..*order });
+        }
+    }
+
+    /// An immediate-or-cancel order comes in: it is executed, and its rest is deleted.
+    fn execute_or_kill(&mut self, order: &Order)
+        requires can { CanComeIn self.old order.now }
+        requires continuous { IsTrue (is_continuous self.old.state.phase) }
+        ensures come { self.new ≡ record self.old { state = come_under Ioc self.old.state order.now; hand = Played; room = self.new.room } }
+        ensures few { AreFew (new_trades self.old.state self.new.state) }
+    {
+        self.execute(order);
+        self.give_up_place(Place::of(order));
+    }
+
+    /// A fill-or-kill order comes in where it can be executed whole, and else is deleted.
+    fn fill_or_kill(&mut self, order: &Order)
+        requires { CanComeIn self.old order.now }
+        ensures come { self.new ≡ record self.old { state = come_under Fok self.old.state order.now; hand = Played; room = self.new.room } }
+        ensures few { AreFew (new_trades self.old.state self.new.state) }
+    {
+        if self.is_fillable(order) {
+            self.come(order);
+        } else {
+            self.give_up_place(Place::of(order));
+        }
+    }
+
+    /// Whether an order could be executed whole.
+    fn is_fillable(&self, order: &Order) -> bool
+        ensures { result ≡ is_fillable (sweep_of self.now.state order.now) }
+    {
+        let last = self.tape.last_price();
+        let last_auction = self.tape.last_auction_price();
+        fillable(&self.book, order, last, last_auction, &self.settings.widths)
+    }
+
+    /// An order is executed against the other side of the book. Where the next one is met outside a range, trading is
+    /// interrupted. Answers the units of the order that are left.
+    fn execute(&mut self, order: &Order) -> u32
+        requires can { CanComeIn self.old order.now }
+        requires continuous { IsTrue (is_continuous self.old.state.phase) }
+        ensures swept { self.new ≡ record self.old { state = swept self.old.state order.now; room = self.new.room } }
+        ensures rest { result ≡ rest_after (sweep_of self.old.state order.now) }
+        ensures few { AreFew (new_trades self.old.state self.new.state) }
+    {
+        // What every book keeps, and the range of the limit, are known where they are asked for.
+        let _ = (self.book.len(), self.settings.limit.get());
+        self.sweeps += 1;
+        let widths = self.settings.widths;
+        let swept = self
+            .tape
+            .sweep(&mut self.book, order, self.sweeps, &widths);
+        if swept.interrupted {
+            self.phase = Phase::Call(Auction::Interruption, CallStage::Interrupted);
+        }
+        swept.rest
+    }
+
+    /// An order joins the book last, in the place that is kept for it.
+    fn join(&mut self, order: Order)
+        requires { CanJoin self.old order }
+        ensures { self.new ≡ record self.old { state = joined self.old.state order; hand = Played } }
     {
         self.book.add(order);
-        self.hand = Hand::Joined;
+        self.hand = Hand::Played;
+    }
+
+    /// Gives up the place that is kept for an order of which nothing is left.
+    fn give_up_place(&mut self, place: Place)
+        requires { self.old.hand ≡ Kept place }
+        ensures { self.new ≡ record self.old { hand = Played } }
+    {
+        self.book.release(&place);
+        self.hand = Hand::Played;
     }
 }

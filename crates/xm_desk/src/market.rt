@@ -88,7 +88,7 @@ impl<A: Allocator + Copy> Market<A> {
         requires lawful { refusal_of self.old.state command.now ≡ None }
         ensures ok { OnOk result (self.new ≡ record self.old { hand = hand_for self.old.state command.now; room = self.new.room }) }
         ensures room { OnOk result (HasRoom self.old.state command.now self.new.room) }
-        ensures err { OnErr result (self.new ≡ self.old) }
+        ensures err { OnErr result (self.new ≡ record self.old { room = self.new.room }) }
     {
         self.inside.reserve_for(command)
     }
@@ -96,7 +96,7 @@ impl<A: Allocator + Copy> Market<A> {
     /// The step by an accepted command, with its reply.
     pub fn step(&mut self, command: &Command) -> Reply
         requires hand { self.old.hand ≡ hand_for self.old.state command.now }
-        requires served { IsTrue (is_served self.old.state.phase command.now) }
+        requires served { IsTrue (is_served command.now) }
         requires lawful { refusal_of self.old.state command.now ≡ None }
         requires room { HasRoom self.old.state command.now self.old.room }
         ensures state { self.new ≡ record { state = step self.old.state command.now; hand = Empty; room = self.new.room } }
@@ -185,7 +185,7 @@ impl<A: Allocator + Copy> Unsettled<A> {
         }
     }
 
-    /// Counts a command, whose order, if it has one, joined the book.
+    /// Counts a command, whose order, if it has one, came in.
     fn count(&mut self)
         requires hand { places_in self.old.hand ≡ [] }
         requires room { self.old.state.accepted < self.old.state.settings.limit + PHASE_COMMANDS_MORE }

@@ -1,16 +1,20 @@
 //! The trades of a security, with the reference prices that they make.
-ghost use Rattle.std.specs.Prelude.{◌≡◌, if◌then◌else◌, ◌-◌, ◌<◌, ◌≤◌, ◌++◌, ◌∷◌, [], drop, length, OnErr, OnOk};
+ghost use Rattle.std.specs.Prelude.{◌≡◌, ◌+◌, ◌<◌, ◌≤◌, ◌++◌, [], All, drop, length, OnErr, OnOk};
 ghost use Rattle.xm_auction.specs.Allotment.{uncrossing_of};
 ghost use Rattle.xm_rules.specs.Allotment.{auction_trades, orders_after_call};
 ghost use Rattle.xm_rules.specs.Auction.{volume as executable};
+ghost use Rattle.xm_desk.specs.Tape.{swept_by};
 ghost use Rattle.xm_rules.specs.declared.phases.Phase.TheVariants.{Call};
-ghost use Rattle.xm_rules.specs.State.{is_auction, last_auction_price, last_price};
+ghost use Rattle.xm_rules.specs.State.{last_auction_price, last_price};
+ghost use Rattle.xm_rules.specs.Sweep.{filled, is_interrupted, orders_after_sweep, rest_after, sweep_trades};
+ghost use Rattle.xm_ticks.specs.declared.numbers.TheConstants.{MAX_PRICE};
 
 use std::alloc::Allocator;
 use std::marker::Model;
 use xm_auction::allocate;
 use xm_book::{Book, Trades};
-use xm_rules::{Auction, CallStage, OutOfMemory, Trade};
+use xm_match::{Swept, sweep};
+use xm_rules::{Auction, CallStage, Order, OutOfMemory, Trade, Widths};
 use xm_ticks::Price;
 
 /// The most trades of a desk: 2,000,000 for each command that its journal takes, of members and of
@@ -54,9 +58,10 @@ impl<A: Allocator> Tape<A> {
         }
     }
 
-    /// The trades, the first one first.
+    /// The trades, the first one first. Their prices are in range.
     pub fn as_slice(&self) -> &[Trade]
-        ensures { result.now ≡ self.now.trades }
+        ensures trades { result.now ≡ self.now.trades }
+        ensures priced { All (λ trade. trade.price ≤ MAX_PRICE) result.now }
     {
         self.trades.as_slice()
     }
@@ -93,7 +98,8 @@ impl<A: Allocator> Tape<A> {
     /// The trades from this one on.
     pub fn after(&self, first: usize) -> &[Trade]
         requires { first ≤ length self.now.trades }
-        ensures { result.now ≡ drop first self.now.trades }
+        ensures trades { result.now ≡ drop first self.now.trades }
+        ensures priced { All (λ trade. trade.price ≤ MAX_PRICE) result.now }
     {
         &self.trades.as_slice()[first..]
     }
@@ -120,24 +126,37 @@ impl<A: Allocator> Tape<A> {
         self.last_auction = price;
     }
 
-    /// Takes a trade, in reserved room.
-    pub fn record(&mut self, trade: Trade)
-        requires { 0 < self.old.room }
-        ensures { self.new ≡ record self.old { trades = self.old.trades ++ trade ∷ []; room = self.old.room - 1 } }
+    /// Takes the trades by which an incoming order is executed against a book. The ranges are those around the last price and
+    /// the last auction price; their widths are in thousandths, at most 999.
+    pub fn sweep<B: Allocator + Copy>(
+        &mut self,
+        book: &mut Book<B>,
+        incoming: &Order,
+        number: u64,
+        widths: &Widths,
+    ) -> Swept
+        requires dynamic { widths.now.dynamic ≤ 999 }
+        requires statics { widths.now.statics ≤ 999 }
+        requires room { length book.old.orders ≤ self.old.room }
+        ensures orders { book.new ≡ record book.old { orders = orders_after_sweep (swept_by self.old book.old.orders incoming.now widths.now) } }
+        ensures trades { self.new ≡ record self.old { trades = self.old.trades ++ sweep_trades number (swept_by self.old book.old.orders incoming.now widths.now); room = self.new.room } }
+        ensures room { self.new.room + length (sweep_trades number (swept_by self.old book.old.orders incoming.now widths.now)) ≡ self.old.room }
+        ensures filled { result.filled ≡ filled (swept_by self.old book.old.orders incoming.now widths.now) }
+        ensures rest { result.rest ≡ rest_after (swept_by self.old book.old.orders incoming.now widths.now) }
+        ensures interrupted { result.interrupted ≡ is_interrupted (swept_by self.old book.old.orders incoming.now widths.now) }
     {
-        self.last = trade.price;
-        self.last_auction = auction_price_after(self.last_auction, &trade);
-        self.trades.push(trade);
-    }
-}
-
-/// The last auction price after a trade.
-fn auction_price_after(before: Price, trade: &Trade) -> Price
-    ensures { result ≡ (if is_auction trade.now.kind then trade.now.price else before) }
-{
-    if trade.kind.is_auction() {
-        trade.price
-    } else {
-        before
+        let swept = sweep(
+            book,
+            incoming,
+            number,
+            self.last,
+            self.last_auction,
+            widths,
+            &mut self.trades,
+        );
+        if let Some(trade) = self.trades.as_slice().last() {
+            self.last = trade.price;
+        }
+        swept
     }
 }

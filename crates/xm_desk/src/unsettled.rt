@@ -23,8 +23,8 @@ pub enum Hand {
     Empty,
     /// This place is kept for it.
     Kept(Place),
-    /// It joined the book.
-    Joined,
+    /// It came in: it joined the book, or left nothing that could.
+    Played,
 }
 
 /// All that changes orders, trades and stops stands on this. A clause sees a state of the model,
@@ -92,7 +92,7 @@ impl<A: Allocator + Copy> Unsettled<A> {
     /// What an accepted command does, before the stops that it reached are settled.
     pub fn act(&mut self, command: &Command)
         requires hand { self.old.hand ≡ hand_for self.old.state command.now }
-        requires served { IsTrue (is_served self.old.state.phase command.now) }
+        requires served { IsTrue (is_served command.now) }
         requires lawful { refusal_of self.old.state command.now ≡ None }
         requires room { HasRoom self.old.state command.now self.old.room }
         requires counted { IsCounted self.old.state }

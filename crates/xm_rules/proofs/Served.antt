@@ -1,24 +1,22 @@
 -- What the served commands do: outside continuous trading orders join the time list, and no stop is held.
-use Rattle.std.proofs.Common.{◌≡◌, ◌∙◌, ℕ, ◌+◌, ◌≤◌, ◌++◌, Bool, true, false, ◌&&◌, not, if◌then◌else◌, [], IfSome, Option, Some, None, refl, ap, arith}
+use Rattle.std.proofs.Common.{◌≡◌, ◌∙◌, ℕ, ◌+◌, ◌≤◌, ◌==◌, ◌++◌, Bool, true, false, ◌&&◌, not, if◌then◌else◌, List, [], IfSome, Option, Some, None, refl, ap, arith}
 use Rattle.std.specs.Prelude.{drop, find, length}
-use Rattle.std.proofs.lemmas.Bool.{and_parts}
-use Rattle.xm_rules.proofs.Accepted.{entry-accepted}
 use Rattle.xm_rules.proofs.CallTrades.{Adds, IsOfCall, adds_none, call_of, end_adds, new_trades_follow}
 use Rattle.xm_rules.specs.declared.orders.Trade.{Trade}
 use Rattle.xm_rules.specs.Allotment.{Uncrossing}
 use Rattle.xm_rules.specs.Auction.{auction_price}
-use Rattle.xm_rules.specs.Commands.{is_immediate, is_stop, trigger_of}
+use Rattle.xm_rules.specs.Commands.{is_stop, trigger_of}
 use Rattle.xm_rules.specs.Orders.{is_named}
-use Rattle.xm_rules.specs.Refusals.{refusal_of}
-use Rattle.xm_rules.specs.Served.{HoldsNoStops, IsOutsideContinuousTrading, is_served}
-use Rattle.xm_rules.specs.Settling.{come, is_continuous, joined, settle}
+use Rattle.xm_rules.specs.Served.{HoldsNoStops, is_served}
+use Rattle.xm_rules.specs.Settling.{come, is_continuous, is_free, joined, settle, sweep_of, swept}
 use Rattle.xm_rules.specs.State.{State, inside_both, inside_wide, ranges, ref1}
-use Rattle.xm_rules.specs.Step.{act, cancelled, changed, changed_order, entered, entered_order, keeps_priority, new_trades, next_phase, reduced, replaced, reply, step, traded, uncrossed, uncrossed_at}
+use Rattle.xm_rules.specs.Step.{act, cancelled, changed, changed_order, come_under, entered, entered_order, keeps_priority, new_trades, next_phase, reduced, replaced, reply, step, traded, uncrossed, uncrossed_at}
 use Rattle.xm_rules.specs.Sums.{total_money, total_quantity}
+use Rattle.xm_rules.specs.Sweep.{is_fillable, rest_after, sweep_trades}
 use Rattle.xm_rules.specs.declared.commands.Command.{Command}
 use Rattle.xm_rules.specs.declared.commands.Command.TheVariants.{Enter, Change, Cancel, CancelAll, StartOpening, StartIntraday, StartClosing, Uncross, EndDay}
 use Rattle.xm_rules.specs.declared.commands.Condition.{Condition}
-use Rattle.xm_rules.specs.declared.commands.Condition.TheVariants.{Plain}
+use Rattle.xm_rules.specs.declared.commands.Condition.TheVariants.{Plain, Ioc, Fok}
 use Rattle.xm_rules.specs.declared.commands.Kind.{Kind}
 use Rattle.xm_rules.specs.declared.orders.Order.{Order}
 use Rattle.xm_rules.specs.declared.orders.Restriction.{Restriction}
@@ -35,46 +33,20 @@ use Rattle.xm_rules.specs.declared.phases.Phase.TheVariants.{PreTrading, Call, C
 pub settle-none : (s : State) → HoldsNoStops s → settle s [] ≡ s
 settle-none s none = rw none refl
 
-not_true : (b : Bool) → not b ≡ true → b ≡ false
-not_true true h = cc
-not_true false h = refl
-
--- outside continuous trading an order joins the time list last
-pub come-joins : (s : State) (o : Order) → IsOutsideContinuousTrading s → come s o ≡ joined s o
-come-joins s o outside = rw outside refl
-
-plain_if : (condition : Condition) (continuous : Bool) → continuous ≡ false → (is_immediate condition && not continuous) ≡ false → condition ≡ Plain
-plain_if Plain continuous e h = refl
-plain_if _ continuous e h = cc
+-- where an order doesn't trade it joins the time list last
+pub come-joins : (s : State) (o : Order) → (is_continuous s.phase && is_free o.restriction) ≡ false → come s o ≡ joined s o
+come-joins s o e = rw e refl
 
 no_trigger : (trigger : Option ℕ) → not (is_stop trigger) ≡ true → trigger ≡ None
 no_trigger None h = refl
 no_trigger (Some t) h = cc
 
--- so does the order of a served entry: it is neither immediate nor a stop
-pub entry-joins : (s : State) (member reference : ℕ) (side : Side) (k : Kind) (quantity : ℕ) (v : Validity) (r : Restriction) (condition : Condition)
-    → is_served s.phase (Enter member reference side k quantity v r condition) ≡ true → refusal_of s (Enter member reference side k quantity v r condition) ≡ None
-    → act s (Enter member reference side k quantity v r condition) ≡ joined s (entered_order member reference side k quantity v r)
-entry-joins s member reference side k quantity v r condition served h =
-    let o = entered_order member reference side k quantity v r in
-    let parts = and_parts (not (is_continuous s.phase)) (not (is_stop (trigger_of k))) served in
-    let outside = not_true (is_continuous s.phase) parts.0 in
-    let plain = plain_if condition (is_continuous s.phase) outside (entry-accepted s member reference side k quantity v r condition h).in_phase in
-    ap (λ (trigger : Option ℕ). entered s condition trigger o) (no_trigger (trigger_of k) parts.1)
-    ∙ ap (λ (c : Condition). entered s c None o) plain
-    ∙ come-joins s o outside
-
--- a changed order that comes in again does as well
-pub replaced-joins : (s : State) (o again : Order) → IsOutsideContinuousTrading s → replaced s o again ≡ joined (cancelled s o.member o.reference) again
-replaced-joins s o again outside = come-joins (cancelled s o.member o.reference) again outside
-
-pub entry-outside : (s : State) (member reference : ℕ) (side : Side) (k : Kind) (quantity : ℕ) (v : Validity) (r : Restriction) (condition : Condition)
-    → is_served s.phase (Enter member reference side k quantity v r condition) ≡ true → IsOutsideContinuousTrading s
-entry-outside s member reference side k quantity v r condition served =
-    not_true (is_continuous s.phase) (and_parts (not (is_continuous s.phase)) (not (is_stop (trigger_of k))) served).0
-
-pub change-outside : (s : State) (member reference quantity : ℕ) (limit : Option ℕ) → is_served s.phase (Change member reference quantity limit) ≡ true → IsOutsideContinuousTrading s
-change-outside s member reference quantity limit served = not_true (is_continuous s.phase) served
+-- an entry that is served is that of an order
+pub entry-comes : (s : State) (member reference : ℕ) (side : Side) (k : Kind) (quantity : ℕ) (v : Validity) (r : Restriction) (condition : Condition)
+    → is_served (Enter member reference side k quantity v r condition) ≡ true
+    → act s (Enter member reference side k quantity v r condition) ≡ come_under condition s (entered_order member reference side k quantity v r)
+entry-comes s member reference side k quantity v r condition served =
+    ap (λ (trigger : Option ℕ). entered s condition trigger (entered_order member reference side k quantity v r)) (no_trigger (trigger_of k) served)
 
 -- ---- what is left as it is
 
@@ -93,17 +65,30 @@ follows_if s false t u h i = i
 joined-follows : (s t : State) (o : Order) → Follows s t → Follows s (joined t o)
 joined-follows s t o f = record { stops = f.stops; sweeps = f.sweeps }
 
-cancelled-follows : (s : State) (member reference : ℕ) → Follows s (cancelled s member reference)
-cancelled-follows s member reference = record { stops = λ none. rw none refl; sweeps = omega arith }
+swept-follows : (s t : State) (o : Order) → (HoldsNoStops s → HoldsNoStops t) → t.sweeps ≡ s.sweeps → Follows s (swept t o)
+swept-follows s t o none same = record { stops = none; sweeps = omega (arith, same) }
 
-changed-follows : (s : State) (quantity : ℕ) (limit : Option ℕ) (found : Option Order) → IsOutsideContinuousTrading s → Follows s (changed s quantity limit found)
-changed-follows s quantity limit None outside = same-follows s
-changed-follows s quantity limit (Some o) outside =
+come-follows : (s t : State) (o : Order) → (HoldsNoStops s → HoldsNoStops t) → t.sweeps ≡ s.sweeps → Follows s (come t o)
+come-follows s t o none same =
+    let rest = rest_after (sweep_of t o) in
+    let left = record o { rest = rest } in
+    let follows = swept-follows s t o none same in
+    follows_if s (is_continuous t.phase && is_free o.restriction) (if rest == 0 then swept t o else joined (swept t o) left) (joined t o)
+    (follows_if s (rest == 0) (swept t o) (joined (swept t o) left) follows (joined-follows s (swept t o) left follows))
+    (joined-follows s t o (record { stops = none; sweeps = omega (arith, same) }))
+
+condition-follows : (condition : Condition) (s : State) (o : Order) → Follows s (come_under condition s o)
+condition-follows Plain s o = come-follows s s o (λ none. none) refl
+condition-follows Ioc s o = swept-follows s s o (λ none. none) refl
+condition-follows Fok s o = follows_if s (is_fillable (sweep_of s o)) (come s o) s (come-follows s s o (λ none. none) refl) (same-follows s)
+
+changed-follows : (s : State) (quantity : ℕ) (limit : Option ℕ) (found : Option Order) → Follows s (changed s quantity limit found)
+changed-follows s quantity limit None = same-follows s
+changed-follows s quantity limit (Some o) =
     let again = changed_order quantity limit o in
-    let rest = cancelled s o.member o.reference in
     follows_if s (keeps_priority quantity limit o) (reduced s quantity o) (replaced s o again)
     (record { stops = λ none. none; sweeps = omega arith })
-    (rw (replaced-joins s o again outside) (joined-follows s rest again (cancelled-follows s o.member o.reference)))
+    (come-follows s (cancelled s o.member o.reference) again (λ none. rw none refl) refl)
 
 in-phase : (s : State) (phase : Phase) → Follows s (record s { phase = phase })
 in-phase s phase = record { stops = λ none. none; sweeps = omega arith }
@@ -129,50 +114,62 @@ uncrossed-follows s Continuous = same-follows s
 uncrossed-follows s PostTrading = same-follows s
 uncrossed-follows s Ended = same-follows s
 
-pub act-follows : (s : State) (c : Command) → is_served s.phase c ≡ true → refusal_of s c ≡ None → Follows s (act s c)
-act-follows s (Enter member reference side k quantity v r condition) served h =
-    rw (entry-joins s member reference side k quantity v r condition served h) (joined-follows s s (entered_order member reference side k quantity v r) (same-follows s))
-act-follows s (Change member reference quantity limit) served h =
-    changed-follows s quantity limit (find (is_named member reference) s.orders) (change-outside s member reference quantity limit served)
-act-follows s (Cancel member reference) served h = cancelled-follows s member reference
-act-follows s (CancelAll member) served h = record { stops = λ none. rw none refl; sweeps = omega arith }
-act-follows s StartOpening served h = in-phase s (Call Opening Ordinary)
-act-follows s StartIntraday served h = in-phase s (Call Intraday Ordinary)
-act-follows s StartClosing served h = in-phase s (Call Closing Ordinary)
-act-follows s Uncross served h = uncrossed-follows s s.phase
-act-follows s EndDay served h = record { stops = λ none. rw none refl; sweeps = omega arith }
+pub act-follows : (s : State) (c : Command) → is_served c ≡ true → Follows s (act s c)
+act-follows s (Enter member reference side k quantity v r condition) served =
+    rw (entry-comes s member reference side k quantity v r condition served) (condition-follows condition s (entered_order member reference side k quantity v r))
+act-follows s (Change member reference quantity limit) served = changed-follows s quantity limit (find (is_named member reference) s.orders)
+act-follows s (Cancel member reference) served = record { stops = λ none. rw none refl; sweeps = omega arith }
+act-follows s (CancelAll member) served = record { stops = λ none. rw none refl; sweeps = omega arith }
+act-follows s StartOpening served = in-phase s (Call Opening Ordinary)
+act-follows s StartIntraday served = in-phase s (Call Intraday Ordinary)
+act-follows s StartClosing served = in-phase s (Call Closing Ordinary)
+act-follows s Uncross served = uncrossed-follows s s.phase
+act-follows s EndDay served = record { stops = λ none. rw none refl; sweeps = omega arith }
 
 -- ---- what it trades comes after the trades before it
 
 abbrev AddsAny : State → State → Type 0
 AddsAny s t = Adds (λ _. Unit {0}) s t
 
-adds_if : (s : State) (b : Bool) (t u : State) → t.trades ≡ s.trades → u.trades ≡ s.trades → (if b then t else u).trades ≡ s.trades
+untraded : (s t : State) → t.trades ≡ s.trades → AddsAny s t
+untraded s t same = adds_none (λ _. Unit {0}) s t same
+
+adds_if : (s : State) (b : Bool) (t u : State) → AddsAny s t → AddsAny s u → AddsAny s (if b then t else u)
 adds_if s true t u h i = h
 adds_if s false t u h i = i
 
-abbrev pub is_uncross : Command → Bool
-is_uncross Uncross = true
-is_uncross _ = false
+joined-adds : (s t : State) (o : Order) → AddsAny s t → AddsAny s (joined t o)
+joined-adds s t o a = record { more = a.more; trades = a.trades; each = a.each }
 
-changed-untraded : (s : State) (quantity : ℕ) (limit : Option ℕ) (found : Option Order) → IsOutsideContinuousTrading s → (changed s quantity limit found).trades ≡ s.trades
-changed-untraded s quantity limit None outside = refl
-changed-untraded s quantity limit (Some o) outside =
+swept-adds : (s t : State) (o : Order) → t.trades ≡ s.trades → AddsAny s (swept t o)
+swept-adds s t o same =
+    let made = sweep_trades (t.sweeps + 1) (sweep_of t o) in
+    record { more = made; trades = ap (λ (ts : List Trade). ts ++ made) same; each = λ k d l. tt }
+
+come-adds : (s t : State) (o : Order) → t.trades ≡ s.trades → AddsAny s (come t o)
+come-adds s t o same =
+    let rest = rest_after (sweep_of t o) in
+    let left = record o { rest = rest } in
+    let adds = swept-adds s t o same in
+    adds_if s (is_continuous t.phase && is_free o.restriction) (if rest == 0 then swept t o else joined (swept t o) left) (joined t o)
+    (adds_if s (rest == 0) (swept t o) (joined (swept t o) left) adds (joined-adds s (swept t o) left adds))
+    (untraded s (joined t o) same)
+
+condition-adds : (condition : Condition) (s : State) (o : Order) → AddsAny s (come_under condition s o)
+condition-adds Plain s o = come-adds s s o refl
+condition-adds Ioc s o = swept-adds s s o refl
+condition-adds Fok s o = adds_if s (is_fillable (sweep_of s o)) (come s o) s (come-adds s s o refl) (untraded s s refl)
+
+entered-adds : (s : State) (condition : Condition) (trigger : Option ℕ) (o : Order) → AddsAny s (entered s condition trigger o)
+entered-adds s condition None o = condition-adds condition s o
+entered-adds s condition (Some trigger) o = untraded s (entered s condition (Some trigger) o) refl
+
+changed-adds : (s : State) (quantity : ℕ) (limit : Option ℕ) (found : Option Order) → AddsAny s (changed s quantity limit found)
+changed-adds s quantity limit None = untraded s s refl
+changed-adds s quantity limit (Some o) =
     let again = changed_order quantity limit o in
-    adds_if s (keeps_priority quantity limit o) (reduced s quantity o) (replaced s o again) refl (ap (λ (t : State). t.trades) (replaced-joins s o again outside))
-
--- no other command trades
-pub act-untraded : (s : State) (c : Command) → is_uncross c ≡ false → is_served s.phase c ≡ true → refusal_of s c ≡ None → (act s c).trades ≡ s.trades
-act-untraded s (Enter member reference side k quantity v r condition) other served h = ap (λ (t : State). t.trades) (entry-joins s member reference side k quantity v r condition served h)
-act-untraded s (Change member reference quantity limit) other served h =
-    changed-untraded s quantity limit (find (is_named member reference) s.orders) (change-outside s member reference quantity limit served)
-act-untraded s (Cancel member reference) other served h = refl
-act-untraded s (CancelAll member) other served h = refl
-act-untraded s StartOpening other served h = refl
-act-untraded s StartIntraday other served h = refl
-act-untraded s StartClosing other served h = refl
-act-untraded s Uncross other served h = absurd (cc)
-act-untraded s EndDay other served h = refl
+    adds_if s (keeps_priority quantity limit o) (reduced s quantity o) (replaced s o again) (untraded s (reduced s quantity o) refl)
+    (come-adds s (cancelled s o.member o.reference) again refl)
 
 uncrossed-adds : (s : State) (phase : Phase) → AddsAny s (uncrossed s phase)
 uncrossed-adds s (Call auction stage) = end_adds (λ _. Unit {0}) s auction stage (auction_price (Call auction stage) s.orders (ref1 s)) (each (auction_price (Call auction stage) s.orders (ref1 s)))
@@ -180,27 +177,28 @@ uncrossed-adds s (Call auction stage) = end_adds (λ _. Unit {0}) s auction stag
     each : (o : Option (ℕ × ℕ)) → IfSome o (λ priced. (t : Trade) → IsOfCall (call_of s auction stage priced) t → Unit {0})
     each None = tt
     each (Some priced) = λ t h. tt
-uncrossed-adds s PreTrading = adds_none (λ _. Unit {0}) s s refl
-uncrossed-adds s Continuous = adds_none (λ _. Unit {0}) s s refl
-uncrossed-adds s PostTrading = adds_none (λ _. Unit {0}) s s refl
-uncrossed-adds s Ended = adds_none (λ _. Unit {0}) s s refl
+uncrossed-adds s PreTrading = untraded s s refl
+uncrossed-adds s Continuous = untraded s s refl
+uncrossed-adds s PostTrading = untraded s s refl
+uncrossed-adds s Ended = untraded s s refl
 
-act-adds : (s : State) (c : Command) (b : Bool) → is_uncross c ≡ b → is_served s.phase c ≡ true → refusal_of s c ≡ None → AddsAny s (act s c)
-act-adds s Uncross true e served h = uncrossed-adds s s.phase
-act-adds s _ true e served h = absurd (cc)
-act-adds s c false e served h = adds_none (λ _. Unit {0}) s (act s c) (act-untraded s c e served h)
+act-adds : (s : State) (c : Command) → AddsAny s (act s c)
+act-adds s (Enter member reference side k quantity v r condition) = entered-adds s condition (trigger_of k) (entered_order member reference side k quantity v r)
+act-adds s (Change member reference quantity limit) = changed-adds s quantity limit (find (is_named member reference) s.orders)
+act-adds s Uncross = uncrossed-adds s s.phase
+act-adds s c = untraded s (act s c) refl
 
-pub act-trades : (s : State) (c : Command) → is_served s.phase c ≡ true → refusal_of s c ≡ None → (act s c).trades ≡ s.trades ++ new_trades s (act s c)
-act-trades s c served h = new_trades_follow (λ _. Unit {0}) s (act s c) (act-adds s c (is_uncross c) refl served h)
+pub act-trades : (s : State) (c : Command) → (act s c).trades ≡ s.trades ++ new_trades s (act s c)
+act-trades s c = new_trades_follow (λ _. Unit {0}) s (act s c) (act-adds s c)
 
 -- with no stop held, nothing is settled after it
 pub step-counted : (s : State) (c : Command) → HoldsNoStops (act s c) → step s c ≡ record (act s c) { accepted = s.accepted + 1 }
 unfolding step
 step-counted s c none = ap (λ (t : State). record t { accepted = s.accepted + 1 }) (settle-none (act s c) none)
 
-pub step-no_stops : (s : State) (c : Command) → is_served s.phase c ≡ true → refusal_of s c ≡ None → HoldsNoStops s → HoldsNoStops (step s c)
-step-no_stops s c served h none =
-    let stops = (act-follows s c served h).stops none in
+pub step-no_stops : (s : State) (c : Command) → is_served c ≡ true → HoldsNoStops s → HoldsNoStops (step s c)
+step-no_stops s c served none =
+    let stops = (act-follows s c served).stops none in
     ap (λ (t : State). t.stops) (step-counted s c stops) ∙ stops
 
 -- the parts of a reply

@@ -1,9 +1,10 @@
 -- How much the trades of a call come to.
-use Rattle.std.proofs.Common.{◌≡◌, ℕ, ◌+◌, ◌*◌, ◌-◌, ◌≤◌, min, max, Bool, true, false, if◌then◌else◌, List, [], ◌∷◌, get_or, All, IfSome, Some, None, sym, ap, ◌∙◌, arith}
+use Rattle.std.proofs.Common.{◌≡◌, ℕ, ◌+◌, ◌*◌, ◌-◌, ◌≤◌, min, max, Bool, true, false, if◌then◌else◌, List, [], ◌∷◌, get_or, length, All, IfSome, Some, None, sym, ap, ◌∙◌, arith}
 use Rattle.std.specs.List.{filter_map, flat_map}
 use Rattle.std.specs.Prelude.{nat_lt}
 use Rattle.std.proofs.lemmas.List.Elements.{All-nil, All-cons, All-head, All-tail, All-append, All-filter}
 use Rattle.std.proofs.Math.Nat.{mul-zero}
+use Rattle.std.proofs.lemmas.Nat.{mul-le}
 use Rattle.std.proofs.lemmas.List.Sums.{sum_by-cons}
 use Rattle.xm_rules.specs.Active.{Positioned, is_active_on, positioned_from}
 use Rattle.xm_rules.specs.Allotment.{Uncrossing, auction_trades, end_unit, first_unit, parties, side_queue, takes_part, trade_of_pair, traded_units}
@@ -14,6 +15,7 @@ use Rattle.xm_rules.specs.declared.orders.Side.TheVariants.{Buy, Sell}
 use Rattle.xm_rules.specs.declared.orders.Trade.{Trade}
 use Rattle.xm_rules.specs.declared.orders.TradeKind.TheVariants as made
 use Rattle.xm_rules.specs.declared.phases.Phase.TheVariants.{Call}
+use Rattle.xm_ticks.specs.declared.numbers.TheConstants.{MAX_PRICE, MAX_QUANTITY}
 use Rattle.xm_rules.proofs.CallTrades.{All-filter_map, All-in_order}
 
 abbrev HasRest : ℕ → Positioned → Type 0
@@ -66,3 +68,17 @@ money_at p (t ∷ ts) h =
   where
     distributes : (p q r : ℕ) → p * (q + r) ≡ p * q + p * r
     distributes p q r = omega arith
+
+-- trades whose quantities are in range, and those whose prices are
+pub quantity_within : (ts : List Trade) → All (λ (t : Trade). t.quantity ≤ MAX_QUANTITY) ts → total_quantity ts ≤ 1000000 * length ts
+quantity_within [] h = omega arith
+quantity_within (t ∷ ts) h =
+    let first : t.quantity ≤ 1000000 = All-head (λ (t : Trade). t.quantity ≤ MAX_QUANTITY) t ts h in
+    omega (arith, first, quantity_within ts (All-tail (λ (t : Trade). t.quantity ≤ MAX_QUANTITY) t ts h), sum_by-cons (λ (t : Trade). t.quantity) t ts)
+
+pub money_within : (ts : List Trade) → All (λ (t : Trade). t.price ≤ MAX_PRICE) ts → total_money ts ≤ 1000000 * total_quantity ts
+money_within [] h = omega arith
+money_within (t ∷ ts) h =
+    let first : t.price ≤ 1000000 = All-head (λ (t : Trade). t.price ≤ MAX_PRICE) t ts h in
+    let one : t.price * t.quantity ≤ 1000000 * t.quantity = mul-le t.price t.quantity 1000000 t.quantity first (omega arith) in
+    omega (arith, one, money_within ts (All-tail (λ (t : Trade). t.price ≤ MAX_PRICE) t ts h), sum_by-cons money_of t ts, sum_by-cons (λ (t : Trade). t.quantity) t ts)

@@ -195,14 +195,12 @@ impl Command {
         }
     }
 
-    /// Whether a desk serves the command in this phase. Today it serves orders, but no stops, and
-    /// their changes outside continuous trading, cancellations, and the commands of the phases.
-    pub fn is_served(&self, phase: Phase) -> bool
-        ensures { result ≡ is_served phase self.now }
+    /// Whether a desk serves the command. Today it serves all but the entries of stops.
+    pub fn is_served(&self) -> bool
+        ensures { result ≡ is_served self.now }
     {
         match self {
-            Command::Enter { kind, .. } => !phase.is_continuous() && !kind.is_stop(),
-            Command::Change { .. } => !phase.is_continuous(),
+            Command::Enter { kind, .. } => !kind.is_stop(),
             _ => true,
         }
     }

@@ -7,7 +7,7 @@ use Rattle.xm_desk.proofs.Changing.{change-finds, copied-some, kept-change, repl
 use Rattle.xm_desk.proofs.Hands.{filter-shorter}
 use Rattle.xm_desk.proofs.Named.{any-left_out, find-named}
 use Rattle.xm_desk.specs.Settled.{Unsettled}
-use Rattle.xm_desk.specs.declared.unsettled.Hand.TheVariants.{Joined}
+use Rattle.xm_desk.specs.declared.unsettled.Hand.TheVariants.{Played}
 use Rattle.xm_rules.proofs.Accepted.{accepted-below, change-accepted}
 use Rattle.xm_rules.specs.Orders.{is_named, removed, with_rest}
 use Rattle.xm_rules.specs.Settling.{come}
@@ -95,10 +95,10 @@ returns-else-keeps_priority g c =
     let comes : List Order → Order → Unsettled = λ orders x. record {
       state = come (record { settings = u.settings; accepted = u.accepted; phase = u.phase; orders = orders; stops = []; trades = u.tape.trades; sweeps = u.sweeps }) x;
       pending = [];
-      hand = Joined;
+      hand = Played;
       room = u.tape.room;
     } in
-    let replaces : Unsettled → Unsettled = λ w. record w { state = come (record w.state { orders = removed c.args.member c.args.reference w.state.orders }) (changed_order c.args.quantity c.args.limit o); hand = Joined } in
+    let replaces : Unsettled → Unsettled = λ w. record w { state = come (record w.state { orders = removed c.args.member c.args.reference w.state.orders }) (changed_order c.args.quantity c.args.limit o); hand = Played } in
     c.come.ensures
     ∙ ap (λ (l : TimeList). comes l.orders c.changed_order.result) c.remove.ensures.left
     ∙ ap (λ (x : Order). comes (removed c.args.member c.args.reference u.book.orders) x) again

@@ -2,7 +2,7 @@ use Rattle.std.proofs.Common.{◌≡◌, ◌∙◌, ap, sym, rules}
 use Rattle.xm_desk.proofs.Entering.{entry-passes}
 use Rattle.xm_desk.specs.Entries.{command_of, order_in}
 use Rattle.xm_desk.specs.Settled.{Unsettled}
-use Rattle.xm_desk.specs.declared.unsettled.Hand.TheVariants.{Joined}
+use Rattle.xm_desk.specs.declared.unsettled.Hand.TheVariants.{Played}
 use Rattle.xm_rules.specs.Settling.{come}
 use Rattle.xm_rules.specs.State.{State}
 use Rattle.xm_rules.proofs.Accepted.{accepted-below}
@@ -29,7 +29,7 @@ pub returns : goal.returns
 returns g c =
     let s = c.args.self.now.state in
     let e = c.args.entry.now in
-    let comes : c.come.new.self ≡ record c.args.self.now { state = come s (order_in e); hand = Joined } = search rules in
+    let comes : c.come.new.self ≡ record c.args.self.now { state = come s (order_in e); hand = Played } = search rules in
     let outside = entry-outside s e.member e.reference e.side e.kind e.quantity e.validity e.restriction e.condition c.requires.served in
     let same = come-joins s (order_in e) outside ∙ sym (entry-joins s e.member e.reference e.side e.kind e.quantity e.validity e.restriction e.condition c.requires.served c.requires.lawful) in
-    comes ∙ ap (λ (t : State). let u : Unsettled = record c.args.self.now { state = t; hand = Joined } in u) same
+    comes ∙ ap (λ (t : State). let u : Unsettled = record c.args.self.now { state = t; hand = Played } in u) same
