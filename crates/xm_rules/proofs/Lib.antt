@@ -16,6 +16,7 @@ pub mod Queues
 pub mod Remaining
 pub mod Served
 pub mod Sums
+pub mod SweepSizes
 pub mod Sweeps
 pub mod TimeLists
 pub mod TradeSizes
