@@ -37,28 +37,18 @@ fewer-orders u =
       placed_length 0 u.orders,
     )
 
-in_range : (rest : ℕ) → is_in_range rest ≡ true → rest ≤ 1000000
+pub in_range : (rest : ℕ) → is_in_range rest ≡ true → rest ≤ 1000000
 in_range rest h = grind (arith, nat_tests)
 
 -- its trades are few
-pub few-trades : (u : Uncrossing) (number room : ℕ) → u.volume ≤ volume (Call u.auction u.stage) u.orders u.price → u.price ≤ 1000000
-    → list_all (λ (o : Order). is_in_range o.rest) u.orders ≡ true → length u.orders ≤ 2000000 → room ≡ length u.orders → length (auction_trades number u) ≤ room
+pub few-trades : (u : Uncrossing) (number room : ℕ) → list_all (λ (o : Order). is_in_range o.rest) u.orders ≡ true → room ≤ 2000000 → length (auction_trades number u) ≤ room
     → AreFew (auction_trades number u)
-few-trades u number room within price rests orders full made =
-    let total = allotted_within number u (omega arith) (omega arith) in
-    let bound = accepting-bounded (Call u.auction u.stage) u.orders Buy u.price rests in
-    let at_price = All-weaker (IsOfCall u) (λ (t : Trade). t.price ≡ u.price) (λ t h. h.price) (auction_trades number u) (trades_of_call number u) in
+few-trades u number room rests few made =
     let small = All-weaker (λ (o : Order). is_in_range o.rest ≡ true) (λ (o : Order). o.rest ≤ 1000000) (λ o h. in_range o.rest h) u.orders (AllPass-from_list_all (λ (o : Order). is_in_range o.rest) u.orders rests) in
-    let quantity : u.volume ≤ 2000000000000 = omega arith in
-    record {
-      number = omega arith;
-      sized = trades_sized 1000000 number u small;
-      quantity = omega (arith, total);
-      money = omega (arith, money_at u.price (auction_trades number u) at_price, ap (λ (q : ℕ). u.price * q) total, mul-le u.price u.volume 1000000 2000000000000 price quantity);
-    }
+    record { number = omega (arith, made, few); sized = trades_sized 1000000 number u small }
 
 pub none-few : AreFew []
-none-few = record { number = omega arith; sized = λ k d l. absurd (omega arith); quantity = omega arith; money = omega arith }
+none-few = record { number = omega arith; sized = λ k d l. absurd (omega arith) }
 
 -- what a later list has more
 pub more-few : (old new made : List Trade) → new ≡ old ++ made → AreFew made → AreFew (drop (length old) new)

@@ -1,9 +1,10 @@
 -- The change of an order, where no stop is held: its checks, and what it leaves.
-use Rattle.std.proofs.Common.{◌≡◌, ◌∙◌, ℕ, Bool, true, false, ◌||◌, not, if◌then◌else◌, find, Option, Some, None, refl, ap, sym}
+use Rattle.std.proofs.Common.{◌≡◌, ◌∙◌, ℕ, Bool, true, false, ◌||◌, not, if◌then◌else◌, find, Option, Some, None, refl, ap, subst, sym, arith}
 use Rattle.std.specs.Prelude.{is_some}
 use Rattle.std.specs.List.{list_any}
-use Rattle.xm_desk.proofs.Named.{any-find, find-named}
-use Rattle.xm_rules.proofs.Accepted.{change-accepted}
+use Rattle.xm_desk.proofs.Hands.{filter-shorter}
+use Rattle.xm_desk.proofs.Named.{any-find, any-left_out, find-named}
+use Rattle.xm_rules.proofs.Accepted.{accepted-below, change-accepted}
 use Rattle.xm_rules.specs.Commands.{is_in_range}
 use Rattle.xm_rules.specs.Orders.{is_named}
 use Rattle.xm_rules.specs.Refusals.{first_failing, has_order, has_stop, is_given_in_range, is_limit_for_market, own_checks, refusal_of}
@@ -12,7 +13,9 @@ use Rattle.xm_rules.specs.State.{State}
 use Rattle.std.proofs.Common.{Bor, option_copied}
 use Rattle.std.specs.Option.{IsSome}
 use Rattle.xm_book.specs.Places.{place_of}
-use Rattle.xm_desk.specs.Growth.{keeping, place_of_change}
+use Rattle.xm_desk.specs.Growth.{FitsTrades, HasRoom, keeping, place_of_change}
+use Rattle.xm_desk.specs.Incoming.{CanComeIn}
+use Rattle.xm_desk.specs.Made.{IsCounted}
 use Rattle.xm_desk.specs.Settled.{Unsettled, played}
 use Rattle.xm_desk.specs.declared.unsettled.Hand.TheVariants.{Empty, Played, Kept}
 use Rattle.xm_rules.specs.Orders.{removed, with_rest}
@@ -88,3 +91,31 @@ replaced-hand v member reference quantity limit o found joins hand =
 pub copied-some : (r : Option (Bor Order)) (o : Option Order) → option_copied r ≡ o → is_some o ≡ true → IsSome r
 copied-some None o e h = let none : is_some o ≡ false = ap is_some (sym e) in cc
 copied-some (Some x) o e h = refl
+
+abbrev without : ℕ → ℕ → Unsettled → Unsettled
+without member reference v = record v { state = record v.state { orders = removed member reference v.state.orders } }
+
+module _ (v : Unsettled) (member reference quantity : ℕ) (limit : Option ℕ) (o : Order) (found : find (is_named member reference) v.state.orders ≡ Some o) (joins : keeps_priority quantity limit o ≡ false)
+  (hand : v.hand ≡ keeping (place_of_change quantity limit (find (is_named member reference) v.state.orders))) (lawful : refusal_of v.state (Change member reference quantity limit) ≡ None)
+  (room : HasRoom v.state (Change member reference quantity limit) v.room) (counted : IsCounted v.state) where
+  still_fits : FitsTrades v.state v.room → FitsTrades (without member reference v).state v.room
+  still_fits fits = record { enough = omega (arith, fits.enough, filter-shorter (λ (x : Order). not (is_named member reference x)) v.state.orders); few = fits.few }
+
+  can_come : CanComeIn (without member reference v) (changed_order quantity limit o)
+  can_come =
+      let name = find-named member reference v.state.orders o found in
+      let below = accepted-below v.state (Change member reference quantity limit) lawful in
+      record {
+        joins = record {
+          hand = replaced-hand v member reference quantity limit o found joins hand;
+          name = (λ i. list_any (is_named (name.member i) (name.reference i)) (removed member reference v.state.orders)) ∙ any-left_out (is_named member reference) v.state.orders;
+          rest = (change-accepted v.state member reference quantity limit lawful).quantity;
+          accepted = below;
+        };
+        room = λ continuous. still_fits (room continuous);
+        sweeps = omega (arith, counted.sweeps, below);
+      }
+
+  -- a changed order can come in again, once it has left
+  pub replaced-can-come : (t : Unsettled) (again : Order) → t ≡ without member reference v → again ≡ changed_order quantity limit o → CanComeIn t again
+  replaced-can-come t again after is = subst (λ (x : Order). CanComeIn t x) (sym is) (subst (λ (u : Unsettled). CanComeIn u (changed_order quantity limit o)) (sym after) can_come)

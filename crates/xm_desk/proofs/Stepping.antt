@@ -1,5 +1,5 @@
 -- A command is taken by what it does, by settling, and by counting it.
-use Rattle.std.proofs.Common.{◌≡◌, ◌∙◌, ℕ, ◌+◌, ◌≤◌, List, [], None, true, drop, length, ap, sym, subst, arith}
+use Rattle.std.proofs.Common.{◌≡◌, ◌∙◌, ℕ, ◌+◌, ◌≤◌, List, [], None, true, All, drop, length, ap, sym, subst, arith}
 use Rattle.std.proofs.lemmas.List.{length-append}
 use Rattle.std.proofs.lemmas.List.Elements.{All-append}
 use Rattle.xm_desk.specs.Made.{AreFew, AreSized, IsCounted}
@@ -7,9 +7,10 @@ use Rattle.xm_rules.proofs.Accepted.{accepted-below}
 use Rattle.xm_rules.proofs.Served.{act-follows, act-trades, reply-parts, step-counted}
 use Rattle.xm_rules.specs.Refusals.{refusal_of}
 use Rattle.xm_rules.specs.Served.{HoldsNoStops, is_served}
+use Rattle.xm_rules.proofs.TradeSizes.{money_within, quantity_within}
 use Rattle.xm_rules.specs.declared.orders.Trade.{Trade}
 use Rattle.xm_rules.specs.declared.settings.DeskSettings.{DeskSettings}
-use Rattle.xm_ticks.specs.declared.numbers.TheConstants.{MAX_QUANTITY}
+use Rattle.xm_ticks.specs.declared.numbers.TheConstants.{MAX_PRICE, MAX_QUANTITY}
 use Rattle.xm_desk.specs.Settled.{Unsettled, played}
 use Rattle.xm_rules.proofs.Kept.{act-keeps, settle-keeps, step-counts}
 use Rattle.xm_rules.specs.Settling.{settle}
@@ -37,14 +38,14 @@ settled-settings s command = (settle-keeps (act s command) []).settings ∙ (act
 
 -- ---- with no stop held
 
-pub step-trades : (s : State) (command : Command) → is_served s.phase command ≡ true → refusal_of s command ≡ None → HoldsNoStops s → (step s command).trades ≡ (act s command).trades
-step-trades s command served lawful none = ap (λ (t : State). t.trades) (step-counted s command ((act-follows s command served lawful).stops none))
+pub step-trades : (s : State) (command : Command) → is_served command ≡ true → HoldsNoStops s → (step s command).trades ≡ (act s command).trades
+step-trades s command served none = ap (λ (t : State). t.trades) (step-counted s command ((act-follows s command served).stops none))
 
-pub step-is-counted : (s : State) (command : Command) → is_served s.phase command ≡ true → refusal_of s command ≡ None → HoldsNoStops s → IsCounted s
+pub step-is-counted : (s : State) (command : Command) → is_served command ≡ true → refusal_of s command ≡ None → HoldsNoStops s → IsCounted s
     → AreFew (new_trades s (act s command)) → IsCounted (step s command)
 step-is-counted s command served lawful none counted few =
-    let follows = act-follows s command served lawful in
-    let trades = act-trades s command served lawful in
+    let follows = act-follows s command served in
+    let trades = act-trades s command in
     let made = new_trades s (act s command) in
     subst IsCounted (sym (step-counted s command (follows.stops none))) (record {
       accepted = omega (arith, accepted-below s command lawful, ap (λ (x : DeskSettings). x.limit) (act-keeps s command).settings);
@@ -66,7 +67,7 @@ pub record Steps (s : State) (command : Command) (n : State) (first : ℕ) : Typ
 
 pub steps : (u a t n : Unsettled) (s : State) (command : Command) (first : ℕ) → u.state ≡ s → u.pending ≡ [] → a ≡ record u { state = act u.state command; hand = played u.hand; room = a.room }
     → t ≡ record a { state = settle a.state a.pending; pending = [] } → n ≡ record t { state = record t.state { accepted = t.state.accepted + 1 }; hand = Empty }
-    → HoldsNoStops s → IsCounted u.state → is_served s.phase command ≡ true → refusal_of s command ≡ None → AreFew (new_trades u.state a.state) → first ≡ length u.state.trades
+    → HoldsNoStops s → IsCounted u.state → is_served command ≡ true → refusal_of s command ≡ None → AreFew (new_trades u.state a.state) → first ≡ length u.state.trades
     → Steps s command n.state first
 steps u a t n s command first before none acted settled counted no_stops was served lawful few first_is =
     let counts : State → State = λ x. record x { accepted = x.accepted + 1 } in
@@ -76,8 +77,8 @@ steps u a t n s command first before none acted settled counted no_stops was ser
     let made = new_trades s (act s command) in
     let few_made : AreFew made = subst AreFew (ap (λ (x : State). new_trades x a.state) before ∙ ap (λ (x : State). new_trades s x) is_acted) few in
     let first_here : first ≡ length s.trades = first_is ∙ ap (λ (x : State). length x.trades) before in
-    let trades : n.state.trades ≡ (act s command).trades = ap (λ (x : State). x.trades) after ∙ step-trades s command served lawful no_stops in
-    let follow = act-trades s command served lawful in
+    let trades : n.state.trades ≡ (act s command).trades = ap (λ (x : State). x.trades) after ∙ step-trades s command served no_stops in
+    let follow = act-trades s command in
     let replied : State → ℕ → Reply = λ x k. (let ts = drop k x.trades in
     let r : Reply = record { version = x.accepted; first_trade = k; trades = length ts; quantity = total_quantity ts; money = total_money ts; phase = x.phase } in
     r) in
@@ -88,3 +89,11 @@ steps u a t n s command first before none acted settled counted no_stops was ser
       counted = subst IsCounted (sym after) (step-is-counted s command served lawful no_stops (subst IsCounted before was) few_made);
       replied = ap (λ (x : State). replied x first) after ∙ ap (replied (step s command)) first_here ∙ sym (reply-parts s (step s command));
     }
+
+-- ---- what few trades come to
+
+pub few-quantity : (ts : List Trade) → AreFew ts → total_quantity ts ≤ 2000000000000
+few-quantity ts few = omega (arith, few.number, quantity_within ts few.sized)
+
+pub few-money : (ts : List Trade) → AreFew ts → All (λ (t : Trade). t.price ≤ MAX_PRICE) ts → total_money ts ≤ 2000000000000000000
+few-money ts few priced = omega (arith, few-quantity ts few, money_within ts priced)

@@ -1,14 +1,27 @@
 -- What a sweep leaves of a desk, and what it trades.
-use Rattle.std.proofs.Common.{◌≡◌, ℕ, ◌+◌, ◌-◌, Bool, true, false, ◌||◌, cond, List, [], ◌∷◌, All, filter, map, length, refl, ap, ◌∙◌}
+use Rattle.std.proofs.Common.{◌≡◌, ℕ, ◌+◌, ◌-◌, ◌≤◌, Bool, true, false, ◌||◌, cond, List, [], ◌∷◌, All, filter, map, length, get_or, refl, ap, ◌∙◌, arith}
 use Rattle.std.specs.List.{list_any}
 use Rattle.std.specs.Prelude.{nat_lt}
-use Rattle.std.proofs.lemmas.List.Elements.{All-map}
-use Rattle.xm_rules.proofs.CallTrades.{All-in_order}
+use Rattle.std.proofs.lemmas.Bool.Decides.{nat_tests}
+use Rattle.std.proofs.lemmas.List.Elements.{All-weaker}
+use Rattle.xm_desk.proofs.CallsEnd.{in_range}
+use Rattle.xm_desk.specs.Incoming.{CanJoin}
+use Rattle.xm_desk.specs.Made.{AreFew}
+use Rattle.xm_desk.specs.Settled.{Unsettled}
+use Rattle.xm_rules.specs.Refusals.{has_order}
+use Rattle.xm_rules.specs.Settling as settling
+use Rattle.xm_rules.specs.Settling.{swept}
+use Rattle.xm_rules.specs.Commands.{is_in_range}
+use Rattle.xm_ticks.specs.declared.numbers.TheConstants.{MAX_QUANTITY}
+use Rattle.xm_rules.proofs.SweepSizes.{each_sweep_trade, sweep_trades_sized}
 use Rattle.xm_rules.specs.Active.{Positioned, positioned_from}
 use Rattle.xm_rules.specs.Orders.{is_named, trade_between}
 use Rattle.xm_rules.specs.Priority.{without_units}
-use Rattle.xm_rules.specs.State.{is_auction}
-use Rattle.xm_rules.specs.Sweep.{Sweep, fill, meet_price, queue, sweep_trades, trade_with, units_before}
+use Rattle.xm_desk.specs.Tape.{TapeView, swept_by}
+use Rattle.xm_match.specs.Meeting.{sweep_of}
+use Rattle.xm_rules.specs.State.{is_auction, last_auction_price, last_price}
+use Rattle.xm_rules.specs.declared.settings.Widths.{Widths}
+use Rattle.xm_rules.specs.Sweep.{Sweep, fill, meet_price, queue, rest_after, sweep_trades}
 use Rattle.xm_rules.specs.declared.orders.Order.{Order}
 use Rattle.xm_rules.specs.declared.orders.Side.{Side}
 use Rattle.xm_rules.specs.declared.orders.Side.TheVariants.{Buy, Sell}
@@ -22,11 +35,8 @@ kind_between number price quantity Sell o i = refl
 -- no trade of a sweep is one of an auction
 pub of-no-auction : (number : ℕ) (w : Sweep) → All (λ (t : Trade). is_auction t.kind ≡ false) (sweep_trades number w)
 of-no-auction number w =
-    let filling = filter (λ (i : Positioned). nat_lt 0 (fill w i)) (queue w) in
-    let priced = λ (i : Positioned). (units_before w i, trade_with number w i) in
-    All-in_order (λ (t : Trade). is_auction t.kind ≡ false) (map priced filling)
-    (All-map (λ (x : ℕ × Trade). is_auction x.1.kind ≡ false) priced filling
-    (λ k d l. (let i = get_or filling k d in kind_between number (meet_price w i) (fill w i) w.incoming.side w.incoming i.order)))
+    each_sweep_trade (λ (t : Trade). is_auction t.kind ≡ false) number w
+    (λ k d l. (let i = get_or (queue w) k d in kind_between number (meet_price w i) (fill w i) w.incoming.side w.incoming i.order))
 
 left_if : (p : Order → Bool) (o : Order) (os : List Order) (b : Bool) → p o ≡ false → list_any p os ≡ false → list_any p (cond b (o ∷ os) os) ≡ false
 left_if p o os true e h = rw e h
@@ -48,3 +58,33 @@ unnamed_from m r k taken (o ∷ os) h =
 -- a name that no order had, none has afterwards
 pub unnamed-after : (m r : ℕ) (taken : Positioned → ℕ) (orders : List Order) → list_any (is_named m r) orders ≡ false → list_any (is_named m r) (without_units taken orders) ≡ false
 unnamed-after m r taken orders h = unnamed_from m r 0 taken orders h
+
+-- the sweep that a tape's prices make
+pub same-sweep : (t : TapeView) (last last_auction : ℕ) (orders : List Order) (incoming : Order) (widths : Widths) → last ≡ last_price t.opening t.trades → last_auction ≡ last_auction_price t.opening t.trades
+    → sweep_of orders incoming last last_auction widths ≡ swept_by t orders incoming widths
+same-sweep t last last_auction orders incoming widths e f = rw (e, f) refl
+
+-- few trades
+pub few-swept : (number room left : ℕ) (w : Sweep) → left + length (sweep_trades number w) ≡ room → room ≤ 2000000 → is_in_range w.incoming.rest ≡ true → AreFew (sweep_trades number w)
+few-swept number room left w made few rest =
+    let small = in_range w.incoming.rest rest in
+    record {
+      number = omega (arith, made, few);
+      sized = All-weaker (λ (t : Trade). t.quantity ≤ w.incoming.rest) (λ (t : Trade). t.quantity ≤ MAX_QUANTITY) (λ t h. omega (arith, h, small)) (sweep_trades number w) (sweep_trades_sized number w);
+    }
+
+some_left : (rest left : ℕ) → (left ≡ 0 → ⊥) → left ≤ rest → is_in_range rest ≡ true → is_in_range left ≡ true
+some_left rest left some within h = grind (arith, nat_tests)
+
+-- what rests of an order after its sweep can join, where it has units
+pub rest-can-join : (u t : Unsettled) (o : Order) (left : ℕ) → t ≡ record u { state = swept u.state o; room = t.room } → CanJoin u o → left ≡ rest_after (settling.sweep_of u.state o) → (left ≡ 0 → ⊥)
+    → CanJoin t (record o { rest = left })
+rest-can-join u t o left after can is some =
+    let w = settling.sweep_of u.state o in
+    let within : rest_after w ≤ o.rest = omega arith in
+    record {
+      hand = ap (λ (v : Unsettled). v.hand) after ∙ can.hand;
+      name = ap (λ (v : Unsettled). has_order v.state o.member o.reference) after ∙ unnamed-after o.member o.reference (fill w) u.state.orders can.name;
+      rest = some_left o.rest left some (omega (arith, is, within)) can.rest;
+      accepted = omega (arith, ap (λ (v : Unsettled). v.state.accepted) after, ap (λ (v : Unsettled). v.state.settings.limit) after, can.accepted);
+    }

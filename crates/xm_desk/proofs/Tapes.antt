@@ -1,29 +1,11 @@
--- The reference prices after one trade more, and after the trades of a call.
-use Rattle.std.proofs.Common.{◌≡◌, ℕ, ◌<◌, Bool, true, false, if◌then◌else◌, List, [], ◌∷◌, ◌++◌, All, length, cond, refl, ap, ◌∙◌, arith}
+-- The reference prices after the trades of a call, and of a sweep.
+use Rattle.std.proofs.Common.{◌≡◌, ℕ, ◌<◌, Bool, true, false, if◌then◌else◌, List, [], ◌∷◌, ◌++◌, All, Some, length, refl, ap, sym, ◌-◌, ◌∙◌, arith, append-nil}
+use Rattle.std.specs.List.{slice_get}
 use Rattle.std.specs.Prelude.{filter}
 use Rattle.std.proofs.lemmas.List.Elements.{All-head, All-tail, filter-append}
 use Rattle.xm_rules.specs.Sums.{total_quantity}
 use Rattle.xm_rules.specs.State.{is_auction, last_auction_price, last_price}
 use Rattle.xm_rules.specs.declared.orders.Trade.{Trade}
-
-pub last_price-push : (price : ℕ) (ts : List Trade) (t : Trade) → last_price price (ts ++ t ∷ []) ≡ t.price
-last_price-push price [] t = refl
-last_price-push price (x ∷ xs) t = last_price-push x.price xs t
-
-alone_if : (price : ℕ) (t : Trade) (b : Bool) → last_price price (cond b (t ∷ []) []) ≡ (if b then t.price else price)
-alone_if price t true = refl
-alone_if price t false = refl
-
-pushed_if : (price : ℕ) (x : Trade) (xs : List Trade) (t : Trade) (b : Bool)
-    → ((p : ℕ) → last_auction_price p (xs ++ t ∷ []) ≡ (if is_auction t.kind then t.price else last_auction_price p xs))
-    → last_price price (cond b (x ∷ filter (λ (y : Trade). is_auction y.kind) (xs ++ t ∷ [])) (filter (λ (y : Trade). is_auction y.kind) (xs ++ t ∷ [])))
-    ≡ (if is_auction t.kind then t.price else last_price price (cond b (x ∷ filter (λ (y : Trade). is_auction y.kind) xs) (filter (λ (y : Trade). is_auction y.kind) xs)))
-pushed_if price x xs t true more = more x.price
-pushed_if price x xs t false more = more price
-
-pub last_auction_price-push : (price : ℕ) (ts : List Trade) (t : Trade) → last_auction_price price (ts ++ t ∷ []) ≡ (if is_auction t.kind then t.price else last_auction_price price ts)
-last_auction_price-push price [] t = alone_if price t (is_auction t.kind)
-last_auction_price-push price (x ∷ xs) t = pushed_if price x xs t (is_auction x.kind) (λ p. last_auction_price-push p xs t)
 
 -- ---- after trades at one price
 last_of-all : (p price : ℕ) (t : Trade) (ts : List Trade) → All (λ (t : Trade). t.price ≡ p) (t ∷ ts) → last_price price (t ∷ ts) ≡ p
@@ -54,3 +36,25 @@ last_auction_price-all p price ts new some h kinds =
 pub some-trades : (ts : List Trade) → 0 < total_quantity ts → 0 < length ts
 some-trades [] h = absurd (omega arith)
 some-trades (t ∷ ts) h = omega arith
+
+none-of-auction : (ts : List Trade) → All (λ (t : Trade). of_auction t ≡ false) ts → filter of_auction ts ≡ []
+none-of-auction [] h = refl
+none-of-auction (t ∷ ts) h =
+    (λ i. if All-head (λ (t : Trade). of_auction t ≡ false) t ts h i then t ∷ filter of_auction ts else filter of_auction ts)
+    ∙ none-of-auction ts (All-tail (λ (t : Trade). of_auction t ≡ false) t ts h)
+
+-- ---- after trades of which none is an auction's
+pub last_auction_price-none : (price : ℕ) (ts new : List Trade) → All (λ (t : Trade). of_auction t ≡ false) new → last_auction_price price (ts ++ new) ≡ last_auction_price price ts
+last_auction_price-none price ts new h =
+    ap (last_price price) (filter-append of_auction ts new ∙ ap (λ (us : List Trade). filter of_auction ts ++ us) (none-of-auction new h) ∙ append-nil (filter of_auction ts))
+
+last_at : (price : ℕ) (u : Trade) (us : List Trade) (t : Trade) → slice_get (u ∷ us) (length us) ≡ Some t → t.price ≡ last_price price (u ∷ us)
+last_at price u [] t h = let same : u ≡ t = cc in sym (ap (λ (x : Trade). x.price) same)
+last_at price u (v ∷ vs) t h = last_at u.price v vs t h
+
+-- the last one of a list has the last price
+pub last_price-of : (price : ℕ) (ts : List Trade) (t : Trade) → slice_get ts (length ts - 1) ≡ Some t → t.price ≡ last_price price ts
+last_price-of price [] t h = cc
+last_price-of price (u ∷ us) t h =
+    let one : length (u ∷ us) - 1 ≡ length us = omega arith in
+    last_at price u us t (ap (slice_get (u ∷ us)) (sym one) ∙ h)

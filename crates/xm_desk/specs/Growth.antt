@@ -32,9 +32,14 @@ may_trade phase (Enter member reference side kind quantity validity restriction 
 may_trade phase (Change member reference quantity limit) = is_continuous phase
 may_trade phase _ = false
 
--- a command that may trade has room for as many trades as there are orders
+-- room for as many trades as there are orders, and for no more than any book has
+pub record FitsTrades (s : State) (room : ℕ) : Type 0 where
+  pub enough : length s.orders ≤ room
+  pub few : room ≤ 2000000
+
+-- a command that may trade has room for its trades
 abbrev pub HasRoom : State → Command → ℕ → Type 0
-HasRoom s command room = IsTrue (may_trade s.phase command) → length s.orders ≤ room
+HasRoom s command room = IsTrue (may_trade s.phase command) → FitsTrades s room
 
 -- the hand that keeps a place, where there is one
 abbrev pub keeping : Option Place → Hand

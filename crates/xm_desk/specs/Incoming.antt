@@ -1,6 +1,7 @@
 -- What an order relies on that comes in.
-use Rattle.std.specs.Prelude.{◌≡◌, ◌+◌, ◌<◌, ◌≤◌, false, length, IsTrue}
+use Rattle.std.specs.Prelude.{◌≡◌, ◌+◌, ◌<◌, false, IsTrue}
 use Rattle.xm_book.specs.Places.{place_of}
+use Rattle.xm_desk.specs.Growth.{FitsTrades}
 use Rattle.xm_desk.specs.Settled.{Unsettled}
 use Rattle.xm_desk.specs.declared.unsettled.Hand.TheVariants.{Kept}
 use Rattle.xm_rules.specs.Commands.{is_in_range}
@@ -16,8 +17,8 @@ pub record CanJoin (u : Unsettled) (o : Order) : Type 0 where
   pub rest : IsTrue (is_in_range o.rest)
   pub accepted : u.state.accepted < u.state.settings.limit + PHASE_COMMANDS_MORE
 
--- and where it may be executed there is a number for its sweep, and room for as many trades as there are orders
+-- and where it may be executed there is a number for its sweep, and room for its trades
 pub record CanComeIn (u : Unsettled) (o : Order) : Type 0 where
   pub joins : CanJoin u o
-  pub room : IsTrue (is_continuous u.state.phase) → length u.state.orders ≤ u.room
+  pub room : IsTrue (is_continuous u.state.phase) → FitsTrades u.state u.room
   pub sweeps : u.state.sweeps < u.state.settings.limit + PHASE_COMMANDS_MORE

@@ -1,7 +1,8 @@
 //! Calls, and the end of the day.
-ghost use Rattle.std.specs.Prelude.{◌≡◌, ◌+◌, ◌<◌, Some, length};
+ghost use Rattle.std.specs.Prelude.{◌≡◌, ◌+◌, ◌<◌, Some};
 ghost use Rattle.xm_auction.specs.Allotment.{uncrossing_of};
 ghost use Rattle.xm_desk.specs.Calls.{stage_after};
+ghost use Rattle.xm_desk.specs.Growth.{FitsTrades};
 ghost use Rattle.xm_desk.specs.Made.{AreFew};
 ghost use Rattle.xm_rules.specs.Auction.{auction_price};
 ghost use Rattle.xm_rules.specs.State.{ranges, ref1};
@@ -27,7 +28,7 @@ impl<A: Allocator + Copy> Unsettled<A> {
     /// The call ends: it trades at its price, where it has one that its stage lets it trade at. Outside a call nothing
     /// changes.
     pub fn uncross(&mut self)
-        requires room { self.old.room ≡ length self.old.state.orders }
+        requires room { FitsTrades self.old.state self.old.room }
         requires sweeps { self.old.state.sweeps < self.old.state.settings.limit + PHASE_COMMANDS_MORE }
         ensures uncrossed { self.new ≡ record self.old { state = uncrossed self.old.state self.old.state.phase; room = self.new.room } }
         ensures few { AreFew (new_trades self.old.state self.new.state) }
@@ -40,7 +41,7 @@ impl<A: Allocator + Copy> Unsettled<A> {
     /// The call of an auction ends in this stage.
     fn end_call(&mut self, auction: Auction, stage: CallStage)
         requires phase { self.old.state.phase ≡ Call auction stage }
-        requires room { self.old.room ≡ length self.old.state.orders }
+        requires room { FitsTrades self.old.state self.old.room }
         requires sweeps { self.old.state.sweeps < self.old.state.settings.limit + PHASE_COMMANDS_MORE }
         ensures uncrossed { self.new ≡ record self.old { state = uncrossed_at self.old.state auction stage (auction_price (Call auction stage) self.old.state.orders (ref1 self.old.state)); room = self.new.room } }
         ensures few { AreFew (new_trades self.old.state self.new.state) }
@@ -84,7 +85,7 @@ impl<A: Allocator + Copy> Unsettled<A> {
     /// A call trades its volume at its price, and ends.
     fn trade(&mut self, auction: Auction, stage: CallStage, price: Price, volume: u64)
         requires price { auction_price (Call auction stage) self.old.state.orders (ref1 self.old.state) ≡ Some (price, volume) }
-        requires room { self.old.room ≡ length self.old.state.orders }
+        requires room { FitsTrades self.old.state self.old.room }
         requires sweeps { self.old.state.sweeps < self.old.state.settings.limit + PHASE_COMMANDS_MORE }
         ensures traded { self.new ≡ record self.old {
           state = traded self.old.state (uncrossing_of auction stage self.old.state.orders price volume);

@@ -1,17 +1,20 @@
 //! Orders that come in.
-ghost use Rattle.std.specs.Prelude.{◌≡◌, IsTrue, None, false};
+ghost use Rattle.std.specs.Prelude.{◌≡◌, if◌then◌else◌, IsTrue, None};
 ghost use Rattle.xm_book.specs.Places.{place_of};
 ghost use Rattle.xm_desk.specs.Entries.{command_of, order_in};
 ghost use Rattle.xm_desk.specs.Growth.{HasRoom};
 ghost use Rattle.xm_desk.specs.Incoming.{CanComeIn, CanJoin};
 ghost use Rattle.xm_desk.specs.Made.{AreFew, IsCounted};
 ghost use Rattle.xm_desk.specs.declared.unsettled.Hand.TheVariants.{Kept, Played};
-ghost use Rattle.xm_rules.specs.Refusals.{has_order, refusal_of};
+ghost use Rattle.xm_rules.specs.Refusals.{refusal_of};
 ghost use Rattle.xm_rules.specs.Served.{is_served};
 ghost use Rattle.xm_rules.specs.Settling.{come, is_continuous, joined, sweep_of, swept};
 ghost use Rattle.xm_rules.specs.Step.{act, come_under, new_trades};
 ghost use Rattle.xm_rules.specs.Sweep.{is_fillable, rest_after};
 ghost use Rattle.xm_rules.specs.declared.commands.Condition.TheVariants.{Fok, Ioc};
+ghost use Rattle.xm_rules.specs.declared.phases.Auction.TheVariants.{Interruption};
+ghost use Rattle.xm_rules.specs.declared.phases.CallStage.TheVariants.{Interrupted};
+ghost use Rattle.xm_rules.specs.declared.phases.Phase.TheVariants.{Call};
 
 use crate::entries::Entry;
 use crate::unsettled::{Hand, Unsettled};
@@ -106,9 +109,7 @@ impl<A: Allocator + Copy> Unsettled<A> {
         let swept = self
             .tape
             .sweep(&mut self.book, order, self.sweeps, &widths);
-        if swept.interrupted {
-            self.phase = Phase::Call(Auction::Interruption, CallStage::Interrupted);
-        }
+        self.phase = phase_after(self.phase, swept.interrupted);
         swept.rest
     }
 
@@ -128,5 +129,16 @@ impl<A: Allocator + Copy> Unsettled<A> {
     {
         self.book.release(&place);
         self.hand = Hand::Played;
+    }
+}
+
+/// The phase after a sweep: one that is interrupted ends continuous trading.
+fn phase_after(phase: Phase, interrupted: bool) -> Phase
+    ensures { result ≡ (if interrupted then Call Interruption Interrupted else phase) }
+{
+    if interrupted {
+        Phase::Call(Auction::Interruption, CallStage::Interrupted)
+    } else {
+        phase
     }
 }

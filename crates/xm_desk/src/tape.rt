@@ -154,9 +154,17 @@ impl<A: Allocator> Tape<A> {
             widths,
             &mut self.trades,
         );
-        if let Some(trade) = self.trades.as_slice().last() {
-            self.last = trade.price;
-        }
+        self.last = last_price(self.trades.as_slice(), self.opening);
         swept
+    }
+}
+
+/// The price of the last of these trades, or another price where there is none.
+fn last_price(trades: &[Trade], before: Price) -> Price
+    ensures { result ≡ last_price before trades.now }
+{
+    match trades.last() {
+        None => before,
+        Some(trade) => trade.price,
     }
 }

@@ -29,16 +29,14 @@ invariant_of-self-2 g c =
     let took : c.step-reply.new.self.state ≡ step s command = search rules in
     let items : c.push_reserved.new.self.items ≡ more = cc in
     let passed : refusal_of s command ≡ None = search rules in
-    let asked : is_served (replay c.args.self.now).phase command ≡ true = search rules in
-    let before : s ≡ replay c.args.self.now = i.replayed ∙ ap replay c.self.view_is in
-    let served = subst (λ (t : State). is_served t.phase command ≡ true) (sym before) asked in
+    let served : is_served command ≡ true = search rules in
     let same : c.step-reply.new.self.state.settings ≡ s.settings = ap (λ (t : State). t.settings) took ∙ step-settings s command in
     let journal = ap (λ (settings : DeskSettings). journal_of settings more) (sym same) ∙ ap (λ (cs : List Command). journal_of c.step-reply.new.self.state.settings cs) (sym items) in
     record {
       replayed = took ∙ ap (λ (t : State). step t command) i.replayed ∙ sym (replay-push j command) ∙ ap replay journal;
       lawful = subst (λ (k : Journal). is_lawful k ≡ true) journal (is_lawful-push j command i.lawful (subst (λ (t : State). refusal_of t command ≡ None) i.replayed passed));
       hand = search rules;
-      no_stops = ap (λ (t : State). t.stops) took ∙ step-no_stops s command served passed i.no_stops;
+      no_stops = ap (λ (t : State). t.stops) took ∙ step-no_stops s command served i.no_stops;
     }
 
 pub returns-clause-journal : goal.returns-clause-journal

@@ -1,12 +1,16 @@
-use Rattle.std.proofs.Common.{◌≡◌, ◌∙◌, true, false, List, [], Some, find, rules, ap, sym, arith, length, not}
+use Rattle.std.proofs.Common.{◌≡◌, ◌∙◌, true, false, List, [], Some, find, rules, ap, sym, arith, drop, length, not, subst, ℕ}
 use Rattle.std.specs.Prelude.{nat_le}
 use Rattle.std.proofs.lemmas.Bool.{and_parts}
 use Rattle.std.proofs.lemmas.Bool.Decides.{nat_tests}
 use Rattle.xm_book.specs.TimeList.{TimeList}
-use Rattle.xm_desk.proofs.Changing.{change-finds, copied-some, kept-change, replaced-change}
+use Rattle.xm_desk.proofs.Changing.{change-finds, copied-some, kept-change, replaced-can-come, replaced-change}
 use Rattle.xm_desk.proofs.Hands.{filter-shorter}
 use Rattle.xm_desk.proofs.Named.{any-left_out, find-named}
-use Rattle.xm_desk.specs.Settled.{Unsettled}
+use Rattle.xm_desk.proofs.CallsEnd.{untraded-few}
+use Rattle.xm_desk.specs.Made.{AreFew}
+use Rattle.xm_desk.specs.Settled.{Unsettled, played}
+use Rattle.xm_rules.specs.Step.{changed}
+use Rattle.xm_rules.specs.declared.orders.Trade.{Trade}
 use Rattle.xm_desk.specs.declared.unsettled.Hand.TheVariants.{Played}
 use Rattle.xm_rules.proofs.Accepted.{accepted-below, change-accepted}
 use Rattle.xm_rules.specs.Orders.{is_named, removed, with_rest}
@@ -14,6 +18,7 @@ use Rattle.xm_rules.specs.Settling.{come}
 use Rattle.xm_rules.specs.Step.{changed_order, keeps_priority, same_limit}
 use Rattle.xm_rules.specs.declared.commands.Command.TheVariants.{Change}
 use Rattle.xm_rules.specs.declared.orders.Order.{Order}
+use Rattle.xm_desk.proofs.unsettled.Unsettled.change.Given.{Over}
 use Rattle.xm_desk.proofs.unsettled.Unsettled.change.Goals as goal
 
 pub unwrap-requires : goal.unwrap-requires
@@ -45,26 +50,24 @@ invariant_of-self-else-keeps_priority g c =
       few = omega (arith, ap (λ (l : TimeList). length l.orders) left, fewer, c.self.invariant.few);
     }
 
-pub come-requires-clause-name : goal.come-requires-clause-name
-come-requires-clause-name g c =
-    let orders = c.self.inside.book.orders in
+pub come-requires : goal.come-requires
+come-requires g c =
+    let v = c.args.self.now in
+    let u = c.self.inside in
     let o = c.unwrap.result.now in
-    let found : find (is_named c.args.member c.args.reference) orders ≡ Some o = search rules in
-    let name = find-named c.args.member c.args.reference orders o found in
-    let left = ap (λ (l : TimeList). l.orders) c.remove.ensures.left in
-    let again : c.changed_order.result ≡ changed_order c.args.quantity c.args.limit o = search rules in
-    rw (again, name.member, name.reference, left) (any-left_out (is_named c.args.member c.args.reference) orders)
-
-pub come-requires-clause-rest : goal.come-requires-clause-rest
-come-requires-clause-rest g c =
-    let ranged = (change-accepted c.args.self.now.state c.args.member c.args.reference c.args.quantity c.args.limit c.requires.lawful).quantity in
-    let again : c.changed_order.result ≡ changed_order c.args.quantity c.args.limit c.unwrap.result.now = search rules in
-    rw again (search (rules, ranged))
-
-pub come-requires-clause-room : goal.come-requires-clause-room
-come-requires-clause-room g c =
-    let below = accepted-below c.args.self.now.state (Change c.args.member c.args.reference c.args.quantity c.args.limit) c.requires.lawful in
-    rw (← c.self.view_is) at below
+    let found : find (is_named c.args.member c.args.reference) v.state.orders ≡ Some o = search rules in
+    let joins : keeps_priority c.args.quantity c.args.limit o ≡ false = search rules in
+    let view : List Order → Unsettled = λ orders. record {
+      state = record { settings = u.settings; accepted = u.accepted; phase = u.phase; orders = orders; stops = []; trades = u.tape.trades; sweeps = u.sweeps };
+      pending = [];
+      hand = u.hand;
+      room = u.tape.room;
+    } in
+    replaced-can-come v c.args.member c.args.reference c.args.quantity c.args.limit o found joins c.requires.hand c.requires.lawful c.requires.room c.requires.counted
+    (view c.remove.new.self.orders) c.changed_order.result
+    (ap (λ (l : TimeList). view l.orders) c.remove.ensures.left
+    ∙ ap (λ (w : Unsettled). record w { state = record w.state { orders = removed c.args.member c.args.reference w.state.orders } }) c.self.view_is)
+    c.changed_order.ensures
 
 pub returns-then-keeps_priority : goal.returns-then-keeps_priority
 returns-then-keeps_priority g c =
@@ -74,14 +77,23 @@ returns-then-keeps_priority g c =
     let found : find (is_named c.args.member c.args.reference) v.state.orders ≡ Some o = search rules in
     let keeps : keeps_priority c.args.quantity c.args.limit o ≡ true = search rules in
     let reduced : Unsettled → Unsettled = λ w. record w { state = record w.state { orders = with_rest c.args.member c.args.reference c.args.quantity w.state.orders } } in
-    ap (λ (l : TimeList). let w : Unsettled = record {
-      state = record { settings = u.settings; accepted = u.accepted; phase = u.phase; orders = l.orders; stops = []; trades = u.tape.trades; sweeps = u.sweeps };
-      pending = [];
-      hand = u.hand;
-      room = u.tape.room;
-    } in w) c.reduce.ensures.reduced
-    ∙ ap reduced c.self.view_is
-    ∙ kept-change v c.args.member c.args.reference c.args.quantity c.args.limit o found keeps c.requires.hand
+    record {
+      changed =
+        ap (λ (l : TimeList). let w : Unsettled = record {
+          state = record { settings = u.settings; accepted = u.accepted; phase = u.phase; orders = l.orders; stops = []; trades = u.tape.trades; sweeps = u.sweeps };
+          pending = [];
+          hand = u.hand;
+          room = u.tape.room;
+        } in w) c.reduce.ensures.reduced
+        ∙ ap reduced c.self.view_is
+        ∙ kept-change v c.args.member c.args.reference c.args.quantity c.args.limit o found keeps c.requires.hand
+        ∙ ap (λ (room : ℕ). let w : Unsettled = record v {
+          state = changed v.state c.args.quantity c.args.limit (find (is_named c.args.member c.args.reference) v.state.orders);
+          hand = played v.hand;
+          room = room;
+        } in w) (sym (ap (λ (w : Unsettled). w.room) c.self.view_is));
+      few = untraded-few v.state.trades u.tape.trades (ap (λ (w : Unsettled). w.state.trades) c.self.view_is);
+    }
 
 pub returns-else-keeps_priority : goal.returns-else-keeps_priority
 returns-else-keeps_priority g c =
@@ -92,15 +104,20 @@ returns-else-keeps_priority g c =
     let joins : keeps_priority c.args.quantity c.args.limit o ≡ false = search rules in
     let again : c.changed_order.result ≡ changed_order c.args.quantity c.args.limit o = search rules in
     let none = sym (ap (λ (w : Unsettled). w.state.stops) c.self.view_is) in
+    let room = c.come.new.self.room in
     let comes : List Order → Order → Unsettled = λ orders x. record {
       state = come (record { settings = u.settings; accepted = u.accepted; phase = u.phase; orders = orders; stops = []; trades = u.tape.trades; sweeps = u.sweeps }) x;
       pending = [];
       hand = Played;
-      room = u.tape.room;
+      room = room;
     } in
-    let replaces : Unsettled → Unsettled = λ w. record w { state = come (record w.state { orders = removed c.args.member c.args.reference w.state.orders }) (changed_order c.args.quantity c.args.limit o); hand = Played } in
-    c.come.ensures
-    ∙ ap (λ (l : TimeList). comes l.orders c.changed_order.result) c.remove.ensures.left
-    ∙ ap (λ (x : Order). comes (removed c.args.member c.args.reference u.book.orders) x) again
-    ∙ ap replaces c.self.view_is
-    ∙ replaced-change v c.args.member c.args.reference c.args.quantity c.args.limit o found joins c.requires.hand none
+    let replaces : Unsettled → Unsettled = λ w. record w { state = come (record w.state { orders = removed c.args.member c.args.reference w.state.orders }) (changed_order c.args.quantity c.args.limit o); hand = Played; room = room } in
+    record {
+      changed =
+        c.come.ensures.come
+        ∙ ap (λ (l : TimeList). comes l.orders c.changed_order.result) c.remove.ensures.left
+        ∙ ap (λ (x : Order). comes (removed c.args.member c.args.reference u.book.orders) x) again
+        ∙ ap replaces c.self.view_is
+        ∙ ap (λ (w : Unsettled). record w { room = room }) (replaced-change v c.args.member c.args.reference c.args.quantity c.args.limit o found joins c.requires.hand none);
+      few = subst (λ (ts : List Trade). AreFew (drop (length ts) c.come.new.self.state.trades)) (ap (λ (w : Unsettled). w.state.trades) c.self.view_is) c.come.ensures.few;
+    }

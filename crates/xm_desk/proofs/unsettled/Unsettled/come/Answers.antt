@@ -1,20 +1,6 @@
-use Rattle.std.proofs.Common.{◌≡◌, ◌∙◌, ap, rules}
-use Rattle.xm_book.specs.Places.{place_of}
-use Rattle.xm_desk.proofs.Hands.{kept-there}
-use Rattle.xm_desk.specs.Settled.{Unsettled, joined_in}
-use Rattle.xm_desk.specs.declared.unsettled.Hand.TheVariants.{Kept}
+use Rattle.xm_desk.proofs.Sweeping.{rest-can-join}
 use Rattle.xm_desk.proofs.unsettled.Unsettled.come.Goals as goal
 
-pub add-requires-clause-reserved : goal.add-requires-clause-reserved
-add-requires-clause-reserved g c =
-    let u = c.self.inside in
-    let hand : u.hand ≡ Kept (place_of c.args.order) = ap (λ (v : Unsettled). v.hand) c.self.view_is ∙ c.requires.hand in
-    kept-there u.book.reserved u.hand (place_of c.args.order) hand c.self.invariant.reserved
-
-pub add-requires-clause-adds : goal.add-requires-clause-adds
-add-requires-clause-adds g c =
-    let u = c.self.inside in
-    let hand : u.hand ≡ Kept (place_of c.args.order) = ap (λ (v : Unsettled). v.hand) c.self.view_is ∙ c.requires.hand in
-    let joined = ap joined_in hand in
-    let adds = c.self.invariant.adds in
-    search (rules, joined, adds)
+pub join-requires-else-rest-eq0 : goal.join-requires-else-rest-eq0
+join-requires-else-rest-eq0 g c =
+    rest-can-join c.args.self.now c.execute-rest.new.self c.args.order.now c.execute-rest.result c.execute-rest.ensures.swept c.requires.joins c.execute-rest.ensures.rest c.if-rest-eq0.false

@@ -39,9 +39,7 @@ returns-clause-few g c =
     let made = auction_trades (b.sweeps + 1) u in
     let orders : b.book.orders ≡ s.orders = ap (λ (v : Unsettled). v.state.orders) c.self.view_is in
     let trades : b.tape.trades ≡ s.trades = ap (λ (v : Unsettled). v.state.trades) c.self.view_is in
-    let room : b.tape.room ≡ length b.book.orders = ap (λ (v : Unsettled). v.room) c.self.view_is ∙ c.requires.room ∙ ap (λ (os : List Order). length os) (sym orders) in
-    let executable : volume (Call c.args.auction c.args.stage) b.book.orders c.args.price ≡ c.args.volume =
-    ap (λ (os : List Order). volume (Call c.args.auction c.args.stage) os c.args.price) orders ∙ volume_at_price (Call c.args.auction c.args.stage) s.orders (ref1 s) c.args.price c.args.volume c.requires.price in
+    let room : b.tape.room ≡ c.args.self.now.room = ap (λ (v : Unsettled). v.room) c.self.view_is in
     let book = c.len.ensures.book in
     more-few s.trades c.allot.new.self.trades made (ap (λ (t : TapeView). t.trades) c.allot.ensures.trades ∙ ap (λ (ts : List Trade). ts ++ made) trades)
-    (few-trades u (b.sweeps + 1) b.tape.room (omega (arith, executable)) (search rules) book.rests (omega (arith, book.within)) room c.allot.ensures.number)
+    (few-trades u (b.sweeps + 1) b.tape.room book.rests (omega (arith, room, c.requires.room.few)) c.allot.ensures.number)
