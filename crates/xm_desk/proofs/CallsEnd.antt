@@ -1,26 +1,19 @@
 -- What the end of a call leaves of a desk, and what it trades.
-use Rattle.std.proofs.Common.{◌≡◌, ℕ, ◌+◌, ◌-◌, ◌*◌, ◌≤◌, true, List, [], ◌∷◌, ◌++◌, drop, length, map, refl, sym, ap, subst, ◌∙◌, arith, append-nil, drop_at}
+use Rattle.std.proofs.Common.{◌≡◌, ℕ, ◌+◌, ◌-◌, ◌≤◌, true, List, [], ◌∷◌, ◌++◌, drop, length, map, refl, sym, ap, subst, ◌∙◌, arith, append-nil, drop_at}
 use Rattle.std.specs.List.{list_all}
 use Rattle.std.specs.Prelude.{nat_lt}
 use Rattle.std.proofs.lemmas.Bool.Decides.{nat_tests}
-use Rattle.std.proofs.lemmas.Nat.{mul-le}
 use Rattle.std.proofs.lemmas.List.{length-map}
 use Rattle.std.proofs.lemmas.List.Elements.{All-weaker}
 use Rattle.std.proofs.lemmas.List.Sums.{AllPass-from_list_all}
-use Rattle.xm_auction.proofs.Curves.{accepting-bounded}
 use Rattle.xm_desk.proofs.Hands.{filter-shorter}
 use Rattle.xm_desk.specs.Made.{AreFew}
 use Rattle.xm_rules.specs.Active.{Positioned, positioned_from}
 use Rattle.xm_rules.specs.Allotment.{Uncrossing, allotted, auction_trades, orders_after_call}
-use Rattle.xm_rules.specs.Auction.{volume}
 use Rattle.xm_rules.specs.Commands.{is_in_range}
 use Rattle.xm_rules.specs.declared.orders.Order.{Order}
-use Rattle.xm_rules.specs.declared.orders.Side.TheVariants.{Buy}
 use Rattle.xm_rules.specs.declared.orders.Trade.{Trade}
-use Rattle.xm_rules.specs.declared.phases.Phase.TheVariants.{Call}
-use Rattle.xm_rules.proofs.Allotments.{allotted_within}
-use Rattle.xm_rules.proofs.CallTrades.{IsOfCall, trades_of_call}
-use Rattle.xm_rules.proofs.TradeSizes.{money_at, trades_sized}
+use Rattle.xm_rules.proofs.TradeSizes.{trades_sized}
 
 placed_length : (k : ℕ) (orders : List Order) → length (positioned_from k orders) ≡ length orders
 placed_length k [] = refl

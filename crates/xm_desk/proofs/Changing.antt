@@ -96,8 +96,8 @@ abbrev without : ℕ → ℕ → Unsettled → Unsettled
 without member reference v = record v { state = record v.state { orders = removed member reference v.state.orders } }
 
 module _ (v : Unsettled) (member reference quantity : ℕ) (limit : Option ℕ) (o : Order) (found : find (is_named member reference) v.state.orders ≡ Some o) (joins : keeps_priority quantity limit o ≡ false)
-  (hand : v.hand ≡ keeping (place_of_change quantity limit (find (is_named member reference) v.state.orders))) (lawful : refusal_of v.state (Change member reference quantity limit) ≡ None)
-  (room : HasRoom v.state (Change member reference quantity limit) v.room) (counted : IsCounted v.state) where
+    (hand : v.hand ≡ keeping (place_of_change quantity limit (find (is_named member reference) v.state.orders))) (lawful : refusal_of v.state (Change member reference quantity limit) ≡ None)
+    (room : HasRoom v.state (Change member reference quantity limit) v.room) (counted : IsCounted v.state) where
   still_fits : FitsTrades v.state v.room → FitsTrades (without member reference v).state v.room
   still_fits fits = record { enough = omega (arith, fits.enough, filter-shorter (λ (x : Order). not (is_named member reference x)) v.state.orders); few = fits.few }
 

@@ -1,6 +1,7 @@
 -- A command is taken by what it does, by settling, and by counting it.
-use Rattle.std.proofs.Common.{◌≡◌, ◌∙◌, ℕ, ◌+◌, ◌≤◌, List, [], None, true, All, drop, length, ap, sym, subst, arith}
+use Rattle.std.proofs.Common.{◌≡◌, ◌∙◌, ℕ, ◌+◌, ◌<◌, ◌≤◌, List, [], None, true, All, drop, length, ap, sym, subst, arith}
 use Rattle.std.proofs.lemmas.List.{length-append}
+use Rattle.std.proofs.lemmas.List.Sums.{sum_by-append}
 use Rattle.std.proofs.lemmas.List.Elements.{All-append}
 use Rattle.xm_desk.specs.Made.{AreFew, AreSized, IsCounted}
 use Rattle.xm_rules.proofs.Accepted.{accepted-below}
@@ -59,6 +60,7 @@ pub record Steps (s : State) (command : Command) (n : State) (first : ℕ) : Typ
   pub after : n ≡ step s command
   pub within : first ≤ length n.trades
   pub few : AreFew (drop first n.trades)
+  pub traded : total_quantity n.trades ≡ total_quantity s.trades + total_quantity (drop first n.trades)
   pub counted : IsCounted n
   pub replied :
       (let trades = drop first n.trades in
@@ -79,13 +81,17 @@ steps u a t n s command first before none acted settled counted no_stops was ser
     let first_here : first ≡ length s.trades = first_is ∙ ap (λ (x : State). length x.trades) before in
     let trades : n.state.trades ≡ (act s command).trades = ap (λ (x : State). x.trades) after ∙ step-trades s command served no_stops in
     let follow = act-trades s command in
+    let new_here : drop first n.state.trades ≡ made = ap (λ (k : ℕ). drop k n.state.trades) first_here ∙ ap (λ (ts : List Trade). drop (length s.trades) ts) trades in
     let replied : State → ℕ → Reply = λ x k. (let ts = drop k x.trades in
     let r : Reply = record { version = x.accepted; first_trade = k; trades = length ts; quantity = total_quantity ts; money = total_money ts; phase = x.phase } in
     r) in
     record {
       after = after;
       within = omega (arith, first_here, ap (λ (ts : List Trade). length ts) trades, ap (λ (ts : List Trade). length ts) follow, length-append s.trades made);
-      few = subst AreFew (sym (ap (λ (k : ℕ). drop k n.state.trades) first_here ∙ ap (λ (ts : List Trade). drop (length s.trades) ts) trades)) few_made;
+      few = subst AreFew (sym new_here) few_made;
+      traded =
+          ap total_quantity (trades ∙ follow) ∙ sum_by-append (λ (t : Trade). t.quantity) s.trades made
+          ∙ ap (λ (ts : List Trade). total_quantity s.trades + total_quantity ts) (sym new_here);
       counted = subst IsCounted (sym after) (step-is-counted s command served lawful no_stops (subst IsCounted before was) few_made);
       replied = ap (λ (x : State). replied x first) after ∙ ap (replied (step s command)) first_here ∙ sym (reply-parts s (step s command));
     }
@@ -97,3 +103,9 @@ few-quantity ts few = omega (arith, few.number, quantity_within ts few.sized)
 
 pub few-money : (ts : List Trade) → AreFew ts → All (λ (t : Trade). t.price ≤ MAX_PRICE) ts → total_money ts ≤ 2000000000000000000
 few-money ts few priced = omega (arith, few-quantity ts few, money_within ts priced)
+
+-- all trades of a desk come to a number of 64 bits, with those of a command more
+pub counted-quantity : (s : State) (more : List Trade) → IsCounted s → s.settings.limit ≤ 1000000 → AreFew more → total_quantity s.trades + total_quantity more < 18446744073709551616
+counted-quantity s more counted limit few =
+    let of_all = quantity_within s.trades counted.sized in
+    omega (arith, counted.number, counted.accepted, of_all, few-quantity more few)

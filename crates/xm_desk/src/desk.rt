@@ -3,7 +3,7 @@ ghost use Rattle.std.specs.Prelude.{◌≡◌, ◌≢◌, ◌≤◌, ◌++◌, �
 ghost use Rattle.xm_desk.specs.Opening.{open_fault};
 ghost use Rattle.xm_desk.specs.declared.tape.TheConstants.{MAX_TRADES};
 ghost use Rattle.xm_rules.specs.Refusals.{refusal_of};
-ghost use Rattle.xm_rules.specs.Quote.{indicative};
+ghost use Rattle.xm_rules.specs.Quote.{best_limit, indicative, quote};
 ghost use Rattle.xm_rules.specs.Served.{HoldsNoStops, is_served};
 ghost use Rattle.xm_rules.specs.State.{ref1, ref2};
 ghost use Rattle.xm_rules.specs.Step.{is_lawful, replay, reply};
@@ -14,7 +14,9 @@ use crate::opening::{OpenFault, open_fault};
 use std::alloc::Allocator;
 use std::marker::Model;
 use xm_names::Seed;
-use xm_rules::{Command, DeskSettings, Order, OutOfMemory, Phase, Refusal, Reply, Trade};
+use xm_rules::{
+    Command, DeskSettings, Order, OutOfMemory, Phase, Quote, Refusal, Reply, Side, Trade,
+};
 use xm_ticks::Price;
 
 /// One security. A clause sees it as its journal: the settings that it was opened with, and the
@@ -139,6 +141,20 @@ impl<A: Allocator + Copy> Desk<A> {
         ensures { result ≡ indicative (replay self.now) }
     {
         self.market.indicative()
+    }
+
+    /// The best limit of the active orders of a side, in ticks.
+    pub fn best(&self, side: Side) -> Option<Price>
+        ensures { result ≡ best_limit (replay self.now) side }
+    {
+        self.market.best(side)
+    }
+
+    /// What is shown of the security to those who watch it. It costs no pass over orders or trades.
+    pub fn quote(&self) -> Quote
+        ensures { result ≡ quote (replay self.now) }
+    {
+        self.market.quote()
     }
 
     /// The commands that the desk accepted. Each was lawful when it came.

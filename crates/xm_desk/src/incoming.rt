@@ -106,9 +106,7 @@ impl<A: Allocator + Copy> Unsettled<A> {
         let _ = (self.book.len(), self.settings.limit.get());
         self.sweeps += 1;
         let widths = self.settings.widths;
-        let swept = self
-            .tape
-            .sweep(&mut self.book, order, self.sweeps, &widths);
+        let swept = self.tape.sweep(&mut self.book, order, self.sweeps, &widths);
         self.phase = phase_after(self.phase, swept.interrupted);
         swept.rest
     }

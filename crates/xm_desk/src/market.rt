@@ -6,7 +6,7 @@ ghost use Rattle.xm_desk.specs.Opening.{are_widths};
 ghost use Rattle.xm_desk.specs.Settled.{places_in};
 ghost use Rattle.xm_desk.specs.declared.tape.TheConstants.{MAX_TRADES};
 ghost use Rattle.xm_desk.specs.declared.unsettled.Hand.TheVariants.{Empty};
-ghost use Rattle.xm_rules.specs.Quote.{indicative};
+ghost use Rattle.xm_rules.specs.Quote.{best_limit, indicative, quote};
 ghost use Rattle.xm_rules.specs.Refusals.{refusal_of};
 ghost use Rattle.xm_rules.specs.Served.{is_served};
 ghost use Rattle.xm_rules.specs.State.{opening, ref1, ref2};
@@ -22,8 +22,8 @@ use xm_auction::auction_price;
 use xm_book::Book;
 use xm_names::Seed;
 use xm_rules::{
-    Command, DeskSettings, Order, OutOfMemory, Phase, Refusal, Reply, Trade, total_money,
-    total_quantity,
+    Command, DeskSettings, Order, OutOfMemory, Phase, Quote, Refusal, Reply, Side, Trade,
+    total_money, total_quantity,
 };
 use xm_ticks::Price;
 
@@ -31,12 +31,15 @@ use xm_ticks::Price;
 #[derive(Drop)]
 pub struct Market<A: Allocator + Copy> {
     inside: Unsettled<A>,
+    // The units of all trades.
+    quantity: u64,
 }
 
 impl<A: Allocator + Copy> Model for Market<A> {
     ghost use Rattle.std.specs.Prelude.{◌≡◌, []};
     ghost use Rattle.xm_desk.specs.Made.{IsCounted};
     ghost use Rattle.xm_desk.specs.Settled.{Settled};
+    ghost use Rattle.xm_rules.specs.Sums.{total_quantity};
 
     ghost Value = { Settled };
 
@@ -45,6 +48,7 @@ impl<A: Allocator + Copy> Model for Market<A> {
     ghost invariant = { λ m. record {
       pending : m.inside.pending ≡ [];
       counted : IsCounted m.inside.state;
+      quantity : m.quantity ≡ total_quantity m.inside.state.trades;
     } };
 }
 
@@ -64,6 +68,7 @@ impl<A: Allocator + Copy> Market<A> {
                 sweeps: 0,
                 hand: Hand::Empty,
             },
+            quantity: 0,
         }
     }
 
@@ -102,11 +107,14 @@ impl<A: Allocator + Copy> Market<A> {
         ensures state { self.new ≡ record { state = step self.old.state command.now; hand = Empty; room = self.new.room } }
         ensures reply { result ≡ reply self.old.state (step self.old.state command.now) }
     {
+        let _ = self.inside.settings.limit.get(); // The range of the limit is known where it is asked for.
         let first_trade = self.inside.tape.len();
         self.inside.act(command);
         self.inside.settle();
         self.inside.count();
-        self.inside.reply(first_trade)
+        let reply = self.inside.reply(first_trade);
+        self.quantity += reply.quantity;
+        reply
     }
 
     /// The settings of the day.
@@ -135,6 +143,28 @@ impl<A: Allocator + Copy> Market<A> {
                 auction_price(&self.inside.book, self.inside.phase, self.inside.ref1())
             }
             _ => None,
+        }
+    }
+
+    /// The best limit of the active orders of a side.
+    pub fn best(&self, side: Side) -> Option<Price>
+        ensures { result ≡ best_limit self.now.state side }
+    {
+        self.inside.book.best_limit(side, self.inside.phase)
+    }
+
+    /// What is shown of the security to those who watch it.
+    pub fn quote(&self) -> Quote
+        ensures { result ≡ quote self.now.state }
+    {
+        Quote {
+            version: self.inside.accepted,
+            phase: self.inside.phase,
+            best_buy: self.best(Side::Buy),
+            best_sell: self.best(Side::Sell),
+            ref1: self.ref1(),
+            ref2: self.ref2(),
+            quantity: self.quantity,
         }
     }
 

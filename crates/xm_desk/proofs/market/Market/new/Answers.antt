@@ -7,4 +7,4 @@ invariant_of-result g c =
 
 pub invariant_of-result-2 : goal.invariant_of-result-2
 invariant_of-result-2 g c =
-    rw (c.new-2.ensures) (record { pending = refl; counted = record { accepted = omega arith; sweeps = omega arith; number = omega arith; sized = λ k d l. absurd (omega arith) } })
+    rw (c.new-2.ensures) (record { pending = refl; counted = record { accepted = omega arith; sweeps = omega arith; number = omega arith; sized = λ k d l. absurd (omega arith) }; quantity = refl })

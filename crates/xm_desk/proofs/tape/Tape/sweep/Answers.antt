@@ -1,4 +1,4 @@
-use Rattle.std.proofs.Common.{◌≡◌, ◌+◌, ◌++◌, ℕ, List, ap, length, sym, ◌∙◌}
+use Rattle.std.proofs.Common.{◌≡◌, ◌+◌, ap, length, sym, ◌∙◌}
 use Rattle.xm_book.specs.TimeList.{TimeList}
 use Rattle.xm_desk.proofs.Sweeping.{of-no-auction, same-sweep}
 use Rattle.xm_desk.proofs.Tapes.{last_auction_price-none}
@@ -6,7 +6,6 @@ use Rattle.xm_desk.specs.Tape.{TapeView, swept_by}
 use Rattle.xm_match.specs.Meeting.{sweep_of}
 use Rattle.xm_rules.specs.State.{last_auction_price, last_price}
 use Rattle.xm_rules.specs.Sweep.{Sweep, filled, orders_after_sweep, rest_after, sweep_trades}
-use Rattle.xm_rules.specs.declared.orders.Trade.{Trade}
 use Rattle.xm_desk.proofs.tape.Tape.sweep.Given.{Over}
 use Rattle.xm_desk.proofs.tape.Tape.sweep.Goals as goal
 

@@ -5,20 +5,17 @@ use Rattle.std.proofs.lemmas.Bool.Decides.{nat_tests}
 use Rattle.xm_book.specs.TimeList.{TimeList}
 use Rattle.xm_desk.proofs.Changing.{change-finds, copied-some, kept-change, replaced-can-come, replaced-change}
 use Rattle.xm_desk.proofs.Hands.{filter-shorter}
-use Rattle.xm_desk.proofs.Named.{any-left_out, find-named}
 use Rattle.xm_desk.proofs.CallsEnd.{untraded-few}
 use Rattle.xm_desk.specs.Made.{AreFew}
 use Rattle.xm_desk.specs.Settled.{Unsettled, played}
 use Rattle.xm_rules.specs.Step.{changed}
 use Rattle.xm_rules.specs.declared.orders.Trade.{Trade}
 use Rattle.xm_desk.specs.declared.unsettled.Hand.TheVariants.{Played}
-use Rattle.xm_rules.proofs.Accepted.{accepted-below, change-accepted}
+use Rattle.xm_rules.proofs.Accepted.{change-accepted}
 use Rattle.xm_rules.specs.Orders.{is_named, removed, with_rest}
 use Rattle.xm_rules.specs.Settling.{come}
 use Rattle.xm_rules.specs.Step.{changed_order, keeps_priority, same_limit}
-use Rattle.xm_rules.specs.declared.commands.Command.TheVariants.{Change}
 use Rattle.xm_rules.specs.declared.orders.Order.{Order}
-use Rattle.xm_desk.proofs.unsettled.Unsettled.change.Given.{Over}
 use Rattle.xm_desk.proofs.unsettled.Unsettled.change.Goals as goal
 
 pub unwrap-requires : goal.unwrap-requires
@@ -79,19 +76,19 @@ returns-then-keeps_priority g c =
     let reduced : Unsettled → Unsettled = λ w. record w { state = record w.state { orders = with_rest c.args.member c.args.reference c.args.quantity w.state.orders } } in
     record {
       changed =
-        ap (λ (l : TimeList). let w : Unsettled = record {
-          state = record { settings = u.settings; accepted = u.accepted; phase = u.phase; orders = l.orders; stops = []; trades = u.tape.trades; sweeps = u.sweeps };
-          pending = [];
-          hand = u.hand;
-          room = u.tape.room;
-        } in w) c.reduce.ensures.reduced
-        ∙ ap reduced c.self.view_is
-        ∙ kept-change v c.args.member c.args.reference c.args.quantity c.args.limit o found keeps c.requires.hand
-        ∙ ap (λ (room : ℕ). let w : Unsettled = record v {
-          state = changed v.state c.args.quantity c.args.limit (find (is_named c.args.member c.args.reference) v.state.orders);
-          hand = played v.hand;
-          room = room;
-        } in w) (sym (ap (λ (w : Unsettled). w.room) c.self.view_is));
+          ap (λ (l : TimeList). let w : Unsettled = record {
+            state = record { settings = u.settings; accepted = u.accepted; phase = u.phase; orders = l.orders; stops = []; trades = u.tape.trades; sweeps = u.sweeps };
+            pending = [];
+            hand = u.hand;
+            room = u.tape.room;
+          } in w) c.reduce.ensures.reduced
+          ∙ ap reduced c.self.view_is
+          ∙ kept-change v c.args.member c.args.reference c.args.quantity c.args.limit o found keeps c.requires.hand
+          ∙ ap (λ (room : ℕ). let w : Unsettled = record v {
+            state = changed v.state c.args.quantity c.args.limit (find (is_named c.args.member c.args.reference) v.state.orders);
+            hand = played v.hand;
+            room = room;
+          } in w) (sym (ap (λ (w : Unsettled). w.room) c.self.view_is));
       few = untraded-few v.state.trades u.tape.trades (ap (λ (w : Unsettled). w.state.trades) c.self.view_is);
     }
 
@@ -114,10 +111,10 @@ returns-else-keeps_priority g c =
     let replaces : Unsettled → Unsettled = λ w. record w { state = come (record w.state { orders = removed c.args.member c.args.reference w.state.orders }) (changed_order c.args.quantity c.args.limit o); hand = Played; room = room } in
     record {
       changed =
-        c.come.ensures.come
-        ∙ ap (λ (l : TimeList). comes l.orders c.changed_order.result) c.remove.ensures.left
-        ∙ ap (λ (x : Order). comes (removed c.args.member c.args.reference u.book.orders) x) again
-        ∙ ap replaces c.self.view_is
-        ∙ ap (λ (w : Unsettled). record w { room = room }) (replaced-change v c.args.member c.args.reference c.args.quantity c.args.limit o found joins c.requires.hand none);
+          c.come.ensures.come
+          ∙ ap (λ (l : TimeList). comes l.orders c.changed_order.result) c.remove.ensures.left
+          ∙ ap (λ (x : Order). comes (removed c.args.member c.args.reference u.book.orders) x) again
+          ∙ ap replaces c.self.view_is
+          ∙ ap (λ (w : Unsettled). record w { room = room }) (replaced-change v c.args.member c.args.reference c.args.quantity c.args.limit o found joins c.requires.hand none);
       few = subst (λ (ts : List Trade). AreFew (drop (length ts) c.come.new.self.state.trades)) (ap (λ (w : Unsettled). w.state.trades) c.self.view_is) c.come.ensures.few;
     }

@@ -1,9 +1,8 @@
-use Rattle.std.proofs.Common.{◌≡◌, true, refl, ap, subst, rules, sym}
+use Rattle.std.proofs.Common.{ap, subst, rules, sym}
 use Rattle.xm_desk.proofs.Entering.{entry-can-come, entry-passes, immediate-continuous}
 use Rattle.xm_desk.specs.Incoming.{CanComeIn}
 use Rattle.xm_rules.specs.Commands.{is_immediate}
 use Rattle.xm_rules.specs.declared.orders.Order.{Order}
-use Rattle.xm_desk.proofs.unsettled.Unsettled.enter.Given.{Over}
 use Rattle.xm_desk.proofs.unsettled.Unsettled.enter.Goals as goal
 
 pub order-order-requires : goal.order-order-requires

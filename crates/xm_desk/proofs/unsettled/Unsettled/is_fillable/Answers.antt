@@ -1,4 +1,4 @@
-use Rattle.std.proofs.Common.{◌≡◌, ◌∙◌, ℕ, ap}
+use Rattle.std.proofs.Common.{◌∙◌, ℕ, ap}
 use Rattle.xm_desk.specs.Settled.{Unsettled}
 use Rattle.xm_match.specs.Meeting.{sweep_of}
 use Rattle.xm_rules.specs.Settling as settling

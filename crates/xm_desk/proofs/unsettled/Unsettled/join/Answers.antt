@@ -1,7 +1,7 @@
-use Rattle.std.proofs.Common.{◌≡◌, ◌∙◌, ap, rules}
+use Rattle.std.proofs.Common.{◌≡◌, ◌∙◌, ap}
 use Rattle.xm_book.specs.Places.{place_of}
 use Rattle.xm_desk.proofs.Hands.{kept-there}
-use Rattle.xm_desk.specs.Settled.{Unsettled, joined_in}
+use Rattle.xm_desk.specs.Settled.{Unsettled}
 use Rattle.xm_desk.specs.declared.unsettled.Hand.TheVariants.{Kept}
 use Rattle.xm_desk.proofs.unsettled.Unsettled.join.Goals as goal
 

@@ -1,9 +1,7 @@
-use Rattle.std.proofs.Common.{◌≡◌, ◌∙◌, List, arith, ap, drop, subst, sym}
+use Rattle.std.proofs.Common.{◌∙◌, arith, ap, drop, subst, sym}
 use Rattle.xm_desk.proofs.Stepping.{few-money, few-quantity}
 use Rattle.xm_desk.specs.Made.{AreFew}
 use Rattle.xm_desk.specs.Settled.{Unsettled}
-use Rattle.xm_rules.specs.declared.orders.Trade.{Trade}
-use Rattle.xm_desk.proofs.unsettled.Unsettled.reply.Given.{Over}
 use Rattle.xm_desk.proofs.unsettled.Unsettled.reply.Goals as goal
 
 pub total_quantity-requires : goal.total_quantity-requires

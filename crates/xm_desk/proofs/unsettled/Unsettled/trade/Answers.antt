@@ -1,14 +1,12 @@
-use Rattle.std.proofs.Common.{◌≡◌, ◌+◌, ◌++◌, ap, sym, length, arith, rules, ◌∙◌, List}
+use Rattle.std.proofs.Common.{◌≡◌, ◌+◌, ◌++◌, ap, length, arith, ◌∙◌, List}
 use Rattle.xm_desk.specs.Settled.{Unsettled}
-use Rattle.xm_rules.specs.Auction.{volume}
 use Rattle.xm_rules.specs.State.{ref1}
-use Rattle.xm_rules.specs.declared.orders.Order.{Order}
 use Rattle.xm_rules.specs.declared.phases.Phase.TheVariants.{Call}
 use Rattle.xm_auction.specs.Allotment.{uncrossing_of}
 use Rattle.xm_book.specs.TimeList.{TimeList}
 use Rattle.xm_desk.proofs.CallsEnd.{few-trades, fewer-orders, more-few}
 use Rattle.xm_desk.specs.Tape.{TapeView}
-use Rattle.xm_rules.proofs.Prices.{some_volume, volume_at_price}
+use Rattle.xm_rules.proofs.Prices.{some_volume}
 use Rattle.xm_rules.specs.Allotment.{Uncrossing, auction_trades}
 use Rattle.xm_rules.specs.declared.orders.Trade.{Trade}
 use Rattle.xm_desk.proofs.unsettled.Unsettled.trade.Goals as goal
