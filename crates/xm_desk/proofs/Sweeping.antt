@@ -36,7 +36,7 @@ kind_between number price quantity Sell o i = refl
 pub of-no-auction : (number : ℕ) (w : Sweep) → All (λ (t : Trade). is_auction t.kind ≡ false) (sweep_trades number w)
 of-no-auction number w =
     each_sweep_trade (λ (t : Trade). is_auction t.kind ≡ false) number w
-    (λ k d l. (let i = get_or (queue w) k d in kind_between number (meet_price w i) (fill w i) w.incoming.side w.incoming i.order))
+    (λ k d l e. (let i = get_or (queue w) k d in kind_between number (meet_price w i) (fill w i) w.incoming.side w.incoming i.order))
 
 left_if : (p : Order → Bool) (o : Order) (os : List Order) (b : Bool) → p o ≡ false → list_any p os ≡ false → list_any p (cond b (o ∷ os) os) ≡ false
 left_if p o os true e h = rw e h

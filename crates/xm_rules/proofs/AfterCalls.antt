@@ -7,6 +7,7 @@ use Rattle.std.proofs.lemmas.List.Elements.{All-filter, All-weaker, All-contains
 use Rattle.xm_rules.specs.Active.{Positioned, active, is_active_on, limits, positioned_from}
 use Rattle.xm_rules.specs.Allotment.{Uncrossing, allotted, orders_after_call}
 use Rattle.xm_rules.specs.Auction.{accepting, auction_price, volume}
+use Rattle.xm_rules.specs.Crossing.{NoneMeet}
 use Rattle.xm_rules.specs.Orders.{accepts, limit_of, meets}
 use Rattle.xm_rules.specs.Priority.{before}
 use Rattle.xm_rules.specs.Quote.{best_limit}
@@ -103,11 +104,6 @@ left_traded u side z e at =
       kind = ap (λ (o : Order). o.kind) h.same;
       past = left_past_volume u side h.was (within_side u side e) queued (omega (arith, rest, more));
     }
-
--- no two orders that are active in continuous trading meet
-abbrev pub NoneMeet : List Order → Type 0
-NoneMeet orders =
-    (side : Side) (i j : Positioned) → Contains (active Continuous side orders) i → Contains (active Continuous (opposite side) orders) j → meets side i.order.kind j.order.kind ≡ false
 
 none_traded : (s : State) (auction : Auction) (stage : CallStage) → All (λ (o : Order). 1 ≤ o.rest) s.orders → auction_price (Call auction stage) s.orders (ref1 s) ≡ None → NoneMeet s.orders
 none_traded s auction stage some e = λ side i j at to.

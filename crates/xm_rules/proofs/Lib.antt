@@ -1,10 +1,12 @@
 pub mod Accepted
 pub mod AfterCalls
+pub mod AfterSweeps
 pub mod Ahead
 pub mod Allotments
 pub mod CallTrades
 pub mod Checks
 pub mod Choices
+pub mod ComingIn
 pub mod Journals
 pub mod Kept
 pub mod LawfulJournals

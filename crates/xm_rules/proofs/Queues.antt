@@ -18,7 +18,7 @@ if_le true true n h = omega arith
 if_le true false n h = absurd (let e : false ≡ true = h refl in cc)
 if_le false b n h = omega arith
 
-if_gap : (a b : Bool) (n : ℕ) → a ≡ false → b ≡ true → (if a then n else 0) + n ≤ (if b then n else 0)
+pub if_gap : (a b : Bool) (n : ℕ) → a ≡ false → b ≡ true → (if a then n else 0) + n ≤ (if b then n else 0)
 if_gap true b n e f = absurd (cc)
 if_gap false true n e f = omega arith
 if_gap false false n e f = absurd (cc)

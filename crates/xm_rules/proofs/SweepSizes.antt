@@ -2,7 +2,7 @@
 use Rattle.std.proofs.Common.{◌≡◌, ℕ, ◌+◌, ◌-◌, ◌≤◌, min, Bool, true, false, if◌then◌else◌, List, [], ◌∷◌, filter, map, length, get_or, All, refl, arith}
 use Rattle.std.specs.Prelude.{nat_lt}
 use Rattle.std.proofs.lemmas.List.{length-map}
-use Rattle.std.proofs.lemmas.List.Elements.{All-filter, All-map}
+use Rattle.std.proofs.lemmas.List.Elements.{All-filter, All-map, filter_passes}
 use Rattle.std.proofs.lemmas.List.Sums.{count_by-le-length, length-filter}
 use Rattle.xm_rules.specs.Active.{Positioned, positioned_from}
 use Rattle.xm_rules.specs.Orders.{trade_between}
@@ -44,13 +44,15 @@ sweep_leaves_no_more w = no_more_orders (fill w) w.orders
 abbrev numbered : ℕ → Sweep → Positioned → ℕ × Trade
 numbered number w i = (units_before w i, trade_with number w i)
 
--- what holds of the trade with each order of the queue holds of each trade
-pub each_sweep_trade : (P : Trade → Type 0) (number : ℕ) (w : Sweep) → All (λ (i : Positioned). P (trade_with number w i)) (queue w) → All P (sweep_trades number w)
+-- what holds of the trade with each order that is filled holds of each trade
+pub each_sweep_trade : (P : Trade → Type 0) (number : ℕ) (w : Sweep) → All (λ (i : Positioned). nat_lt 0 (fill w i) ≡ true → P (trade_with number w i)) (queue w)
+    → All P (sweep_trades number w)
 each_sweep_trade P number w h =
     let some = λ (i : Positioned). nat_lt 0 (fill w i) in
-    let given = numbered number w in
-    All-in_order P (map given (filter some (queue w)))
-    (All-map (λ (x : ℕ × Trade). P x.1) given (filter some (queue w)) (All-filter some (λ (i : Positioned). P (trade_with number w i)) (queue w) h))
+    let filling = filter some (queue w) in
+    let kept = All-filter some (λ (i : Positioned). some i ≡ true → P (trade_with number w i)) (queue w) h in
+    All-in_order P (map (numbered number w) filling)
+    (All-map (λ (x : ℕ × Trade). P x.1) (numbered number w) filling (λ k d l. kept k d l (filter_passes some (queue w) k d l)))
 
 sized_between : (n number : ℕ) (kind : TradeKind) (price quantity : ℕ) (side : Side) (o i : Order) → quantity ≤ n → (trade_between number kind price quantity side o i).quantity ≤ n
 sized_between n number kind price quantity Buy o i h = h
@@ -64,6 +66,6 @@ within_incoming false rest incoming ahead = omega arith
 pub sweep_trades_sized : (number : ℕ) (w : Sweep) → All (λ (t : Trade). t.quantity ≤ w.incoming.rest) (sweep_trades number w)
 sweep_trades_sized number w =
     each_sweep_trade (λ (t : Trade). t.quantity ≤ w.incoming.rest) number w
-    (λ k d l. (let i = get_or (queue w) k d in
+    (λ k d l e. (let i = get_or (queue w) k d in
     sized_between w.incoming.rest number made.Continuous (meet_price w i) (fill w i) w.incoming.side w.incoming i.order
     (within_incoming (is_executable w i) i.order.rest w.incoming.rest (units_before w i))))

@@ -2,6 +2,7 @@ pub mod Active
 pub mod Allotment
 pub mod Auction
 pub mod Commands
+pub mod Crossing
 pub mod Examples
 pub mod Orders
 pub mod Priority

@@ -1,24 +1,25 @@
 //! Laws of the definitions, over all inputs. Each function promises one by its contract.
-ghost use Rattle.std.specs.Prelude.{◌≡◌, ◌≢◌, ◌≤◌, ◌<◌, ◌+◌, ◌&&◌, ◌||◌, ◌++◌, ◌∷◌, [], ℕ, List, Option, Some, None, All, Contains, sum_by, true, false};
+ghost use Rattle.std.specs.Prelude.{◌≡◌, ◌≢◌, ◌≤◌, ◌<◌, ◌+◌, ◌&&◌, ◌||◌, ◌⊎◌, ◌++◌, ◌∷◌, [], ℕ, List, Option, Some, None, All, Contains, sum_by, true, false};
 ghost use Rattle.xm_rules.specs.Active.{Positioned, active};
 ghost use Rattle.xm_rules.specs.Allotment.{Uncrossing, side_queue, allotted, auction_trades};
 ghost use Rattle.xm_rules.specs.Auction.{auction_price, volume};
-ghost use Rattle.xm_rules.specs.Orders.{meets};
+ghost use Rattle.xm_rules.specs.Crossing.{NoneMeet};
 ghost use Rattle.xm_rules.specs.Priority.{is_ahead};
 ghost use Rattle.xm_rules.specs.Quote.{best_limit};
 ghost use Rattle.xm_rules.specs.Refusals.{refusal_of};
-ghost use Rattle.xm_rules.specs.Sides.{opposite};
 ghost use Rattle.xm_rules.specs.State.{State, ranges, ref1, inside_both, inside_wide};
-ghost use Rattle.xm_rules.specs.Step.{replay, is_lawful, uncrossed, new_trades};
+ghost use Rattle.xm_rules.specs.Step.{come_under, replay, is_lawful, uncrossed, new_trades};
 ghost use Rattle.xm_rules.specs.Sums.{total_quantity};
 ghost use Rattle.xm_rules.specs.Sweep.{Sweep, filled, rest_after, sweep_trades, orders_after_sweep};
 ghost use Rattle.xm_rules.specs.declared.commands.Command.{Command};
+ghost use Rattle.xm_rules.specs.declared.commands.Condition.{Condition};
 ghost use Rattle.xm_rules.specs.declared.orders.Order.{Order};
 ghost use Rattle.xm_rules.specs.declared.orders.Side.{Side};
 ghost use Rattle.xm_rules.specs.declared.orders.Side.TheVariants.{Buy, Sell};
 ghost use Rattle.xm_rules.specs.declared.orders.Trade.{Trade};
 ghost use Rattle.xm_rules.specs.declared.orders.TradeKind.TheVariants as made;
 ghost use Rattle.xm_rules.specs.declared.phases.Auction.{Auction};
+ghost use Rattle.xm_rules.specs.declared.phases.Auction.TheVariants.{Interruption};
 ghost use Rattle.xm_rules.specs.declared.phases.CallStage.{CallStage};
 ghost use Rattle.xm_rules.specs.declared.phases.CallStage.TheVariants.{Ordinary, Interrupted};
 ghost use Rattle.xm_rules.specs.declared.phases.Phase.{Phase};
@@ -86,13 +87,33 @@ pub fn auction_trades_are_inside_the_ranges_of_their_stage()
 /// cross, and no market order rests beside an active order of the other side. So the best buy limit is below the best sell limit.
 /// Premise: each order of the time list before has a unit at least.
 pub fn no_orders_meet_after_a_call()
-    ensures orders { (s : State) (auction : Auction) (stage : CallStage) (side : Side) (i j : Positioned) → let t = uncrossed s (Call auction stage) in
-        All (λ (o : Order). 1 ≤ o.rest) s.orders → t.phase ≡ Continuous
-        → Contains (active Continuous side t.orders) i → Contains (active Continuous (opposite side) t.orders) j
-        → meets side i.order.kind j.order.kind ≡ false }
+    ensures orders { (s : State) (auction : Auction) (stage : CallStage) → let t = uncrossed s (Call auction stage) in
+        All (λ (o : Order). 1 ≤ o.rest) s.orders → t.phase ≡ Continuous → NoneMeet t.orders }
     ensures limits { (s : State) (auction : Auction) (stage : CallStage) (buy sell : ℕ) → let t = uncrossed s (Call auction stage) in
         All (λ (o : Order). 1 ≤ o.rest) s.orders → t.phase ≡ Continuous
         → best_limit t Buy ≡ Some buy → best_limit t Sell ≡ Some sell → buy < sell }
+{}
+
+/// Where no two active orders meet before an order comes in, on any condition, none meet afterwards, unless it interrupted trading:
+/// then the phase is the interrupted call of the interruption auction. So while trading goes on, the best buy limit is below the
+/// best sell limit.
+pub fn no_orders_meet_in_continuous_trading()
+    ensures orders { (condition : Condition) (s : State) (o : Order) → let t = come_under condition s o in
+        NoneMeet s.orders → t.phase ≡ Continuous → NoneMeet t.orders }
+    ensures limits { (condition : Condition) (s : State) (o : Order) (buy sell : ℕ) → let t = come_under condition s o in
+        NoneMeet s.orders → t.phase ≡ Continuous → best_limit t Buy ≡ Some buy → best_limit t Sell ≡ Some sell → buy < sell }
+    ensures phase { (condition : Condition) (s : State) (o : Order) → let t = come_under condition s o in
+        s.phase ≡ Continuous → (t.phase ≡ Continuous) ⊎ (t.phase ≡ Call Interruption Interrupted) }
+{}
+
+/// The trades that an order adds when it comes in, on any condition, are inside the dynamic and the static range of the moment
+/// before it, are marked as trades of continuous trading, and bear the number of its sweep, which is the next.
+pub fn continuous_trades_are_inside_both_ranges()
+    ensures appended { (condition : Condition) (s : State) (o : Order) → let t = come_under condition s o in t.trades ≡ s.trades ++ new_trades s t }
+    ensures inside { (condition : Condition) (s : State) (o : Order)
+        → All (λ (t : Trade). inside_both (ranges s) t.price ≡ true) (new_trades s (come_under condition s o)) }
+    ensures kind { (condition : Condition) (s : State) (o : Order) → All (λ (t : Trade). t.kind ≡ made.Continuous) (new_trades s (come_under condition s o)) }
+    ensures number { (condition : Condition) (s : State) (o : Order) → All (λ (t : Trade). t.sweep ≡ s.sweeps + 1) (new_trades s (come_under condition s o)) }
 {}
 
 /// A command that is refused where it stands is in no lawful journal.
