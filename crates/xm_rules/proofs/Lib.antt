@@ -10,6 +10,7 @@ pub mod ComingIn
 pub mod Journals
 pub mod Kept
 pub mod LawfulJournals
+pub mod MemberSums
 pub mod Memory
 pub mod Orderings
 pub mod Positions

@@ -1,6 +1,7 @@
 -- Sums over trades: of each member, and in total.
-use Rattle.std.specs.Prelude.{ℕ, ◌*◌, ◌==◌, if◌then◌else◌, List, sum_by}
+use Rattle.std.specs.Prelude.{ℕ, zero, suc, ◌+◌, ◌*◌, ◌<◌, ◌≤◌, ◌==◌, ℤ, pos, ◌-ℤ◌, if◌then◌else◌, List, sum_by}
 use Rattle.xm_rules.specs.declared.orders.Trade.{Trade}
+use Rattle.xm_rules.specs.declared.totals.TheConstants.{MAX_TRADED_MONEY, MAX_TRADED_QUANTITY}
 
 -- ticks times units
 abbrev pub money_of : Trade → ℕ
@@ -18,9 +19,32 @@ paid member trades = sum_by (λ (t : Trade). if t.buyer == member then money_of 
 abbrev pub received : ℕ → List Trade → ℕ
 received member trades = sum_by (λ (t : Trade). if t.seller == member then money_of t else 0) trades
 
+-- in units: what a member bought less what it sold
+abbrev pub net : ℕ → List Trade → ℤ
+net member trades = pos (bought member trades) -ℤ pos (sold member trades)
+
+-- in ticks times units: what a member received less what it paid
+abbrev pub cash : ℕ → List Trade → ℤ
+cash member trades = pos (received member trades) -ℤ pos (paid member trades)
+
+-- over all members, whose indices are those below their number
+abbrev pub over_members : ℕ → (ℕ → ℕ) → ℕ
+over_members zero f = 0
+over_members (suc n) f = over_members n f + f n
+
+-- a trade is between members of these
+pub record IsBetweenMembers (members : ℕ) (t : Trade) : Type 0 where
+  pub buyer : t.buyer < members
+  pub seller : t.seller < members
+
 -- each trade counts once
 abbrev pub total_quantity : List Trade → ℕ
 total_quantity trades = sum_by (λ (t : Trade). t.quantity) trades
 
 abbrev pub total_money : List Trade → ℕ
 total_money trades = sum_by money_of trades
+
+-- a day trades no more than this
+pub record AreWithinLimits (trades : List Trade) : Type 0 where
+  pub quantity : total_quantity trades ≤ MAX_TRADED_QUANTITY
+  pub money : total_money trades ≤ MAX_TRADED_MONEY

@@ -9,7 +9,7 @@ ghost use Rattle.xm_rules.specs.Quote.{best_limit};
 ghost use Rattle.xm_rules.specs.Refusals.{refusal_of};
 ghost use Rattle.xm_rules.specs.State.{State, ranges, ref1, inside_both, inside_wide};
 ghost use Rattle.xm_rules.specs.Step.{come_under, replay, is_lawful, uncrossed, new_trades};
-ghost use Rattle.xm_rules.specs.Sums.{total_quantity};
+ghost use Rattle.xm_rules.specs.Sums.{IsBetweenMembers, bought, over_members, paid, received, sold, total_money, total_quantity};
 ghost use Rattle.xm_rules.specs.Sweep.{Sweep, filled, rest_after, sweep_trades, orders_after_sweep};
 ghost use Rattle.xm_rules.specs.declared.commands.Command.{Command};
 ghost use Rattle.xm_rules.specs.declared.commands.Condition.{Condition};
@@ -114,6 +114,19 @@ pub fn continuous_trades_are_inside_both_ranges()
         → All (λ (t : Trade). inside_both (ranges s) t.price ≡ true) (new_trades s (come_under condition s o)) }
     ensures kind { (condition : Condition) (s : State) (o : Order) → All (λ (t : Trade). t.kind ≡ made.Continuous) (new_trades s (come_under condition s o)) }
     ensures number { (condition : Condition) (s : State) (o : Order) → All (λ (t : Trade). t.sweep ≡ s.sweeps + 1) (new_trades s (come_under condition s o)) }
+{}
+
+/// Over all members bought equals sold, in units, and paid equals received, in ticks times units: each is what was traded.
+/// Premise: the trades are between these members.
+pub fn every_purchase_is_a_sale()
+    ensures quantity { (members : ℕ) (trades : List Trade) → All (IsBetweenMembers members) trades
+        → over_members members (λ m. bought m trades) ≡ over_members members (λ m. sold m trades) }
+    ensures money { (members : ℕ) (trades : List Trade) → All (IsBetweenMembers members) trades
+        → over_members members (λ m. paid m trades) ≡ over_members members (λ m. received m trades) }
+    ensures total_quantity { (members : ℕ) (trades : List Trade) → All (IsBetweenMembers members) trades
+        → over_members members (λ m. bought m trades) ≡ total_quantity trades }
+    ensures total_money { (members : ℕ) (trades : List Trade) → All (IsBetweenMembers members) trades
+        → over_members members (λ m. paid m trades) ≡ total_money trades }
 {}
 
 /// A command that is refused where it stands is in no lawful journal.

@@ -15,4 +15,4 @@ pub use orders::{Order, OrderKind, Restriction, Side, Stop, Trade, TradeKind, Va
 pub use phases::{Auction, CallStage, Phase};
 pub use replies::{OutOfMemory, Quote, Refusal, Reply, Totals};
 pub use settings::{DeskSettings, PHASE_COMMANDS_MORE, Widths};
-pub use totals::{total_money, total_quantity};
+pub use totals::{MAX_TRADED_MONEY, MAX_TRADED_QUANTITY, total_money, total_quantity};

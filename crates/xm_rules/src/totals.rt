@@ -4,6 +4,12 @@ ghost use Rattle.xm_rules.specs.Sums.{total_money, total_quantity};
 
 use crate::orders::Trade;
 
+/// The most units that a security trades in a day, of which no lawful journal has more.
+pub const MAX_TRADED_QUANTITY: u64 = 1_000_000_000_000;
+
+/// The most money that it trades, in ticks times units.
+pub const MAX_TRADED_MONEY: u64 = 1_000_000_000_000_000_000;
+
 /// The quantity of all trades, in units.
 pub fn total_quantity(trades: &[Trade]) -> u64
     requires { total_quantity trades.now < 2 ^ 64 }
