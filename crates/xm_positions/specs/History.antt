@@ -1,0 +1,12 @@
+-- The recorded trades, as a clause sees them: those before the last one, and then this.
+use Rattle.std.specs.Prelude.{List, [], ◌∷◌, ◌++◌}
+use Rattle.xm_positions.specs.declared.history.Last.{Last, Last-F, fold-Last}
+use Rattle.xm_positions.specs.declared.history.Last.TheOpen.{Nothing, Recorded}
+use Rattle.xm_rules.specs.declared.orders.Trade.{Trade}
+
+abbrev pub after : Last-F (List Trade) → List Trade
+after Nothing = []
+after (Recorded trade before) = before.value ++ trade.value ∷ []
+
+unfoldable pub recorded : Last → List Trade
+recorded last = fold-Last (List Trade) after last
