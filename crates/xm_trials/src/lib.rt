@@ -17,6 +17,8 @@ mod matching;
 #[cfg(test)]
 mod names;
 #[cfg(test)]
+mod positions;
+#[cfg(test)]
 mod prices;
 #[cfg(test)]
 mod program;
