@@ -1,3 +1,4 @@
+pub mod Ends
 pub mod Levels
 pub mod Map
 pub mod Marks

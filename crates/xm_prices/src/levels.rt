@@ -3,9 +3,9 @@ ghost use Rattle.std.specs.Prelude.{◌≡◌, ◌==◌, if◌then◌else◌, �
 ghost use Rattle.xm_prices.specs.Map.{lookup};
 ghost use Rattle.xm_prices.specs.Levels.{HasPrice, HasRoom, IsFirstLevel, IsLastLevel, IsLevelAbove, IsLevelBelow, level_at};
 
+use crate::bounded::BoundedSet;
 use crate::map::PriceMap;
 use crate::marks::PRICES;
-use crate::set::PriceSet;
 use slab::Slab;
 use std::alloc::{AllocError, Allocator};
 use std::marker::Model;
@@ -21,7 +21,7 @@ struct Priced<L> {
 /// `reserve` makes room, and nothing else takes memory.
 #[derive(Drop)]
 pub struct Levels<L, A: Allocator + Copy> {
-    prices: PriceSet<A>,
+    prices: BoundedSet<A>,
     keys: PriceMap<usize, A>,
     levels: Slab<Priced<L>, A>,
 }
@@ -43,7 +43,7 @@ impl<L: Copy, A: Allocator + Copy> Levels<L, A> {
         ensures { (p : ℕ) → level_at result p ≡ None }
     {
         Levels {
-            prices: PriceSet::new(alloc),
+            prices: BoundedSet::new(alloc),
             keys: PriceMap::new(alloc),
             levels: Slab::new(alloc),
         }

@@ -3,6 +3,7 @@
 #![tactic(auto)]
 
 mod bits;
+mod bounded;
 mod levels;
 mod map;
 mod marks;
