@@ -223,15 +223,15 @@ impl<A: Allocator + Copy> Book<A> {
         requires { IfSome (best_order phase side self.old.orders) (λ o. (1 ≤ units) × (units ≤ o.rest)) }
         ensures { self.new ≡ record self.old { orders = taken_from_best phase side units self.old.orders } }
     {
-        let _ = self.len(); // What every book keeps is known of one whose length is asked.
-        match self.best(side, phase) {
+        match self.queues.best(side, phase) {
             None => {}
             Some(best) => {
-                let order = *best;
+                let order = best.order;
                 if units == order.rest {
-                    self.remove(order.member, order.reference);
+                    self.names.remove(order.member, order.reference);
+                    self.queues.take(best.key);
                 } else {
-                    self.reduce(order.member, order.reference, order.rest - units);
+                    self.queues.reduce(best.key, order.rest - units);
                 }
             }
         }

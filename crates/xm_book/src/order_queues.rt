@@ -2,7 +2,7 @@
 ghost use Rattle.std.specs.Prelude.{◌≡◌, ◌+◌, ◌++◌, ◌∷◌, [], ◌<◌, ◌≤◌, ◌^◌, ◌&&◌, Contains, IfOk, IfSome, IsTrue, OnErr, OnOk, Some, filter, length, map, option_copied, sum_by, true};
 ghost use Rattle.std.specs.List.{list_all, list_any};
 ghost use Rattle.xm_book.specs.Expiry.{is_below};
-ghost use Rattle.xm_book.specs.Fronts.{IsBestOf, IsFirstOf, better_of_two, earlier_of_two, goes_ahead, has_kind, has_kind_later, has_worse, is_any, is_earlier, is_in, is_on};
+ghost use Rattle.xm_book.specs.Fronts.{IsBest, IsBestOf, IsFirstOf, better_of_two, earlier_of_two, goes_ahead, has_kind, has_kind_later, has_worse, is_any, is_earlier, is_in, is_on};
 ghost use Rattle.xm_book.specs.Listing.{is_other_key, keys_in, listed_entry, listed_order, reduced_at, rises};
 ghost use Rattle.xm_book.specs.Places.{place_of, same_place};
 ghost use Rattle.xm_book.specs.Queues.{units_at};
@@ -275,6 +275,16 @@ impl<A: Allocator + Copy> OrderQueues<A> {
             Some(entry) => Some(entry),
             None => self.first_limited(side, phase, &None),
         }
+    }
+
+    /// The best active order of a side in priority, with its key, which its level has at the front.
+    pub fn best(&self, side: Side, phase: Phase) -> Option<Listed>
+        ensures best { IsBest (goes_ahead side) (is_on phase side is_any) self.now.orders result }
+        ensures rise { rises 0 self.now.orders self.now.adds ≡ true }
+    {
+        let Entry { order, time } = *self.first(side, phase)?;
+        let key = level_for(&self.ladders, &order).ends.front()?;
+        Some(Listed { key, time, order })
     }
 
     /// The active order of a side that is next in priority after the order of a key; nothing where that order isn't an
