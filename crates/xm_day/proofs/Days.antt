@@ -32,47 +32,17 @@ use Rattle.xm_day.specs.declared.config.SecurityConfig.{SecurityConfig}
 use Rattle.xm_day.specs.declared.config.SegmentConfig.{SegmentConfig}
 use Rattle.xm_day.specs.declared.rows.Row.{Row}
 
--- outside continuous trading an order joins, and no stop that comes in changes the phase
-come-outside : (s : State) (o : Order) → is_continuous s.phase ≡ false → is_continuous (come s o).phase ≡ false
-come-outside s o h = rw h h
+entry-served : (member reference : ℕ) (side : Side) (k : Kind) (quantity : ℕ) (v : Validity) (r : Restriction) (condition : Condition)
+    → is_listed (Enter member reference side k quantity v r condition) ≡ true → is_served (Enter member reference side k quantity v r condition) ≡ true
+entry-served member reference side (kind.Limit p) quantity Day Free Plain h = refl
+entry-served member reference side _ quantity _ _ _ h = cc
 
-pending-outside : (more : State → List Stop → State) → ((s : State) (pending : List Stop) → is_continuous s.phase ≡ false → is_continuous (more s pending).phase ≡ false)
-    → (s : State) (pending : List Stop) → is_continuous s.phase ≡ false → is_continuous (take_pending more s pending).phase ≡ false
-pending-outside more keeps s [] h = h
-pending-outside more keeps s (stop ∷ stops) h = keeps (come s (order_of_stop stop)) stops (come-outside s (order_of_stop stop) h)
-
-settle_in-outside : (turns : ℕ) (s : State) (pending : List Stop) → is_continuous s.phase ≡ false → is_continuous (settle_in turns s pending).phase ≡ false
-settle_in-outside zero s pending h = h
-settle_in-outside (suc turns) s pending h = pending-outside (settle_in turns) (settle_in-outside turns) (released s) (pending ++ reached s) h
-
-entry-outside : (s : State) (member reference : ℕ) (side : Side) (k : Kind) (quantity : ℕ) (v : Validity) (r : Restriction) (condition : Condition)
-    → is_listed (Enter member reference side k quantity v r condition) ≡ true → is_continuous s.phase ≡ false → is_continuous (act s (Enter member reference side k quantity v r condition)).phase ≡ false
-entry-outside s member reference side (kind.Limit p) quantity Day Free Plain h u =
-    come-outside s (record { member = member; reference = reference; side = side; kind = Limit p; rest = quantity; validity = Day; restriction = Free }) u
-entry-outside s member reference side _ quantity _ _ _ h u = cc
-
-act-outside : (s : State) (c : Command) → is_listed c ≡ true → is_continuous s.phase ≡ false → is_continuous (act s c).phase ≡ false
-act-outside s (Enter member reference side k quantity validity restriction condition) h u = entry-outside s member reference side k quantity validity restriction condition h u
-act-outside s (Cancel member reference) h u = u
-act-outside s StartOpening h u = refl
-act-outside s _ h u = cc
-
--- no listed command begins continuous trading
-pub step-outside : (s : State) (c : Command) → is_listed c ≡ true → is_continuous s.phase ≡ false → is_continuous (step s c).phase ≡ false
-unfolding step
-step-outside s c h u = let t = act s c in settle_in-outside (length t.stops + 0) t [] (act-outside s c h u)
-
-entry-served : (s : State) (member reference : ℕ) (side : Side) (k : Kind) (quantity : ℕ) (v : Validity) (r : Restriction) (condition : Condition)
-    → is_listed (Enter member reference side k quantity v r condition) ≡ true → is_continuous s.phase ≡ false → is_served s.phase (Enter member reference side k quantity v r condition) ≡ true
-entry-served s member reference side (kind.Limit p) quantity Day Free Plain h u = rw u refl
-entry-served s member reference side _ quantity _ _ _ h u = cc
-
--- what an order file lists is served outside continuous trading
-pub listed-served : (s : State) (c : Command) → is_listed c ≡ true → is_continuous s.phase ≡ false → is_served s.phase c ≡ true
-listed-served s (Enter member reference side k quantity validity restriction condition) h u = entry-served s member reference side k quantity validity restriction condition h u
-listed-served s (Cancel member reference) h u = refl
-listed-served s StartOpening h u = refl
-listed-served s _ h u = cc
+-- what an order file lists is served
+pub listed-served : (c : Command) → is_listed c ≡ true → is_served c ≡ true
+listed-served (Enter member reference side k quantity validity restriction condition) h = entry-served member reference side k quantity validity restriction condition h
+listed-served (Cancel member reference) h = refl
+listed-served StartOpening h = refl
+listed-served _ h = cc
 
 abbrev pub with_command : Journal → Command → Journal
 with_command j c = record j { commands = j.commands ++ c ∷ [] }
@@ -134,13 +104,6 @@ opened-day config [] = refl
 opened-day config (security ∷ more) =
     ap (λ (s : State). s ∷ map replay (map (journal_of config) more)) (replay-opening (settings_of config security))
     ∙ ap (λ (ss : List State). opening (settings_of config security) ∷ ss) (opened-day config more)
-
--- before any row no desk is in continuous trading
-pub opened-outside : (config : SegmentConfig) (securities : List SecurityConfig) → All (λ (j : Journal). is_continuous (replay j).phase ≡ false) (map (journal_of config) securities)
-opened-outside config [] = All-nil (λ (j : Journal). is_continuous (replay j).phase ≡ false)
-opened-outside config (security ∷ more) =
-    let first = ap (λ (s : State). is_continuous s.phase) (replay-opening (settings_of config security)) in
-    All-cons (λ (j : Journal). is_continuous (replay j).phase ≡ false) (journal_of config security) (map (journal_of config) more) first (opened-outside config more)
 
 -- a slice that was lent whole comes back whole
 pub lent_back : {X : Type 0} (new old : List X) (n : ℕ) → length new ≡ length old → n ≡ length old → take n (new ++ drop (length new) old) ≡ new

@@ -4,7 +4,6 @@ ghost use Rattle.std.specs.List.{list_all};
 ghost use Rattle.xm_day.specs.Day.{Accepts, LacksMemoryAt, after_row, after_rows, day_of, journal_of, segment_fault};
 ghost use Rattle.xm_day.specs.Rows.{is_listed};
 ghost use Rattle.xm_desk.specs.Opening.{are_widths};
-ghost use Rattle.xm_rules.specs.Settling.{is_continuous};
 ghost use Rattle.xm_rules.specs.Step.{replay};
 
 use crate::config::{SecurityConfig, SegmentConfig};
@@ -95,7 +94,6 @@ pub fn take_rows<A: Allocator + Copy>(
     desks: &mut [Desk<A>],
     rows: &[Row],
 ) -> Result<DayReport, OutOfMemory>
-    requires outside_trading { All (λ j. is_continuous (replay j).phase ≡ false) desks.old }
     requires listed { list_all (λ row. is_listed row.command) rows.now ≡ true }
     ensures taken { IfOk result (λ report. day_of desks.new report.accepted report.refused ≡ after_rows (day_of desks.old 0 0) rows.now) }
     ensures memory { OnErr result (LacksMemoryAt (day_of desks.old 0 0) rows.now) }
@@ -117,13 +115,11 @@ fn take_row<A: Allocator + Copy>(
     row: &Row,
     report: DayReport,
 ) -> Result<DayReport, OutOfMemory>
-    requires outside_trading { All (λ j. is_continuous (replay j).phase ≡ false) desks.old }
     requires listed { is_listed row.now.command ≡ true }
     requires room { report.accepted + report.refused + 1 < 2 ^ 64 }
     ensures taken { IfOk result (λ counted. after_row (day_of desks.old report.accepted report.refused) row.now ≡ day_of desks.new counted.accepted counted.refused) }
     ensures counted { IfOk result (λ counted. counted.accepted + counted.refused ≡ report.accepted + report.refused + 1) }
     ensures memory { OnErr result (Accepts (day_of desks.old report.accepted report.refused) row.now) }
-    ensures outside_trading { OnOk result (All (λ j. is_continuous (replay j).phase ≡ false) desks.new) }
 {
     let refused = DayReport {
         accepted: report.accepted,

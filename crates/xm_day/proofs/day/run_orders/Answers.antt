@@ -3,7 +3,7 @@ use Rattle.std.specs.Io.KnownBytes.{Appends}
 use Rattle.xm_rules.specs.Settling.{is_continuous}
 use Rattle.xm_rules.specs.Step.{Journal, replay}
 use Rattle.xm_ticks.specs.Writing.{AppendsPrefix}
-use Rattle.xm_day.proofs.Days.{day-taken, lent_back, opened-outside}
+use Rattle.xm_day.proofs.Days.{day-taken, lent_back}
 use Rattle.xm_day.proofs.Endings.{OrdersEnd-of_writing}
 use Rattle.xm_day.proofs.PassedErrors.{is_passed}
 use Rattle.xm_day.specs.Answers.{OrdersEnd, statement_of}
@@ -13,11 +13,6 @@ use Rattle.xm_day.specs.declared.faults.DayFault.{DayFault}
 use Rattle.xm_day.specs.declared.faults.DayFault.TheVariants.{OutOfMemory}
 use Rattle.xm_day.specs.declared.report.DayReport.{DayReport}
 use Rattle.xm_day.proofs.day.run_orders.Goals as goal
-
-pub take_rows-requires-clause-outside_trading : goal.take_rows-requires-clause-outside_trading
-take_rows-requires-clause-outside_trading g c =
-    let AllOutside : List Journal → Type 0 = λ js. All (λ (j : Journal). is_continuous (replay j).phase ≡ false) js in
-    subst AllOutside (sym (c.as_mut_slice.ensures.value ∙ c.in_ok-desks.ensures.opened)) (opened-outside c.args.config.now c.args.config.now.securities)
 
 pub returns-clause-ends : goal.returns-clause-ends
 returns-clause-ends g c =

@@ -7,16 +7,13 @@ use Rattle.xm_rules.specs.Refusals.{refusal_of}
 use Rattle.xm_rules.specs.Settling.{is_continuous}
 use Rattle.xm_rules.specs.State.{State}
 use Rattle.xm_rules.specs.Step.{Journal, replay, step}
-use Rattle.xm_day.proofs.Days.{accepts-known, listed-served, step-outside, on_accepted, on_refused, on_unknown, with_command}
+use Rattle.xm_day.proofs.Days.{accepts-known, listed-served, on_accepted, on_refused, on_unknown, with_command}
 use Rattle.xm_day.specs.Day.{day_of}
 use Rattle.xm_day.proofs.desks.take_row.Goals as goal
 
 pub apply-requires : goal.apply-requires
 apply-requires g c =
-    let desks = c.args.desks.now in
-    let row = c.args.row.now in
-    let within : row.security < length desks = omega arith in
-    let served = listed-served (replay (get_or desks row.security c.index-desks-index.result)) row.command c.requires.listed (c.requires.outside_trading row.security c.index-desks-index.result within) in
+    let served = listed-served c.args.row.now.command c.requires.listed in
     search (rules, served)
 
 pub returns-then-index-desks-clause-taken : goal.returns-then-index-desks-clause-taken
@@ -35,19 +32,6 @@ returns-in-Ok-clause-taken g c =
     let passes : refusal_of (replay desk) row.command ≡ None = search rules in
     on_accepted desks row desk a r is passes ∙ ap (λ (j : Journal). day_of (set desks row.security j) (a + 1) r) (sym journal)
 
-pub returns-in-Ok-clause-outside_trading : goal.returns-in-Ok-clause-outside_trading
-returns-in-Ok-clause-outside_trading g c =
-    let desks = c.args.desks.now in
-    let row = c.args.row.now in
-    let desk = c.index-desks-index.result in
-    let within : row.security < length desks = omega arith in
-    let journal : c.apply.new.self ≡ with_command desk row.command = search rules in
-    let Outside : Journal → Type 0 = λ j. is_continuous (replay j).phase ≡ false in
-    let before : is_continuous (replay desk).phase ≡ false = subst Outside (sym c.index-desks-index.is) (c.requires.outside_trading row.security desk within) in
-    let after : is_continuous (step (replay desk) row.command).phase ≡ false = step-outside (replay desk) row.command c.requires.listed before in
-    let IsOutside : State → Type 0 = λ s. is_continuous s.phase ≡ false in
-    All-set Outside desks row.security c.apply.new.self (subst Outside (sym journal) (subst IsOutside (sym (replay-push desk row.command)) after)) c.requires.outside_trading
-
 pub returns-in_default-clause-taken : goal.returns-in_default-clause-taken
 returns-in_default-clause-taken g c =
     let desks = c.args.desks.now in
@@ -61,16 +45,6 @@ returns-in_default-clause-taken g c =
     let unchanged : set desks row.security c.apply.new.self ≡ desks = ap (set desks row.security) (kept ∙ c.index-desks-index.is) ∙ set-get_or desks row.security desk in
     let refuses : refusal_of (replay desk) row.command ≡ Some c.in-Err.refusal = search (rules, c.in-Err.ensures.refused c.in_default.not-OutOfMemory) in
     on_refused desks row desk c.in-Err.refusal a r is refuses ∙ ap (λ (js : List Journal). day_of js a (r + 1)) (sym unchanged)
-
-pub returns-in_default-clause-outside_trading : goal.returns-in_default-clause-outside_trading
-returns-in_default-clause-outside_trading g c =
-    let desks = c.args.desks.now in
-    let row = c.args.row.now in
-    let desk = c.index-desks-index.result in
-    let kept : c.apply.new.self ≡ desk = search rules in
-    let unchanged : set desks row.security c.apply.new.self ≡ desks = ap (set desks row.security) (kept ∙ c.index-desks-index.is) ∙ set-get_or desks row.security desk in
-    let AllOutside : List Journal → Type 0 = λ js. All (λ (j : Journal). is_continuous (replay j).phase ≡ false) js in
-    subst AllOutside (sym unchanged) c.requires.outside_trading
 
 pub returns-in-OutOfMemory-clause-memory : goal.returns-in-OutOfMemory-clause-memory
 returns-in-OutOfMemory-clause-memory g c =

@@ -19,7 +19,6 @@ loop-row-preserved g c =
     let within : c.loop-row.row-index < length rows = omega arith in
     record {
       so_far = rows-step (day_of c.args.desks.now 0 0) c.loop-row.desks rows c.loop-row.row-index _ c.loop-row.report.accepted c.loop-row.report.refused _ within c.loop-row.invariant.so_far c.in_ok-report.ensures.taken;
-      outside_trading = c.in_ok-report.ensures.outside_trading;
       counted = omega (arith, c.in_ok-report.ensures.counted, c.loop-row.invariant.counted);
     }
 

@@ -1,12 +1,9 @@
-use Rattle.std.proofs.Common.{◌≡◌, ◌+◌, All, false, take}
-use Rattle.xm_rules.specs.Settling.{is_continuous}
-use Rattle.xm_rules.specs.Step.{Journal, replay}
+use Rattle.std.proofs.Common.{◌≡◌, ◌+◌, take}
 use Rattle.xm_day.specs.Day.{after_rows, day_of}
 use Rattle.xm_day.proofs.desks.take_rows.Given as goal
 
 abbrev pub invariant-loop-row : goal.invariant-loop-row
 invariant-loop-row g l = record {
   so_far : day_of l.desks l.report.accepted l.report.refused ≡ after_rows (day_of l.initial.desks 0 0) (take l.row-index l.rows);
-  outside_trading : All (λ (j : Journal). is_continuous (replay j).phase ≡ false) l.desks;
   counted : l.report.accepted + l.report.refused ≡ l.row-index;
 }
