@@ -99,7 +99,7 @@ impl Loaded {
 
     /// Gives the desk a command that it serves, and answers whether it accepted it.
     fn is_accepted(&mut self, command: Command) -> Result<bool, LoadFault> {
-        if command.is_served(self.desk.phase()) {
+        if command.is_served() {
             Ok(self.desk.apply(command).is_ok())
         } else {
             Err(LoadFault)

@@ -58,6 +58,7 @@ mod growths;
 mod opening;
 mod orders;
 mod refusals;
+mod trading;
 
 use std::test::Fail;
 use xm_rules::{DeskSettings, Order, OrderKind, Restriction, Side, Validity, Widths};

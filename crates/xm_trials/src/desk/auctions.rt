@@ -1,26 +1,11 @@
 //! Calls, their auctions, and the end of the day.
-use super::day::Day;
-use std::alloc::Allocator;
-use std::process::Abort;
+use super::day::{Day, Traded};
 use std::test::Fail;
 use xm_rules::{
     Auction, CallStage, Command, Condition, Kind, Phase, Refusal, Restriction, Side, Validity,
 };
 
 const OPENING: Phase = Phase::Call(Auction::Opening, CallStage::Ordinary);
-
-/// A command, the number, quantity and money of the trades that it makes, and the phase after it.
-type Reply = (Command, u64, u64, u64, Phase);
-
-/// Gives a day each command, and compares what it answers.
-fn give_all<A: Allocator + Copy>(rt: &impl Abort, day: &mut Day<A>, replies: &[Reply]) {
-    for (command, trades, quantity, money, phase) in replies {
-        let reply = day.apply(rt, *command).expect(rt, "accepted");
-        let made = (reply.trades, reply.quantity, reply.money);
-        assert!(rt; made == (*trades, *quantity, *money), "at {command:?}");
-        assert!(rt; reply.phase == *phase, "at {command:?}");
-    }
-}
 
 /// An order that isn't free, or isn't for the day.
 macro_rules! order {
@@ -39,7 +24,7 @@ macro_rules! order {
 }
 
 /// Two buys meet two sells: three trades at one price.
-const TRADING: [Reply; 6] = [
+const TRADING: [Traded; 6] = [
     (buy!(0, 1, 1002, 30), 0, 0, 0, Phase::PreTrading),
     (Command::StartOpening, 0, 0, 0, OPENING),
     (buy!(0, 2, 1001, 40), 0, 0, 0, OPENING),
@@ -51,9 +36,9 @@ const TRADING: [Reply; 6] = [
 #[test]
 fn an_auction_that_trades(rt: HostRuntime) -> Result<(), Fail> {
     let mut day = Day::open(rt.alloc(), 100)?;
-    give_all(&rt, &mut day, &TRADING[..5]);
+    day.trade_all(&rt, &TRADING[..5]);
     assert!(rt; day.indicative() == Some((1001, 50)));
-    give_all(&rt, &mut day, &TRADING[5..]);
+    day.trade_all(&rt, &TRADING[5..]);
     assert!(rt; day.indicative() == None);
     assert!(rt; day.reference_prices() == (1001, 1001));
     day.buys_are(&rt, &[(0, 2, 1001, 20)]);
@@ -61,7 +46,7 @@ fn an_auction_that_trades(rt: HostRuntime) -> Result<(), Fail> {
 }
 
 /// A price outside the ranges of an ordinary call, and of an interrupted one; an extended call trades at it.
-const EXTENDED: [Reply; 6] = [
+const EXTENDED: [Traded; 6] = [
     (Command::StartOpening, 0, 0, 0, OPENING),
     (buy!(0, 1, 1100, 10), 0, 0, 0, OPENING),
     (sell!(1, 1, 1100, 10), 0, 0, 0, OPENING),
@@ -85,15 +70,15 @@ const EXTENDED: [Reply; 6] = [
 #[test]
 fn an_auction_that_is_extended(rt: HostRuntime) -> Result<(), Fail> {
     let mut day = Day::open(rt.alloc(), 100)?;
-    give_all(&rt, &mut day, &EXTENDED[..3]);
+    day.trade_all(&rt, &EXTENDED[..3]);
     assert!(rt; day.indicative() == Some((1100, 10)));
-    give_all(&rt, &mut day, &EXTENDED[3..]);
+    day.trade_all(&rt, &EXTENDED[3..]);
     assert!(rt; day.reference_prices() == (1100, 1100));
     Ok(())
 }
 
 /// Auctions without a price, with orders and without; the day ends with the orders that are valid beyond it.
-const VALIDITIES: [Reply; 9] = [
+const VALIDITIES: [Traded; 9] = [
     (
         order!(Side::Buy, 0, 1, 990, 5, Validity::Day, Restriction::Free),
         0,
@@ -162,7 +147,7 @@ const VALIDITIES: [Reply; 9] = [
 #[test]
 fn a_day_that_ends(rt: HostRuntime) -> Result<(), Fail> {
     let mut day = Day::open(rt.alloc(), 100)?;
-    give_all(&rt, &mut day, &VALIDITIES);
+    day.trade_all(&rt, &VALIDITIES);
     let left = day.orders().expect(&rt, "memory");
     assert!(rt; left.len() == 2);
     assert!(rt; left[0].reference == 2 && left[1].reference == 3);
@@ -172,7 +157,7 @@ fn a_day_that_ends(rt: HostRuntime) -> Result<(), Fail> {
 }
 
 /// Orders for the opening, for auctions and for the closing alone, in each of these calls.
-const RESTRICTED: [Reply; 10] = [
+const RESTRICTED: [Traded; 10] = [
     (
         order!(
             Side::Buy,
@@ -256,7 +241,7 @@ const RESTRICTED: [Reply; 10] = [
 #[test]
 fn restricted_orders_in_their_calls(rt: HostRuntime) -> Result<(), Fail> {
     let mut day = Day::open(rt.alloc(), 100)?;
-    give_all(&rt, &mut day, &RESTRICTED);
+    day.trade_all(&rt, &RESTRICTED);
     let trades = day.trades();
     assert!(rt; trades.len() == 2);
     assert!(rt; trades[0].sweep == 1 && trades[1].sweep == 2);

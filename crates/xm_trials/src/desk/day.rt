@@ -5,13 +5,19 @@ use std::process::Abort;
 use std::test::Fail;
 use xm_desk::Desk;
 use xm_names::Seed;
-use xm_rules::{Command, DeskSettings, Order, OutOfMemory, Phase, Refusal, Reply, Trade};
+use xm_rules::{
+    Command, DeskSettings, Order, OutOfMemory, Phase, Quote, Refusal, Reply, Side, Trade,
+};
+use xm_ticks::Price;
 
 /// A command with the version or the refusal that it is answered with.
 pub type Step = (Command, Result<u64, Refusal>);
 
 /// A limited buy order for the day: the member, the reference, the limit and the rest.
 pub type Bought = (u32, u32, u32, u32);
+
+/// A command, the number, quantity and money of the trades that it makes, and the phase after it.
+pub type Traded = (Command, u64, u64, u64, Phase);
 
 /// Commands of a day, with the orders that are live after them.
 #[derive(Clone, Copy)]
@@ -54,7 +60,7 @@ impl<A: Allocator + Copy> Day<A> {
     /// Gives a command that the desk serves. The desk knows its refusal beforehand, and takes into
     /// the journal what it accepts and nothing else.
     pub fn apply(&mut self, rt: &impl Abort, command: Command) -> Result<Reply, Refusal> {
-        assert!(rt; command.is_served(self.desk.phase()));
+        assert!(rt; command.is_served());
         let expected = self.desk.refusal_of(&command);
         let accepted = self.desk.journal().len();
         let answer = self.desk.apply(command);
@@ -79,6 +85,16 @@ impl<A: Allocator + Copy> Day<A> {
     pub fn give_all(&mut self, rt: &impl Abort, steps: &[Step]) {
         for (command, expected) in steps {
             assert_eq!(rt; self.give(rt, *command), *expected, "at {command:?}");
+        }
+    }
+
+    /// Gives each command, and compares what it trades and where it leads.
+    pub fn trade_all(&mut self, rt: &impl Abort, commands: &[Traded]) {
+        for (command, trades, quantity, money, phase) in commands {
+            let reply = self.apply(rt, *command).expect(rt, "accepted");
+            let made = (reply.trades, reply.quantity, reply.money);
+            assert!(rt; made == (*trades, *quantity, *money), "at {command:?}");
+            assert!(rt; reply.phase == *phase, "at {command:?}");
         }
     }
 
@@ -126,6 +142,19 @@ impl<A: Allocator + Copy> Day<A> {
             None => None,
             Some((price, volume)) => Some((price.get(), volume)),
         }
+    }
+
+    /// The best limits in ticks of the active buys and sells.
+    pub fn best_limits(&self) -> (Option<u32>, Option<u32>) {
+        let ticks = |limit: Price| limit.get();
+        (
+            self.desk.best(Side::Buy).map(ticks),
+            self.desk.best(Side::Sell).map(ticks),
+        )
+    }
+
+    pub fn quote(&self) -> Quote {
+        self.desk.quote()
     }
 
     pub fn journal(&self) -> &[Command] {

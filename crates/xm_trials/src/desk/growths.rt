@@ -7,7 +7,7 @@ use xm_rules::{
     Command, Condition, Kind, Order, OutOfMemory, Phase, Refusal, Restriction, Side, Validity,
 };
 
-const COMMANDS: [Command; 12] = [
+const COMMANDS: [Command; 17] = [
     buy!(0, 1, 1000, 10),
     Command::StartOpening,
     buy!(1, 1, 1010, 5),
@@ -20,11 +20,16 @@ const COMMANDS: [Command; 12] = [
     buy!(0, 2, 990, 7),
     sell!(0, 4, 1005, 4),
     Command::Uncross,
+    sell!(0, 5, 995, 3),
+    sell!(0, 6, 996, 3),
+    buy!(1, 2, 1000, 9),
+    change!(0, 2, 8, None),
+    sell!(0, 7, 990, 6),
 ];
 
-/// The list of orders after each of the twelve commands makes good one refusal: it first asks for room for all of them, and
+/// The list of orders after each of the seventeen commands makes good one refusal: it first asks for room for all of them, and
 /// grows as it goes where it can't have that.
-const MADE_GOOD: u64 = 12;
+const MADE_GOOD: u64 = 17;
 
 /// How often a call answered for want of memory.
 #[derive(Drop)]
@@ -90,8 +95,8 @@ impl Refused {
         }
         assert!(rt; like.journal() == COMMANDS.as_slice());
         assert!(rt; like.phase() == Phase::Continuous);
-        assert!(rt; like.trades().len() == 1);
-        like.buys_are(rt, &[(1, 1, 1010, 2), (0, 2, 990, 7)]);
+        assert!(rt; like.trades().len() == 6);
+        like.buys_are(rt, &[(0, 2, 990, 7)]);
     }
 
     /// Runs a day in which the request of this number is refused, and answers whether one was.
@@ -115,7 +120,7 @@ fn each_growth_refused_in_turn(rt: HostRuntime) -> Result<(), Fail> {
         commands: 0,
         lists: 0,
     };
-    for nth in 1..200 {
+    for nth in 1..300 {
         if !refused.run(&rt, rt.alloc(), nth)? {
             let answered = refused.commands.wrapping_add(refused.lists);
             assert_eq!(rt; answered.wrapping_add(MADE_GOOD), nth - 1);
