@@ -8,6 +8,7 @@ mod levels;
 mod listing;
 mod order_queues;
 mod places;
+mod slot;
 mod slots;
 mod trades;
 

@@ -1,8 +1,10 @@
 //! The entries of a book under keys that are given and come back.
-ghost use Rattle.std.specs.Prelude.{◌≡◌, ◌+◌, ◌<◌, ◌≤◌, [], None, Some, IfOk, IsSome, OnErr, OnOk, length, option_copied};
+ghost use Rattle.std.specs.Prelude.{◌≡◌, ◌+◌, ◌<◌, ◌≤◌, [], None, Some, IfOk, IfSome, IsSome, OnErr, OnOk, length, option_copied};
+ghost use Rattle.xm_book.specs.declared.slot.TheConstants.{VACANT};
 ghost use Rattle.xm_book.specs.Slots.{ContainsKey, Updates, entries_of, get, is_of, used};
 
 use crate::entry::Entry;
+use crate::slot::Slot;
 use std::alloc::{AllocError, Allocator};
 use std::marker::Model;
 use xm_rules::OutOfMemory;
@@ -10,7 +12,7 @@ use xm_rules::OutOfMemory;
 /// Entries, each under a key below the capacity. A key that has come back is given again before a new one.
 #[derive(Drop)]
 pub struct Slots<A: Allocator> {
-    entries: Vec<Option<Entry>, A>,
+    entries: Vec<Slot, A>,
     // The keys below the length of `entries` that have no entry.
     vacant: Vec<u32, A>,
     capacity: usize,
@@ -81,16 +83,14 @@ impl<A: Allocator> Slots<A> {
     pub fn get(&self, key: usize) -> Option<&Entry>
         ensures { option_copied result ≡ get self.now key }
     {
-        match self.entries.get(key) {
-            Some(Some(entry)) => Some(entry),
-            _ => None,
-        }
+        self.entries.get(key)?.get()
     }
 
     /// Puts an entry under a key that had none, in room that is there.
     #[inline(always)]
     pub fn insert(&mut self, entry: Entry) -> usize
-        requires { used self.old < self.old.capacity }
+        requires room { used self.old < self.old.capacity }
+        requires timed { entry.time < VACANT }
         ensures vacant { get self.old result ≡ None }
         ensures updates { Updates self.old self.new result (Some entry) }
         ensures used { used self.new ≡ used self.old + 1 }
@@ -100,12 +100,12 @@ impl<A: Allocator> Slots<A> {
         match self.vacant.pop() {
             Some(key) => {
                 let key = key as usize;
-                self.entries[key] = Some(entry);
+                self.entries[key] = Slot::of(entry);
                 key
             }
             None => {
                 let key = self.entries.len();
-                self.entries.push_reserved(Some(entry));
+                self.entries.push_reserved(Slot::of(entry));
                 key
             }
         }
@@ -125,14 +125,15 @@ impl<A: Allocator> Slots<A> {
         entry
     }
 
-    /// Puts another entry in place of the one under a key.
+    /// Puts another entry of the same time in place of the one under a key.
     pub fn replace(&mut self, key: usize, entry: Entry)
-        requires { ContainsKey self.old key }
+        requires there { ContainsKey self.old key }
+        requires time { IfSome (get self.old key) (λ e. entry.time ≡ e.time) }
         ensures updates { Updates self.old self.new key (Some entry) }
         ensures used { used self.new ≡ used self.old }
         ensures capacity { self.new.capacity ≡ self.old.capacity }
     {
-        self.entries[key] = Some(entry);
+        self.entries[key].replace(entry);
     }
 }
 
@@ -144,7 +145,7 @@ impl<A: Allocator + Copy> Slots<A> {
     {
         let mut entries = Vec::new(*self.entries.allocator());
         for slot in &self.entries {
-            if let Some(entry) = slot {
+            if let Some(entry) = slot.get() {
                 if is_of(member, entry) {
                     entries.push(*entry)?;
                 }

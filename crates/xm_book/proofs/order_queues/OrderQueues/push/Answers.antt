@@ -6,8 +6,8 @@ use Rattle.xm_book.specs.Places.{place_of}
 use Rattle.xm_book.specs.Reserved.{Gains, without_one}
 use Rattle.xm_book.proofs.order_queues.OrderQueues.push.Goals as goal
 
-pub insert-key-requires : goal.insert-key-requires
-insert-key-requires g c =
+pub insert-key-requires-clause-room : goal.insert-key-requires-clause-room
+insert-key-requires-clause-room g c =
     let q = c.self.inside in
     let p = place_of c.args.order.now in
     let there = rw (← c.self.view_is) at c.requires.reserved in

@@ -1,6 +1,12 @@
+use Rattle.std.proofs.Common.{◌≡◌, Bor, None, Option, Some, ap, option_copied, refl, sym, ◌∙◌}
+use Rattle.xm_book.specs.declared.entry.Entry.{Entry}
 use Rattle.xm_book.proofs.Collecting.{entries-none, entries-unwanted, entries-wanted}
 use Rattle.xm_book.proofs.slots.Slots.entries_of.Goals as goal
 use Rattle.xm_book.proofs.slots.Slots.entries_of.Goals.{in-Some+then-is_of+in_ok-push, in-Some+else-is_of, in_default}
+
+none-copied : (o : Option (Bor Entry)) → ((b : Bor Entry) → o ≡ Some b → ⊥) → (e : Entry) → option_copied o ≡ Some e → ⊥
+none-copied None none e h = absurd (cc)
+none-copied (Some b) none e h = none b refl
 
 pub loop-slot-preserved : goal.loop-slot-preserved
 loop-slot-preserved g c =
@@ -8,14 +14,16 @@ loop-slot-preserved g c =
     let i = c.loop-slot.slot-index in
     let d = c.slot-item.result in
     let within = c.loop-slot-test.true in
-    elim c.match-slot.branch [
+    elim c.match-get.branch [
       | in-Some+then-is_of+in_ok-push w ↦
-          let more = entries-wanted c.args.member slots i d within c.slot-item.is w.in-Some.entry w.in-Some.is w.is_of.result w.is_of.ensures w.if-is_of.true in
+          let here = sym c.get.ensures ∙ ap option_copied w.in-Some.is in
+          let more = entries-wanted c.args.member slots i d within c.slot-item.is w.in-Some.entry.now here w.is_of.result w.is_of.ensures w.if-is_of.true in
           rw (w.entries-is, w.in_ok-push.ensures.items, more, c.loop-slot.invariant)
       | in-Some+else-is_of w ↦
-          let more = entries-unwanted c.args.member slots i d within c.slot-item.is w.in-Some.entry w.in-Some.is w.is_of.result w.is_of.ensures w.if-is_of.false in
+          let here = sym c.get.ensures ∙ ap option_copied w.in-Some.is in
+          let more = entries-unwanted c.args.member slots i d within c.slot-item.is w.in-Some.entry.now here w.is_of.result w.is_of.ensures w.if-is_of.false in
           rw (w.entries-is, more) c.loop-slot.invariant
       | in_default w ↦
-          let more = entries-none c.args.member slots i d within c.slot-item.is w.in_default.not-Some in
+          let more = entries-none c.args.member slots i d within c.slot-item.is (λ e h. none-copied c.get.result w.in_default.not-Some e (c.get.ensures ∙ h)) in
           rw (w.entries-is, more) c.loop-slot.invariant
     ]

@@ -9,7 +9,7 @@ invariant_of-self g c =
     let i = c.self.invariant in
     let there = rw (← c.self.view_is) at c.requires in
     let back = c.push_reserved.ensures in
-    rw c.take.ensures.after (record {
+    rw c.take.ensures.vacant (record {
       vacancies = rw back.items (left-vacancies es ks c.args.key i.vacancies i.distinct there);
       distinct = rw back.items (left-distinct es ks c.args.key i.vacancies i.distinct there);
       counted = omega (arith, i.counted, back.len, left-count es ks c.args.key i.vacancies i.distinct there);
