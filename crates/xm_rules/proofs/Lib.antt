@@ -7,6 +7,7 @@ pub mod CallTrades
 pub mod Checks
 pub mod Choices
 pub mod ComingIn
+pub mod InHand
 pub mod Journals
 pub mod Kept
 pub mod LawfulJournals
