@@ -1,0 +1,15 @@
+mod Collecting
+mod Draining
+mod Expiring
+mod Growing
+mod InTime
+mod Indexing
+mod Joining
+mod Keeping
+mod Leaving
+mod Members
+mod Named
+mod Reaching
+mod SlotKeys
+mod Tails
+mod Timeline

@@ -1,0 +1,22 @@
+use Rattle.std.proofs.Common.{◌≡◌, ℕ, true, refl, sym, subst, ◌∙◌, arith}
+use Rattle.std.specs.List.{list_all}
+use Rattle.xm_stops.specs.Expiry.{is_done}
+use Rattle.xm_stops.proofs.Expiring.{all-valid, none-done}
+use Rattle.xm_stops.proofs.expiry.drop_expired.Goals as goal
+
+pub loop-key-init : goal.loop-key-init
+loop-key-init g c = record {
+  indexed = c.requires;
+  rest = refl;
+  valid = refl;
+  below = c.key_limit-key-end.ensures;
+  done = none-done c.args.today c.args.queues.now.stops;
+}
+
+pub returns-clause-left : goal.returns-clause-left
+returns-clause-left g c =
+    let at = c.loop-key in
+    let limit = c.key_limit-key-end.result in
+    let last : at.key ≡ limit = omega (arith, c.loop-key-test.false, at.auto.key-end) in
+    let done = subst (λ (n : ℕ). list_all (is_done c.args.today n) at.queues.stops ≡ true) last at.invariant.done in
+    at.invariant.rest ∙ (λ i. record c.args.queues.now { stops = (sym (all-valid c.args.today limit at.queues.stops at.invariant.below done) ∙ at.invariant.valid) i })

@@ -1,0 +1,7 @@
+use Rattle.xm_stops.proofs.Expiring.{all-below}
+use Rattle.xm_stops.proofs.stop_queues.StopQueues.key_limit.Goals as goal
+
+pub returns : goal.returns
+returns g c =
+    let q = c.self.inside in
+    rw (c.key_limit.ensures, ← c.self.view_is) (all-below q.entries q.listing c.self.invariant.queued.lie)

@@ -1,0 +1,38 @@
+use Rattle.std.proofs.Common.{map, sym}
+use Rattle.xm_stops.specs.Listing.{listed_stop}
+use Rattle.xm_stops.proofs.Indexing.{key-there, stop-found, stop-left, seen, seen-left, unknown, unnamed}
+use Rattle.xm_stops.proofs.Named.{nothing-removed}
+use Rattle.xm_stops.proofs.stops.Stops.remove.Goals as goal
+
+pub take-requires : goal.take-requires
+take-requires g c =
+    let b = c.self.inside in
+    key-there b.queues b.names c.self.invariant c.args.member c.args.reference c.in-Some.key c.in-Some.ensures.key
+
+pub invariant_of-self-in-Some : goal.invariant_of-self-in-Some
+invariant_of-self-in-Some g c =
+    let b = c.self.inside in
+    let left = c.take.ensures in
+    stop-left b.queues b.names c.self.invariant c.args.member c.args.reference c.in-Some.key c.in-Some.ensures.key left.distinct c.take.new.self left.left c.remove.new.self c.remove.ensures.names c.remove.ensures.room
+
+pub returns-in-None-clause-found : goal.returns-in-None-clause-found
+returns-in-None-clause-found g c =
+    let b = c.self.inside in
+    rw (← c.self.view_is) (sym (unnamed b.queues b.names c.self.invariant c.args.member c.args.reference c.in-None.ensures.key))
+
+pub returns-in-None-clause-left : goal.returns-in-None-clause-left
+returns-in-None-clause-left g c =
+    let b = c.self.inside in
+    let none = unknown b.queues b.names c.self.invariant c.args.member c.args.reference c.in-None.ensures.key in
+    rw (← c.self.view_is) (λ i. record (seen b.queues) { stops = sym (nothing-removed c.args.member c.args.reference (map listed_stop b.queues.stops) none) i })
+
+pub returns-in-Some-clause-found : goal.returns-in-Some-clause-found
+returns-in-Some-clause-found g c =
+    let b = c.self.inside in
+    rw (← c.self.view_is) (stop-found b.queues b.names c.self.invariant c.args.member c.args.reference c.in-Some.key c.in-Some.ensures.key c.take.result c.take.ensures.entry)
+
+pub returns-in-Some-clause-left : goal.returns-in-Some-clause-left
+returns-in-Some-clause-left g c =
+    let b = c.self.inside in
+    let left = c.take.ensures in
+    rw (← c.self.view_is) (seen-left b.queues b.names c.self.invariant c.args.member c.args.reference c.in-Some.key c.in-Some.ensures.key left.distinct c.take.new.self left.left)

@@ -1,0 +1,29 @@
+-- What a caller sees of the held stops, and of the pending ones.
+use Rattle.std.specs.Prelude.{ℕ, Bool, true, ◌&&◌, ◌==◌, not, List, [], ◌∷◌, filter, map, Option}
+use Rattle.std.specs.List.{list_any}
+use Rattle.xm_rules.specs.Orders.{is_stop_named}
+use Rattle.xm_rules.specs.declared.orders.Stop.{Stop}
+
+pub record HeldStops : Type 0 where
+  -- the held stops in order of entry
+  pub stops : List Stop
+  -- the stop for which there is room
+  pub ready : Option Stop
+
+pub record PendingStops : Type 0 where
+  -- the stops in the order in which they come in
+  pub stops : List Stop
+  -- for how many more there is room
+  pub room : ℕ
+
+-- no two stops have one name
+abbrev pub have_own_names : List Stop → Bool
+have_own_names [] = true
+have_own_names (s ∷ stops) = not (list_any (is_stop_named s.member s.reference) stops) && have_own_names stops
+
+abbrev pub is_known : ℕ → ℕ → List Stop → Bool
+is_known member reference stops = list_any (is_stop_named member reference) stops
+
+-- the references of a member's stops, in order of entry
+abbrev pub references_of : ℕ → List Stop → List ℕ
+references_of member stops = map (λ (s : Stop). s.reference) (filter (λ (s : Stop). s.member == member) stops)

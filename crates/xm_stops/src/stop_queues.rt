@@ -1,0 +1,195 @@
+//! The held stops in their queues.
+ghost use Rattle.std.specs.Prelude.{◌≡◌, ◌+◌, ◌++◌, ◌∷◌, [], ◌<◌, ◌≤◌, Contains, IfNone, IfOk, IfSome, None, OnErr, OnOk, Some, filter, length, map, option_copied, true};
+ghost use Rattle.std.specs.List.{list_all};
+ghost use Rattle.xm_queues.specs.Keys.{AreDistinct};
+ghost use Rattle.xm_stops.specs.Expiry.{is_below};
+ghost use Rattle.xm_stops.specs.Listing.{is_other_key, keys_in, listed_entry, rises};
+ghost use Rattle.xm_stops.specs.Queued.{IsReachedAt, IsReachedOn, has_reached, has_reached_on};
+ghost use Rattle.xm_stops.specs.Slots.{is_of};
+ghost use Rattle.xm_stops.specs.declared.listing.Listed.{Listed};
+ghost use Rattle.xm_ticks.specs.declared.numbers.TheConstants.{MAX_PRICE};
+
+use crate::entry::Entry;
+use crate::listing::{Listed, Listing};
+use crate::slots::Slots;
+use crate::trigger_queues::TriggerQueues;
+use std::alloc::{AllocError, Allocator};
+use std::marker::Model;
+use xm_queues::Queues;
+use xm_rules::{OutOfMemory, Side, Stop};
+use xm_ticks::Price;
+
+/// The held stops under their keys, each in the queue of its side and trigger.
+#[derive(Drop)]
+pub struct StopQueues<A: Allocator + Copy> {
+    entries: Slots<A>,
+    links: Queues<A>,
+    triggers: TriggerQueues<A>,
+    // The stop for which there is room in the other parts.
+    ready: Option<Stop>,
+    // The number of the next entry.
+    adds: u64,
+    // The stops in order of entry.
+    listing: Listing,
+}
+
+impl<A: Allocator + Copy> Model for StopQueues<A> {
+    ghost use Rattle.xm_stops.specs.Queued.{IsKept, QueuedView};
+
+    ghost Value = { QueuedView };
+
+    ghost view = { λ q. record { stops = q.listing; ready = q.ready; adds = q.adds } };
+
+    ghost invariant = { λ q. IsKept q.listing q.ready q.adds q.entries q.links q.triggers };
+}
+
+impl<A: Allocator + Copy> StopQueues<A> {
+    /// No stop, and no room, which takes no memory.
+    pub fn new(alloc: A) -> StopQueues<A>
+        ensures { result ≡ record { stops = []; ready = None; adds = 0 } }
+    {
+        StopQueues {
+            entries: Slots::new(alloc),
+            links: Queues::new(alloc),
+            triggers: TriggerQueues::new(alloc),
+            ready: None,
+            adds: 0,
+            listing: Listing::new(),
+        }
+    }
+
+    /// How many stops there are. Their numbers rise.
+    pub fn len(&self) -> usize
+        ensures len { result ≡ length self.now.stops }
+        ensures rise { rises 0 self.now.stops self.now.adds ≡ true }
+    {
+        self.entries.len()
+    }
+
+    /// The stop for which there is room.
+    pub fn ready(&self) -> Option<Stop>
+        ensures { result ≡ self.now.ready }
+    {
+        self.ready
+    }
+
+    /// The stop under a key, with the number of its entry.
+    pub fn get(&self, key: usize) -> Option<&Entry>
+        ensures there { (x : Listed) → Contains self.now.stops x → x.key ≡ key → option_copied result ≡ Some (listed_entry x) }
+        ensures held { IfSome (option_copied result) (Contains (map listed_entry self.now.stops)) }
+    {
+        self.entries.get(key)
+    }
+
+    /// A bound above each key.
+    pub fn key_limit(&self) -> usize
+        ensures { list_all (is_below result) self.now.stops ≡ true }
+    {
+        let _ = &self.listing;
+        self.entries.key_limit()
+    }
+
+    /// Makes room for this stop.
+    pub fn reserve(&mut self, stop: &Stop) -> Result<(), AllocError>
+        requires { stop.now.trigger ≤ MAX_PRICE }
+        ensures ok { OnOk result (self.new ≡ record self.old { ready = Some stop.now }) }
+        ensures err { OnErr result (self.new ≡ self.old) }
+    {
+        if self.adds == u64::MAX {
+            return Err(AllocError);
+        }
+        let present = self.entries.capacity();
+        let capacity = capacity_for(self.entries.len() + 1, present);
+        self.links.reserve_key(capacity - 1)?;
+        self.entries.grow_to(capacity)?;
+        self.triggers.reserve(stop.side, stop.trigger)?;
+        self.ready = Some(*stop);
+        Ok(())
+    }
+
+    /// The stop for which there is room joins its queue last, and the answer is its key.
+    pub fn push(&mut self, stop: &Stop) -> usize
+        requires { self.old.ready ≡ Some stop.now }
+        ensures { self.new ≡ record { stops = self.old.stops ++ record { key = result; time = self.old.adds; stop = stop.now } ∷ []; ready = None; adds = self.old.adds + 1 } }
+    {
+        let (side, trigger) = (stop.side, stop.trigger);
+        let time = self.adds;
+        let key = self.entries.insert(Entry { stop: *stop, time });
+        let mut ends = self.triggers.queue(side, trigger);
+        self.links.push_back(&mut ends, key);
+        self.triggers.put(side, trigger, ends);
+        self.listing.join(&Listed {
+            key,
+            time,
+            stop: *stop,
+        });
+        self.ready = None;
+        self.adds += 1;
+        key
+    }
+
+    /// The stop of a key leaves.
+    pub fn take(&mut self, key: usize) -> Entry
+        requires { Contains (keys_in self.old.stops) key }
+        ensures entry { (x : Listed) → Contains self.old.stops x → x.key ≡ key → result ≡ listed_entry x }
+        ensures left { self.new ≡ record self.old { stops = filter (is_other_key key) self.old.stops } }
+        ensures distinct { AreDistinct (keys_in self.old.stops) }
+    {
+        let entry = self.entries.remove(key);
+        let Stop { side, trigger, .. } = entry.stop;
+        let mut ends = self.triggers.queue(side, trigger);
+        self.links.unlink(&mut ends, key);
+        self.triggers.set(side, trigger, ends);
+        self.listing.leave(key);
+        entry
+    }
+}
+
+/// The capacity for so many stops: the present one where it is enough, or else at least twice that.
+fn capacity_for(stops: usize, capacity: usize) -> usize
+    requires { capacity ≤ 4294967295 }
+    ensures holds { stops ≤ result }
+    ensures grows { capacity ≤ result }
+{
+    if stops <= capacity {
+        capacity
+    } else {
+        stops.max(2 * capacity).max(4)
+    }
+}
+
+impl<A: Allocator + Copy> StopQueues<A> {
+    /// The stops in order of entry, each with the number of its entry: those of a member, or all where no member is named,
+    /// or `OutOfMemory` where the answer can't be held.
+    pub fn in_time(&self, member: Option<u32>) -> Result<Vec<Entry, A>, OutOfMemory>
+        ensures { IfOk result (λ entries. entries.items ≡ filter (is_of member) (map listed_entry self.now.stops)) }
+    {
+        let mut entries = self.entries.entries_of(member)?;
+        entries.sort_unstable_by_key(|entry| entry.time);
+        Ok(entries)
+    }
+
+    /// The key of some stop that the last price has reached. It asks the nearest trigger of each side alone.
+    pub fn reached(&self, last: Price) -> Option<usize>
+        ensures some { IfSome result (IsReachedAt last self.now.stops) }
+        ensures none { IfNone result (filter (has_reached last) self.now.stops ≡ []) }
+    {
+        match self.reached_on(Side::Buy, last) {
+            Some(key) => Some(key),
+            None => self.reached_on(Side::Sell, last),
+        }
+    }
+
+    /// The key of some stop of a side that the last price has reached.
+    fn reached_on(&self, side: Side, last: Price) -> Option<usize>
+        ensures some { IfSome result (IsReachedOn side last self.now.stops) }
+        ensures none { IfNone result (filter (has_reached_on side last) self.now.stops ≡ []) }
+    {
+        let table = self.triggers.of(side);
+        let trigger = table.nearest(side)?;
+        if !side.reaches(last.get(), trigger) {
+            return None;
+        }
+        table.get(trigger)?.front()
+    }
+}
