@@ -107,7 +107,7 @@ module _ (P : ℕ → Type 0) where
   either true x y h i = h
   either false x y h i = i
 
-  best_from_has : (side : Side) (x : ℕ) (xs : List ℕ) → P x → All P xs → P (best_from side x xs)
+  pub best_from_has : (side : Side) (x : ℕ) (xs : List ℕ) → P x → All P xs → P (best_from side x xs)
   best_from_has side x [] h all = h
   best_from_has side x (y ∷ ys) h all =
       best_from_has side (if reaches side x y then x else y) ys (either (reaches side x y) x y h (All-head P y ys all)) (All-tail P y ys all)

@@ -1,17 +1,17 @@
 -- The units in hand: those that rest, those of held stops, and those that were traded. A command brings in no more than its quantity.
-use Rattle.std.proofs.Common.{◌≡◌, ℕ, zero, suc, ◌+◌, ◌-◌, ◌≤◌, ◌==◌, min, Bool, true, false, not, ◌&&◌, if◌then◌else◌, List, [], ◌∷◌, ◌++◌, filter, map, length, count_by, cond, sum_by, Option, Some, None, refl, sym, ap, ◌∙◌, arith}
+use Rattle.std.proofs.Common.{◌≡◌, ℕ, ◌+◌, ◌-◌, ◌≤◌, ◌==◌, min, Bool, true, false, not, ◌&&◌, if◌then◌else◌, List, [], ◌∷◌, count_by, cond, sum_by, Option, Some, None, refl, sym, ap, ◌∙◌, arith}
 use Rattle.std.specs.Prelude.{find}
 use Rattle.std.proofs.lemmas.List.Sums.{sum_by-append, sum_by-cons, sum_by-le-sum_by, sum_by_push}
-use Rattle.xm_rules.specs.Active.{Positioned, positioned_from, is_active_on}
-use Rattle.xm_rules.specs.Allotment.{Uncrossing, allotted, auction_trades, end_unit, first_unit, orders_after_call, side_queue, takes_part}
+use Rattle.xm_rules.specs.Active.{positioned_from, is_active_on}
+use Rattle.xm_rules.specs.Allotment.{Uncrossing, allotted, auction_trades, first_unit, side_queue, takes_part}
 use Rattle.xm_rules.specs.Auction.{auction_price}
-use Rattle.xm_rules.specs.Commands.{order_kind, outlasts, trigger_of}
+use Rattle.xm_rules.specs.Commands.{outlasts, trigger_of}
 use Rattle.xm_rules.specs.Orders.{is_named, is_stop_named, with_rest}
-use Rattle.xm_rules.specs.Settling.{come, is_continuous, is_free, is_reached, joined, order_of_stop, reached, released, settle, settle_in, sweep_of, swept, take_pending}
+use Rattle.xm_rules.specs.Settling.{come, is_continuous, is_free, is_reached, joined, order_of_stop, reached, released, settle, sweep_of, swept}
 use Rattle.xm_rules.specs.State.{State, inside_both, inside_wide, ranges, ref1}
-use Rattle.xm_rules.specs.Step.{act, all_cancelled, cancelled, changed, changed_order, come_under, day_ended, entered, entered_order, keeps_priority, next_phase, reduced, replaced, step, stop_of, traded, uncrossed, uncrossed_at}
+use Rattle.xm_rules.specs.Step.{act, cancelled, changed, changed_order, come_under, entered, entered_order, keeps_priority, reduced, replaced, step, stop_of, traded, uncrossed, uncrossed_at}
 use Rattle.xm_rules.specs.Sums.{total_quantity}
-use Rattle.xm_rules.specs.Sweep.{filled, is_fillable, orders_after_sweep, rest_after, sweep_trades}
+use Rattle.xm_rules.specs.Sweep.{is_fillable, rest_after, sweep_trades}
 use Rattle.xm_rules.specs.declared.commands.Command.{Command}
 use Rattle.xm_rules.specs.declared.commands.Command.TheVariants.{Enter, Change, Cancel, CancelAll, StartOpening, StartIntraday, StartClosing, Uncross, EndDay}
 use Rattle.xm_rules.specs.declared.commands.Condition.{Condition}
@@ -19,7 +19,6 @@ use Rattle.xm_rules.specs.declared.commands.Condition.TheVariants.{Plain, Ioc, F
 use Rattle.xm_rules.specs.declared.orders.Order.{Order}
 use Rattle.xm_rules.specs.declared.orders.Side.TheVariants.{Buy, Sell}
 use Rattle.xm_rules.specs.declared.orders.Stop.{Stop}
-use Rattle.xm_rules.specs.declared.orders.Trade.{Trade}
 use Rattle.xm_rules.specs.declared.phases.Auction.{Auction}
 use Rattle.xm_rules.specs.declared.phases.CallStage.{CallStage}
 use Rattle.xm_rules.specs.declared.phases.CallStage.TheVariants.{Ordinary, Interrupted, Extended}
@@ -27,10 +26,11 @@ use Rattle.xm_rules.specs.declared.phases.Phase.{Phase}
 use Rattle.xm_rules.specs.declared.phases.Phase.TheVariants.{Call}
 use Rattle.xm_rules.proofs.Allotments.{allotted_to_side, allotted_within, within_side}
 use Rattle.xm_rules.proofs.CallTrades.{call_of}
-use Rattle.xm_rules.proofs.Orderings.{sum-filter, sum-map}
+use Rattle.xm_rules.proofs.Orderings.{sum-map}
 use Rattle.xm_rules.proofs.Prices.{volume_at_price}
-use Rattle.xm_rules.proofs.Sums.{sum-add, sum-each}
-use Rattle.xm_rules.proofs.Sweeps.{filled_within, list_loses_filled, quantity_of, traded_is_filled}
+use Rattle.xm_rules.proofs.SettledSums.{part, settle-within, split}
+use Rattle.xm_rules.proofs.Sums.{sum-add}
+use Rattle.xm_rules.proofs.Sweeps.{list_loses_filled, quantity_of, traded_is_filled}
 use Rattle.xm_rules.proofs.TimeLists.{left_and_taken, rest_of}
 
 abbrev pub stop_units : Stop → ℕ
@@ -64,37 +64,11 @@ come-more s o =
 
 -- ---- settling
 
-split_by : (b : Bool) (n : ℕ) → (if b then n else 0) + (if not b then n else 0) ≡ n
-split_by true n = omega arith
-split_by false n = omega arith
-
--- those that pass a test and those that don't
-split : {X : Type 0} (f : X → ℕ) (p : X → Bool) (xs : List X) → sum_by f (filter p xs) + sum_by f (filter (λ x. not (p x)) xs) ≡ sum_by f xs
-split f p xs =
-    omega (
-      arith,
-      sum-filter f p xs,
-      sum-filter f (λ x. not (p x)) xs,
-      sum-add (λ x. if p x then f x else 0) (λ x. if not (p x) then f x else 0) xs,
-      sum-each (λ x. (if p x then f x else 0) + (if not (p x) then f x else 0)) f xs (λ x. split_by (p x) (f x)),
-    )
-
-part : {X : Type 0} (f : X → ℕ) (p : X → Bool) (xs : List X) → sum_by f (filter p xs) ≤ sum_by f xs
-part f p xs = omega (arith, split f p xs)
-
 released-keeps : (s : State) → in_hand (released s) + sum_by stop_units (reached s) ≡ in_hand s
 released-keeps s = omega (arith, split stop_units (is_reached (ref1 s)) s.stops)
 
-taken-more : (more : State → List Stop → State) → ((s : State) (pending : List Stop) → in_hand (more s pending) ≤ in_hand s + sum_by stop_units pending)
-    → (s : State) (pending : List Stop) → in_hand (take_pending more s pending) ≤ in_hand s + sum_by stop_units pending
-taken-more more keeps s [] = omega arith
-taken-more more keeps s (stop ∷ stops) =
-    omega (arith, keeps (come s (order_of_stop stop)) stops, come-more s (order_of_stop stop), sum_by-cons stop_units stop stops)
-
-settled-more : (turns : ℕ) (s : State) (pending : List Stop) → in_hand (settle_in turns s pending) ≤ in_hand s + sum_by stop_units pending
-settled-more zero s pending = omega arith
-settled-more (suc turns) s pending =
-    omega (arith, taken-more (settle_in turns) (settled-more turns) (released s) (pending ++ reached s), released-keeps s, sum_by-append stop_units pending (reached s))
+settle-more : (s : State) → in_hand (settle s []) ≤ in_hand s
+settle-more s = settle-within in_hand stop_units (λ s stop. come-more s (order_of_stop stop)) (λ s. omega (arith, released-keeps s)) s
 
 -- ---- the end of a call
 
@@ -222,4 +196,4 @@ act-more s StartClosing own = omega arith
 
 pub step-more : (s : State) (c : Command) → HaveOwnNames s.orders → in_hand (step s c) ≤ in_hand s + brought c
 unfolding step
-step-more s c own = omega (arith, act-more s c own, settled-more (length (act s c).stops + 0) (act s c) [])
+step-more s c own = omega (arith, act-more s c own, settle-more (act s c))

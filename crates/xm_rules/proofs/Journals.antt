@@ -38,7 +38,7 @@ unfolding replay is_lawful
 is_lawful-push j c h r = is_lawful_from-push (opening j.settings) j.commands c h r
 
 -- the number of accepted commands is that of the journal
-step-accepted : (s : State) (c : Command) → (step s c).accepted ≡ s.accepted + 1
+pub step-accepted : (s : State) (c : Command) → (step s c).accepted ≡ s.accepted + 1
 unfolding step
 step-accepted s c = refl
 

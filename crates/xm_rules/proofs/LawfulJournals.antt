@@ -8,7 +8,7 @@ use Rattle.xm_rules.specs.Step.{step, replay_from, is_lawful_from}
 use Rattle.xm_rules.specs.declared.commands.Command.{Command}
 use Rattle.xm_rules.specs.declared.replies.Refusal.{Refusal}
 
-none_from_test : {A : Type 0} (o : Option A) → is_none o ≡ true → o ≡ None
+pub none_from_test : {A : Type 0} (o : Option A) → is_none o ≡ true → o ≡ None
 none_from_test None e = refl
 none_from_test (Some x) e = absurd (cc)
 

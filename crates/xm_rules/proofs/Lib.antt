@@ -7,7 +7,9 @@ pub mod CallTrades
 pub mod Checks
 pub mod Choices
 pub mod ComingIn
+pub mod DayLimits
 pub mod InHand
+pub mod OneName
 pub mod Journals
 pub mod Kept
 pub mod LawfulJournals
@@ -19,6 +21,7 @@ pub mod Prices
 pub mod Queues
 pub mod Remaining
 pub mod Served
+pub mod SettledSums
 pub mod Sums
 pub mod SweepSizes
 pub mod Sweeps

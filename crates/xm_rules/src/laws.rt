@@ -1,15 +1,16 @@
 //! Laws of the definitions, over all inputs. Each function promises one by its contract.
-ghost use Rattle.std.specs.Prelude.{◌≡◌, ◌≢◌, ◌≤◌, ◌<◌, ◌+◌, ◌&&◌, ◌||◌, ◌⊎◌, ◌++◌, ◌∷◌, [], ℕ, List, Option, Some, None, All, Contains, sum_by, true, false};
+ghost use Rattle.std.specs.Prelude.{◌≡◌, ◌≢◌, ◌≤◌, ◌<◌, ◌+◌, ◌*◌, ◌&&◌, ◌||◌, ◌⊎◌, ◌++◌, ◌∷◌, [], ℕ, List, Option, Some, None, All, Contains, count_by, sum_by, true, false};
 ghost use Rattle.xm_rules.specs.Active.{Positioned, active};
 ghost use Rattle.xm_rules.specs.Allotment.{Uncrossing, side_queue, allotted, auction_trades};
 ghost use Rattle.xm_rules.specs.Auction.{auction_price, volume};
 ghost use Rattle.xm_rules.specs.Crossing.{NoneMeet};
+ghost use Rattle.xm_rules.specs.Orders.{is_named, is_stop_named};
 ghost use Rattle.xm_rules.specs.Priority.{is_ahead};
 ghost use Rattle.xm_rules.specs.Quote.{best_limit};
 ghost use Rattle.xm_rules.specs.Refusals.{refusal_of};
 ghost use Rattle.xm_rules.specs.State.{State, ranges, ref1, inside_both, inside_wide};
-ghost use Rattle.xm_rules.specs.Step.{come_under, replay, is_lawful, uncrossed, new_trades};
-ghost use Rattle.xm_rules.specs.Sums.{IsBetweenMembers, bought, over_members, paid, received, sold, total_money, total_quantity};
+ghost use Rattle.xm_rules.specs.Step.{Journal, come_under, replay, is_lawful, uncrossed, new_trades};
+ghost use Rattle.xm_rules.specs.Sums.{AreWithinLimits, IsBetweenMembers, bought, over_members, paid, received, sold, total_money, total_quantity};
 ghost use Rattle.xm_rules.specs.Sweep.{Sweep, filled, rest_after, sweep_trades, orders_after_sweep};
 ghost use Rattle.xm_rules.specs.declared.commands.Command.{Command};
 ghost use Rattle.xm_rules.specs.declared.commands.Condition.{Condition};
@@ -26,6 +27,7 @@ ghost use Rattle.xm_rules.specs.declared.phases.Phase.{Phase};
 ghost use Rattle.xm_rules.specs.declared.phases.Phase.TheVariants.{Call, Continuous};
 ghost use Rattle.xm_rules.specs.declared.replies.Refusal.{Refusal};
 ghost use Rattle.xm_rules.specs.declared.settings.DeskSettings.{DeskSettings};
+ghost use Rattle.xm_ticks.specs.declared.numbers.TheConstants.{MAX_JOURNAL_LIMIT, MAX_PRICE, MAX_QUANTITY};
 
 /// Priority is a strict order of the active orders of a side: two are never ahead of each other, of two different ones one
 /// is ahead, and what is ahead of one that is ahead is ahead.
@@ -137,4 +139,19 @@ pub fn lawful_journals_hold_no_refused_command()
     ensures lawful { (settings : DeskSettings) (commands more : List Command) (c : Command)
         → is_lawful (record { settings = settings; commands = commands ++ c ∷ more }) ≡ true
         → refusal_of (replay (record { settings = settings; commands = commands })) c ≡ None }
+{}
+
+/// In the state of a lawful journal no two live orders or held stops have one name.
+pub fn lawful_journals_use_each_name_once()
+    ensures { (j : Journal) (member reference : ℕ) → is_lawful j ≡ true
+        → count_by (is_named member reference) (replay j).orders + count_by (is_stop_named member reference) (replay j).stops ≤ 1 }
+{}
+
+/// A lawful journal trades no more than a million units for each command of members that it takes, since no command brings in
+/// more. So where that is no more than a journal may take, and no trade is above the highest price, as a desk's types keep, its
+/// trades are within the limits of a day.
+pub fn lawful_journals_stay_within_the_limits_of_a_day()
+    ensures quantity { (j : Journal) → is_lawful j ≡ true → total_quantity (replay j).trades ≤ MAX_QUANTITY * j.settings.limit }
+    ensures limits { (j : Journal) → is_lawful j ≡ true → j.settings.limit ≤ MAX_JOURNAL_LIMIT
+        → All (λ (t : Trade). t.price ≤ MAX_PRICE) (replay j).trades → AreWithinLimits (replay j).trades }
 {}
