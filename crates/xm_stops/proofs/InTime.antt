@@ -154,7 +154,7 @@ module _ (xs : List Listed) (adds : ℕ) (slots : SlotsView) (lie : All (LiesAt 
       (length_permutation (entries_of member slots) zs moved ∙ length-filter (is_of member) (entries_in slots.slots)
       ∙ sym (sum_by-IsPermutation (λ (e : Entry). cond (is_of member e) 1 0) (entries_in slots.slots) all_in_time same-stops) ∙ sym (length-filter (is_of member) all_in_time))
 
--- ---- what a book answers of them
+-- ---- what is answered of them
 abbrev pub entry_stop : Entry → Stop
 entry_stop e = e.stop
 
