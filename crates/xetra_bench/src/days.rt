@@ -2,99 +2,16 @@
 //! sides are common.
 ghost use Rattle.std.specs.Prelude.{◌<◌};
 
+use crate::draws::{Draws, MEMBERS, STAGES, Sum};
 use crate::loads::{LoadFault, Loaded};
 use crate::said;
-use xm_rules::{
-    CallStage, Command, Condition, DeskSettings, Kind, Order, Phase, Restriction, Side, Trade,
-    Validity, Widths,
-};
-use xm_ticks::{JournalLimit, Price, TickSize};
+use xm_rules::{CallStage, Command, Condition, Kind, Phase};
 
 /// How many days are drawn.
 const DAYS: u32 = 2_000;
 
 /// Where the generator begins.
 const SEED: u64 = 20260105;
-
-const TODAY: u32 = 20260105;
-
-const MEMBERS: u32 = 3;
-
-/// The stages of a call, each of which an uncross ends.
-const STAGES: u32 = 3;
-
-/// The multiplier of the generator, and of the sum.
-const FACTOR: u64 = 6_364_136_223_846_793_005;
-
-/// A linear congruential generator: each run draws the same.
-#[derive(Drop)]
-struct Draws {
-    state: u64,
-}
-
-impl Draws {
-    /// A number below this one.
-    fn below(&mut self, bound: u32) -> u32
-        requires { 0 < bound }
-        ensures { result < bound }
-    {
-        self.state = self
-            .state
-            .wrapping_mul(FACTOR)
-            .wrapping_add(1_442_695_040_888_963_407);
-        ((self.state >> 33) % u64::from(bound)) as u32
-    }
-
-    /// Whether one of so many cases occurs.
-    fn is_one_in(&mut self, cases: u32) -> bool
-        requires { 0 < cases }
-    {
-        self.below(cases) == 0
-    }
-
-    fn side(&mut self) -> Side {
-        if self.is_one_in(2) {
-            Side::Buy
-        } else {
-            Side::Sell
-        }
-    }
-
-    fn validity(&mut self) -> Validity {
-        match self.below(4) {
-            0 => Validity::TillDate(TODAY),
-            1 => Validity::TillDate(TODAY + 1),
-            2 => Validity::TillCancelled,
-            _ => Validity::Day,
-        }
-    }
-
-    fn restriction(&mut self) -> Restriction {
-        match self.below(8) {
-            0 => Restriction::OpeningOnly,
-            1 => Restriction::AuctionsOnly,
-            2 => Restriction::ClosingOnly,
-            _ => Restriction::Free,
-        }
-    }
-
-    /// The settings of a day.
-    fn settings(&mut self) -> Option<DeskSettings> {
-        let dynamic = 20 + 20 * self.below(5);
-        Some(DeskSettings {
-            today: TODAY,
-            members: MEMBERS,
-            tick: TickSize::new(100)?,
-            reference: Price::new(100)?,
-            widths: Widths {
-                dynamic,
-                statics: 20 + 20 * self.below(5),
-                wide: dynamic + 10 + 20 * self.below(3),
-            },
-            limit: JournalLimit::new(1_000)?,
-        })
-    }
-}
 
 /// The orders of a call: their limits are five from the lowest on, unless they are all market orders.
 #[derive(Clone, Copy)]
@@ -132,56 +49,22 @@ struct Tally {
     priced: u64,
     trades: u64,
     orders: u64,
-    sum: u64,
+    sum: Sum,
 }
 
 impl Tally {
-    fn add(&mut self, figure: u32) {
-        self.add_long(u64::from(figure));
-    }
-
-    fn add_long(&mut self, figure: u64) {
-        self.sum = self.sum.wrapping_mul(FACTOR).wrapping_add(figure);
-    }
-
-    fn add_price(&mut self, priced: Option<(u32, u64)>) {
-        match priced {
-            None => self.add(0),
-            Some((price, volume)) => {
-                self.add(price);
-                self.add_long(volume);
-            }
-        }
-    }
-
-    fn add_order(&mut self, order: &Order) {
-        self.add(order.member);
-        self.add(order.reference);
-        self.add(order.rest);
-    }
-
-    fn add_trade(&mut self, trade: &Trade) {
-        self.add_long(trade.sweep);
-        self.add(trade.price.get());
-        self.add(trade.quantity);
-        self.add(trade.buyer);
-        self.add(trade.buy_ref);
-        self.add(trade.seller);
-        self.add(trade.sell_ref);
-    }
-
     /// Adds the orders that are left, and answers with their number.
     fn add_orders(&mut self, loaded: &Loaded) -> Result<u64, LoadFault> {
         let orders = loaded.list()?;
         for order in &orders {
-            self.add_order(order);
+            self.sum.add_order(order);
         }
         Ok(orders.len() as u64)
     }
 
     fn add_trades(&mut self, loaded: &Loaded) {
         for trade in loaded.trades() {
-            self.add_trade(trade);
+            self.sum.add_trade(trade);
         }
         self.trades = self.trades.wrapping_add(loaded.trades().len() as u64);
     }
@@ -208,7 +91,7 @@ struct Days {
 impl Days {
     fn new() -> Days {
         Days {
-            draws: Draws { state: SEED },
+            draws: Draws::new(SEED),
             tally: Tally {
                 calls: 0,
                 interrupted: 0,
@@ -216,7 +99,7 @@ impl Days {
                 priced: 0,
                 trades: 0,
                 orders: 0,
-                sum: 0,
+                sum: Sum::new(),
             },
             entered: 0,
         }
@@ -262,7 +145,7 @@ impl Days {
             return Ok(());
         }
         let priced = loaded.indicative();
-        self.tally.add_price(priced);
+        self.tally.sum.add_price(priced);
         loaded.accept(Command::Uncross)?;
         if priced.is_some() {
             self.tally.count_price(loaded.phase());
@@ -340,7 +223,7 @@ fn run_day<R: AllocGlobal>(rt: &R, days: &mut Days) -> Result<(), LoadFault> {
 fn tell<R: Print>(rt: &R, tally: &Tally) -> Result<(), LoadFault> {
     let (calls, priced, trades) = (tally.calls, tally.priced, tally.trades);
     let (interrupted, extended) = (tally.interrupted, tally.extended);
-    let (orders, sum) = (tally.orders, tally.sum);
+    let (orders, sum) = (tally.orders, tally.sum.value());
     said(println!(rt;
         "{DAYS} days: {calls} calls, {interrupted} interrupted, {extended} extended"
     ))?;

@@ -7,8 +7,8 @@ use std::marker::Model;
 use xm_desk::Desk;
 use xm_names::Seed;
 use xm_rules::{
-    Command, Condition, DeskSettings, Kind, Order, Phase, Restriction, Side, Trade, Validity,
-    Widths,
+    Command, Condition, DeskSettings, Kind, Order, Phase, Quote, Reply, Restriction, Side, Trade,
+    Validity, Widths,
 };
 use xm_ticks::{JournalLimit, Price, TickSize};
 
@@ -99,11 +99,20 @@ impl Loaded {
 
     /// Gives the desk a command that it serves, and answers whether it accepted it.
     fn is_accepted(&mut self, command: Command) -> Result<bool, LoadFault> {
+        Ok(self.answer(command)?.is_some())
+    }
+
+    /// Gives the desk a command that it serves, and answers its reply, where it accepted it.
+    pub fn answer(&mut self, command: Command) -> Result<Option<Reply>, LoadFault> {
         if command.is_served() {
-            Ok(self.desk.apply(command).is_ok())
+            Ok(self.desk.apply(command).ok())
         } else {
             Err(LoadFault)
         }
+    }
+
+    pub fn quote(&self) -> Quote {
+        self.desk.quote()
     }
 
     /// Gives the desk a command that it serves and accepts.

@@ -6,8 +6,10 @@
 mod books;
 mod calls;
 mod days;
+mod draws;
 mod loads;
 mod shelves;
+mod trading;
 
 use crate::loads::{LoadFault, Loaded, Part, parts, settings};
 use std::process::ExitCode;
@@ -37,7 +39,8 @@ fn run<R: Env + AllocGlobal + Print + Clock>(rt: &R) -> Result<(), LoadFault> {
         count(rt, COUNTED)?;
         shelves::count(rt)?;
         calls::count(rt)?;
-        days::count(rt)
+        days::count(rt)?;
+        trading::count(rt)
     }
 }
 
