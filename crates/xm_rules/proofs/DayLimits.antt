@@ -18,7 +18,7 @@ use Rattle.xm_rules.proofs.Journals.{step-accepted}
 use Rattle.xm_rules.proofs.Kept.{step-settings}
 use Rattle.xm_rules.proofs.LawfulJournals.{none_from_test}
 use Rattle.xm_rules.proofs.OneName.{step-uses, uses}
-use Rattle.xm_rules.proofs.SweepSizes.{money_within}
+use Rattle.xm_rules.proofs.TradeSizes.{money_within}
 
 pub record Kept (settings : DeskSettings) (s : State) : Type 0 where
   pub same : s.settings ≡ settings
@@ -80,4 +80,4 @@ quantity_within j h = let units = (kept j h).units in omega arith
 pub within_limits : (j : Journal) → is_lawful j ≡ true → j.settings.limit ≤ 1000000 → All (λ (t : Trade). t.price ≤ 1000000) (replay j).trades → AreWithinLimits (replay j).trades
 within_limits j h few low =
     let quantity : total_quantity (replay j).trades ≤ 1000000000000 = omega (arith, quantity_within j h) in
-    record { quantity = quantity; money = omega (arith, quantity, money_within 1000000 (replay j).trades low) }
+    record { quantity = quantity; money = omega (arith, quantity, money_within (replay j).trades low) }
