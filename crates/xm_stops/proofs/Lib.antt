@@ -8,7 +8,7 @@ mod Joining
 mod Keeping
 mod Leaving
 mod Members
-mod Named
+pub mod Named
 mod Reaching
 mod SlotKeys
 mod Tails

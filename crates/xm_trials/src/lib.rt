@@ -27,4 +27,6 @@ mod queues;
 #[cfg(test)]
 mod refusing;
 #[cfg(test)]
+mod stops;
+#[cfg(test)]
 mod ticks;
