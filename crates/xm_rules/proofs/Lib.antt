@@ -19,7 +19,9 @@ pub mod Orderings
 pub mod Positions
 pub mod Prices
 pub mod Queues
+pub mod ReachedStops
 pub mod Remaining
+pub mod Replays
 pub mod Served
 pub mod SettledSums
 pub mod Sums

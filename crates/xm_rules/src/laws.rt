@@ -1,5 +1,5 @@
 //! Laws of the definitions, over all inputs. Each function promises one by its contract.
-ghost use Rattle.std.specs.Prelude.{◌≡◌, ◌≢◌, ◌≤◌, ◌<◌, ◌+◌, ◌*◌, ◌&&◌, ◌||◌, ◌⊎◌, ◌++◌, ◌∷◌, [], ℕ, List, Option, Some, None, All, Contains, count_by, sum_by, true, false};
+ghost use Rattle.std.specs.Prelude.{◌≡◌, ◌≢◌, ◌≤◌, ◌<◌, ◌+◌, ◌*◌, ◌&&◌, ◌||◌, ◌⊎◌, ◌++◌, ◌∷◌, [], ℕ, List, Option, Some, None, All, Contains, count_by, length, sum_by, true, false};
 ghost use Rattle.xm_rules.specs.Active.{Positioned, active};
 ghost use Rattle.xm_rules.specs.Allotment.{Uncrossing, side_queue, allotted, auction_trades};
 ghost use Rattle.xm_rules.specs.Auction.{auction_price, volume};
@@ -8,6 +8,7 @@ ghost use Rattle.xm_rules.specs.Orders.{is_named, is_stop_named};
 ghost use Rattle.xm_rules.specs.Priority.{is_ahead};
 ghost use Rattle.xm_rules.specs.Quote.{best_limit};
 ghost use Rattle.xm_rules.specs.Refusals.{refusal_of};
+ghost use Rattle.xm_rules.specs.Settling.{is_reached, settle, settle_in};
 ghost use Rattle.xm_rules.specs.State.{State, ranges, ref1, inside_both, inside_wide};
 ghost use Rattle.xm_rules.specs.Step.{Journal, come_under, replay, is_lawful, uncrossed, new_trades};
 ghost use Rattle.xm_rules.specs.Sums.{AreWithinLimits, IsBetweenMembers, bought, over_members, paid, received, sold, total_money, total_quantity};
@@ -17,6 +18,7 @@ ghost use Rattle.xm_rules.specs.declared.commands.Condition.{Condition};
 ghost use Rattle.xm_rules.specs.declared.orders.Order.{Order};
 ghost use Rattle.xm_rules.specs.declared.orders.Side.{Side};
 ghost use Rattle.xm_rules.specs.declared.orders.Side.TheVariants.{Buy, Sell};
+ghost use Rattle.xm_rules.specs.declared.orders.Stop.{Stop};
 ghost use Rattle.xm_rules.specs.declared.orders.Trade.{Trade};
 ghost use Rattle.xm_rules.specs.declared.orders.TradeKind.TheVariants as made;
 ghost use Rattle.xm_rules.specs.declared.phases.Auction.{Auction};
@@ -139,6 +141,13 @@ pub fn lawful_journals_hold_no_refused_command()
     ensures lawful { (settings : DeskSettings) (commands more : List Command) (c : Command)
         → is_lawful (record { settings = settings; commands = commands ++ c ∷ more }) ≡ true
         → refusal_of (replay (record { settings = settings; commands = commands })) c ≡ None }
+{}
+
+/// In the state of a journal no held stop is reached: each that its trades reached has come in. None is pending either: a settling
+/// takes as many turns as there are stops, held and pending, and more would change nothing.
+pub fn journals_hold_no_reached_stop()
+    ensures held { (j : Journal) → All (λ (stop : Stop). is_reached (ref1 (replay j)) stop ≡ false) (replay j).stops }
+    ensures pending { (s : State) (pending : List Stop) (more : ℕ) → settle_in (length s.stops + length pending + more) s pending ≡ settle s pending }
 {}
 
 /// In the state of a lawful journal no two live orders or held stops have one name.
