@@ -29,5 +29,6 @@ pub mod SweepSizes
 pub mod Sweeps
 pub mod TimeLists
 pub mod TradeSizes
+pub mod Uncrossed
 pub mod Units
 pub mod Volumes

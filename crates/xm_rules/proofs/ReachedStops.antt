@@ -18,7 +18,7 @@ same_stops : (s t u : State) (b : Bool) → t.stops ≡ s.stops → u.stops ≡ 
 same_stops s t u true e f = e
 same_stops s t u false e f = f
 
-come-stops : (s : State) (o : Order) → (come s o).stops ≡ s.stops
+pub come-stops : (s : State) (o : Order) → (come s o).stops ≡ s.stops
 come-stops s o =
     same_stops s _ (joined s o) (is_continuous s.phase && is_free o.restriction)
     (same_stops s (swept s o) _ (rest_after (sweep_of s o) == 0) refl refl) refl

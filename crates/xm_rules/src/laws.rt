@@ -143,6 +143,16 @@ pub fn lawful_journals_hold_no_refused_command()
         → refusal_of (replay (record { settings = settings; commands = commands })) c ≡ None }
 {}
 
+/// In continuous trading no two active orders of a lawful journal meet, also right after a call, a cascade of stops or an
+/// interruption: their limits don't cross, and no market order rests beside an active order of the other side. So the best buy limit
+/// is below the best sell limit. Each live order has a unit at least.
+pub fn lawful_journals_leave_no_orders_that_meet()
+    ensures orders { (j : Journal) → is_lawful j ≡ true → (replay j).phase ≡ Continuous → NoneMeet (replay j).orders }
+    ensures limits { (j : Journal) (buy sell : ℕ) → is_lawful j ≡ true → (replay j).phase ≡ Continuous
+        → best_limit (replay j) Buy ≡ Some buy → best_limit (replay j) Sell ≡ Some sell → buy < sell }
+    ensures units { (j : Journal) → is_lawful j ≡ true → All (λ (o : Order). 1 ≤ o.rest) (replay j).orders }
+{}
+
 /// In the state of a journal no held stop is reached: each that its trades reached has come in. None is pending either: a settling
 /// takes as many turns as there are stops, held and pending, and more would change nothing.
 pub fn journals_hold_no_reached_stop()
