@@ -9,6 +9,7 @@ pub mod Choices
 pub mod ComingIn
 pub mod DayLimits
 pub mod InHand
+pub mod Moments
 pub mod OneName
 pub mod Journals
 pub mod Kept

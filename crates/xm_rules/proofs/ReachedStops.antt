@@ -1,5 +1,5 @@
 -- Settling leaves no stop that is reached, and as many turns as there are stops suffice for it.
-use Rattle.std.proofs.Common.{◌≡◌, ◌∙◌, ℕ, zero, suc, ◌+◌, ◌≤◌, ◌==◌, Bool, true, false, ◌&&◌, not, if◌then◌else◌, List, [], ◌∷◌, ◌++◌, filter, length, length-append, All, refl, sym, ap, arith}
+use Rattle.std.proofs.Common.{◌≡◌, ℕ, zero, suc, ◌+◌, ◌≤◌, ◌==◌, Bool, true, false, ◌&&◌, not, if◌then◌else◌, List, [], ◌∷◌, ◌++◌, length, length-append, All, refl, sym, ap, arith}
 use Rattle.std.proofs.lemmas.List.Elements.{All-nil, All-weaker, filter_passes}
 use Rattle.std.proofs.lemmas.List.Filters.{length-filter_both}
 use Rattle.xm_rules.specs.Settling.{come, is_continuous, is_free, is_reached, joined, order_of_stop, reached, released, settle, settle_in, sweep_of, swept, take_pending}

@@ -1,9 +1,9 @@
 -- In continuous trading no two orders of a replay meet: what comes in leaves none that do, nor does a call, and else orders only go.
-use Rattle.std.proofs.Common.{◌≡◌, ◌∙◌, ℕ, zero, suc, ◌+◌, ◌-◌, ◌≤◌, ◌==◌, Bool, true, false, ◌&&◌, not, if◌then◌else◌, List, [], ◌∷◌, ◌++◌, filter, map, find, All, Contains, Option, Some, None, refl, sym, ap, subst, arith}
-use Rattle.std.specs.Prelude.{nat_le, nat_lt}
+use Rattle.std.proofs.Common.{◌≡◌, ◌∙◌, ℕ, suc, ◌+◌, ◌-◌, ◌≤◌, ◌==◌, Bool, true, false, ◌&&◌, not, if◌then◌else◌, List, [], ◌∷◌, filter, map, find, All, Contains, Option, Some, None, refl, sym, subst, arith}
+use Rattle.std.specs.Prelude.{nat_lt}
 use Rattle.std.proofs.lemmas.Bool.{eqb-false, ltb-true}
 use Rattle.std.proofs.lemmas.Bool.Decides.{nat_tests}
-use Rattle.std.proofs.lemmas.List.Elements.{All-nil, All-cons, All-contains, All-filter, All-map, All-push, All-same, All-weaker, filter_passes}
+use Rattle.std.proofs.lemmas.List.Elements.{All-nil, All-cons, All-contains, All-filter, All-map, All-push, All-weaker, filter_passes}
 use Rattle.xm_rules.specs.Active.{Positioned, active, is_active_on, positioned_from}
 use Rattle.xm_rules.specs.Auction.{auction_price}
 use Rattle.xm_rules.specs.Commands.{is_in_range, outlasts, trigger_of}
@@ -11,11 +11,11 @@ use Rattle.xm_rules.specs.Crossing.{NoneMeet}
 use Rattle.xm_rules.specs.Orders.{is_named, is_stop_named, meets, with_rest}
 use Rattle.xm_rules.specs.Priority.{without_units}
 use Rattle.xm_rules.specs.Refusals.{refusal_of}
-use Rattle.xm_rules.specs.Settling.{come, is_continuous, is_free, is_reached, joined, order_of_stop, reached, released, settle, sweep_of, swept}
+use Rattle.xm_rules.specs.Settling.{come, is_continuous, is_free, is_reached, joined, order_of_stop, settle, sweep_of, swept}
 use Rattle.xm_rules.specs.Sides.{opposite}
-use Rattle.xm_rules.specs.State.{State, inside_both, inside_wide, opening, ranges, ref1}
+use Rattle.xm_rules.specs.State.{State, inside_both, inside_wide, ranges, ref1}
 use Rattle.xm_rules.specs.Step.{Journal, act, cancelled, changed, changed_order, come_under, entered, entered_order, is_lawful, keeps_priority, reduced, replaced, replay, step, stop_of, traded, uncrossed, uncrossed_at}
-use Rattle.xm_rules.specs.Sweep.{is_fillable, is_interrupted, orders_after_sweep, rest_after}
+use Rattle.xm_rules.specs.Sweep.{is_fillable, is_interrupted, rest_after}
 use Rattle.xm_rules.specs.declared.commands.Command.{Command}
 use Rattle.xm_rules.specs.declared.commands.Command.TheVariants.{Enter, Change, Cancel, CancelAll, StartOpening, StartIntraday, StartClosing, Uncross, EndDay}
 use Rattle.xm_rules.specs.declared.commands.Condition.{Condition}
@@ -33,7 +33,6 @@ use Rattle.xm_rules.proofs.Accepted.{change-accepted, entry-accepted}
 use Rattle.xm_rules.proofs.AfterCalls.{none_meet_after}
 use Rattle.xm_rules.proofs.CallTrades.{call_of}
 use Rattle.xm_rules.proofs.ComingIn.{none_meet}
-use Rattle.xm_rules.proofs.ReachedStops.{come-stops}
 use Rattle.xm_rules.proofs.Remaining.{each_positioned, is_on_side, joins_queue}
 use Rattle.xm_rules.proofs.Replays.{lawful-has, settle-has}
 
@@ -190,9 +189,9 @@ cancelled-uncrossed s member reference =
 reduced-uncrossed : (s : State) (quantity : ℕ) (o : Order) → 1 ≤ quantity → IsUncrossed s → IsUncrossed (reduced s quantity o)
 reduced-uncrossed s quantity o l u = record {
   rests =
-  All-map HasUnits (λ (x : Order). if is_named o.member o.reference x then record x { rest = quantity } else x) s.orders
-  (All-weaker HasUnits (λ (x : Order). HasUnits (if is_named o.member o.reference x then record x { rest = quantity } else x))
-  (λ x h. units_if (is_named o.member o.reference x) x h) s.orders u.rests);
+      All-map HasUnits (λ (x : Order). if is_named o.member o.reference x then record x { rest = quantity } else x) s.orders
+      (All-weaker HasUnits (λ (x : Order). HasUnits (if is_named o.member o.reference x then record x { rest = quantity } else x))
+      (λ x h. units_if (is_named o.member o.reference x) x h) s.orders u.rests);
   units = u.units;
   unmet = λ e. among_reduced o.member o.reference quantity s.orders (u.unmet e);
 } where

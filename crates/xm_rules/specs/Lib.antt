@@ -4,6 +4,7 @@ pub mod Auction
 pub mod Commands
 pub mod Crossing
 pub mod Examples
+pub mod Moments
 pub mod Orders
 pub mod Priority
 pub mod Quote

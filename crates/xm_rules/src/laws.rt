@@ -4,6 +4,7 @@ ghost use Rattle.xm_rules.specs.Active.{Positioned, active};
 ghost use Rattle.xm_rules.specs.Allotment.{Uncrossing, side_queue, allotted, auction_trades};
 ghost use Rattle.xm_rules.specs.Auction.{auction_price, volume};
 ghost use Rattle.xm_rules.specs.Crossing.{NoneMeet};
+ghost use Rattle.xm_rules.specs.Moments.{earlier, ranges_at};
 ghost use Rattle.xm_rules.specs.Orders.{is_named, is_stop_named};
 ghost use Rattle.xm_rules.specs.Priority.{is_ahead};
 ghost use Rattle.xm_rules.specs.Quote.{best_limit};
@@ -143,6 +144,18 @@ pub fn lawful_journals_hold_no_refused_command()
         → refusal_of (replay (record { settings = settings; commands = commands })) c ≡ None }
 {}
 
+/// A lawful journal trades no more than a million units for each command of members that it takes, since no command brings in
+/// more. So where that is no more than a journal may take, and no trade is above the highest price, as a desk's types keep, its
+/// trades are within the limits of a day.
+pub fn lawful_journals_stay_within_the_limits_of_a_day()
+    ensures quantity { (j : Journal) → is_lawful j ≡ true → total_quantity (replay j).trades ≤ MAX_QUANTITY * j.settings.limit }
+    ensures limits { (j : Journal) → is_lawful j ≡ true → j.settings.limit ≤ MAX_JOURNAL_LIMIT
+        → All (λ (t : Trade). t.price ≤ MAX_PRICE) (replay j).trades → AreWithinLimits (replay j).trades }
+{}
+
+// ---- Five laws of the replay of every lawful journal, through calls, cascades of stops and interruptions.
+// Those that don't ask that it is lawful hold of any journal.
+
 /// In continuous trading no two active orders of a lawful journal meet, also right after a call, a cascade of stops or an
 /// interruption: their limits don't cross, and no market order rests beside an active order of the other side. So the best buy limit
 /// is below the best sell limit. Each live order has a unit at least.
@@ -153,8 +166,25 @@ pub fn lawful_journals_leave_no_orders_that_meet()
     ensures units { (j : Journal) → is_lawful j ≡ true → All (λ (o : Order). 1 ≤ o.rest) (replay j).orders }
 {}
 
-/// In the state of a journal no held stop is reached: each that its trades reached has come in. None is pending either: a settling
-/// takes as many turns as there are stops, held and pending, and more would change nothing.
+/// Each trade of continuous trading in a journal was inside the dynamic and the static range of its moment, which are around the last
+/// price and the last auction price of the trades before its sweep. These are the trades with a smaller number: those with which the
+/// list begins.
+pub fn journals_trade_inside_both_ranges()
+    ensures inside { (j : Journal) → All (λ (t : Trade). t.kind ≡ made.Continuous → inside_both (ranges_at (replay j) t) t.price ≡ true) (replay j).trades }
+    ensures before { (j : Journal) (number : ℕ) → let trades = (replay j).trades in (rest : List Trade) × (trades ≡ earlier number trades ++ rest) }
+{}
+
+/// Each trade of an ordinary call in a journal was inside both ranges of its moment, each of an interrupted call inside the wide
+/// range, which is around the last price. An extended call asks none.
+pub fn journals_end_calls_inside_the_ranges_of_their_stage()
+    ensures ordinary { (j : Journal) (auction : Auction)
+        → All (λ (t : Trade). t.kind ≡ made.Auction auction Ordinary → inside_both (ranges_at (replay j) t) t.price ≡ true) (replay j).trades }
+    ensures interrupted { (j : Journal) (auction : Auction)
+        → All (λ (t : Trade). t.kind ≡ made.Auction auction Interrupted → inside_wide (ranges_at (replay j) t) t.price ≡ true) (replay j).trades }
+{}
+
+/// In the state of a journal no held stop is reached by the last price. None is left pending either: settling takes as many turns as
+/// there are stops, held and pending, and with more turns it would end in the same state.
 pub fn journals_hold_no_reached_stop()
     ensures held { (j : Journal) → All (λ (stop : Stop). is_reached (ref1 (replay j)) stop ≡ false) (replay j).stops }
     ensures pending { (s : State) (pending : List Stop) (more : ℕ) → settle_in (length s.stops + length pending + more) s pending ≡ settle s pending }
@@ -164,13 +194,4 @@ pub fn journals_hold_no_reached_stop()
 pub fn lawful_journals_use_each_name_once()
     ensures { (j : Journal) (member reference : ℕ) → is_lawful j ≡ true
         → count_by (is_named member reference) (replay j).orders + count_by (is_stop_named member reference) (replay j).stops ≤ 1 }
-{}
-
-/// A lawful journal trades no more than a million units for each command of members that it takes, since no command brings in
-/// more. So where that is no more than a journal may take, and no trade is above the highest price, as a desk's types keep, its
-/// trades are within the limits of a day.
-pub fn lawful_journals_stay_within_the_limits_of_a_day()
-    ensures quantity { (j : Journal) → is_lawful j ≡ true → total_quantity (replay j).trades ≤ MAX_QUANTITY * j.settings.limit }
-    ensures limits { (j : Journal) → is_lawful j ≡ true → j.settings.limit ≤ MAX_JOURNAL_LIMIT
-        → All (λ (t : Trade). t.price ≤ MAX_PRICE) (replay j).trades → AreWithinLimits (replay j).trades }
 {}
