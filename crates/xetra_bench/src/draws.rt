@@ -4,7 +4,7 @@ ghost use Rattle.std.specs.Prelude.{◌<◌};
 use xm_rules::{DeskSettings, Order, Restriction, Side, Trade, Validity, Widths};
 use xm_ticks::{JournalLimit, Price, TickSize};
 
-const TODAY: u32 = 20260105;
+pub const TODAY: u32 = 20260105;
 
 pub const MEMBERS: u32 = 3;
 

@@ -111,6 +111,17 @@ impl Loaded {
         }
     }
 
+    /// Gives the desk each of some commands, and answers how many it accepted.
+    pub fn take(&mut self, commands: &[Command]) -> Result<u32, LoadFault> {
+        let mut accepted: u32 = 0;
+        for command in commands {
+            if self.is_accepted(*command)? {
+                accepted = accepted.wrapping_add(1);
+            }
+        }
+        Ok(accepted)
+    }
+
     pub fn quote(&self) -> Quote {
         self.desk.quote()
     }
@@ -139,6 +150,25 @@ impl Loaded {
 
     pub fn phase(&self) -> Phase {
         self.desk.phase()
+    }
+
+    /// Whether a member has a live order of this reference.
+    pub fn is_live(&self, member: u32, reference: u32) -> bool {
+        let cancel = Command::Cancel { member, reference };
+        self.desk.refusal_of(&cancel).is_none()
+    }
+
+    /// The best limit of a side, or the last price, in ticks.
+    pub fn touch(&self, side: Side) -> u32 {
+        match self.desk.best(side) {
+            None => self.last_price(),
+            Some(limit) => limit.get(),
+        }
+    }
+
+    /// The price of the last trade, or the opening reference, in ticks.
+    pub fn last_price(&self) -> u32 {
+        self.desk.ref1().get()
     }
 
     pub fn is_in_call(&self) -> bool {

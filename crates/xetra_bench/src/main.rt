@@ -1,13 +1,15 @@
 //! `xetra_bench`: loads of commands on one desk, and on books of several shapes, and calls of many orders. Alone it runs
 //! small ones, with days that are drawn at random, and prints what they did; with the word `measure` it runs large ones and
-//! prints the time that they took.
+//! prints the time that they took, and with `sessions` and names of shapes the days of these shapes alone.
 #![tactic(auto)]
 
 mod books;
 mod calls;
 mod days;
 mod draws;
+mod flows;
 mod loads;
+mod sessions;
 mod shelves;
 mod trading;
 
@@ -31,27 +33,39 @@ fn main(rt: HostRuntime) -> ExitCode {
 }
 
 fn run<R: Env + AllocGlobal + Print + Clock>(rt: &R) -> Result<(), LoadFault> {
-    if is_measured(rt)? {
-        measure(rt, MEASURED)?;
-        shelves::measure(rt)?;
-        calls::measure(rt)
+    if has_word(rt, "measure")? {
+        measure_all(rt)
+    } else if has_word(rt, "sessions")? {
+        sessions::measure_named(rt)
     } else {
-        count(rt, COUNTED)?;
-        shelves::count(rt)?;
-        calls::count(rt)?;
-        days::count(rt)?;
-        trading::count(rt)
+        count_all(rt)
     }
 }
 
-/// Whether one of the words of the command line is `measure`.
-fn is_measured<R: Env + AllocGlobal>(rt: &R) -> Result<bool, LoadFault> {
+fn measure_all<R: AllocGlobal + Print + Clock>(rt: &R) -> Result<(), LoadFault> {
+    measure(rt, MEASURED)?;
+    shelves::measure(rt)?;
+    calls::measure(rt)?;
+    sessions::measure(rt)
+}
+
+fn count_all<R: AllocGlobal + Print + Clock>(rt: &R) -> Result<(), LoadFault> {
+    count(rt, COUNTED)?;
+    shelves::count(rt)?;
+    calls::count(rt)?;
+    days::count(rt)?;
+    trading::count(rt)?;
+    sessions::count(rt)
+}
+
+/// Whether this is one of the words of the command line.
+fn has_word<R: Env + AllocGlobal>(rt: &R, wanted: &str) -> Result<bool, LoadFault> {
     let words: Result<Vec<String>, _> = match env::args(rt) {
         Ok(words) => words.collect(rt.alloc()),
         Err(_) => return Err(LoadFault),
     };
     match words {
-        Ok(words) => Ok(words.iter().any(|word| word.as_str() == "measure")),
+        Ok(words) => Ok(words.iter().any(|word| word.as_str() == wanted)),
         Err(_) => Err(LoadFault),
     }
 }
