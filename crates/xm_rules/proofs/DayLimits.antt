@@ -1,12 +1,11 @@
 -- What every lawful journal keeps: each name is used once, and no more is traded than its commands brought in.
-use Rattle.std.proofs.Common.{◌≡◌, ℕ, ◌+◌, ◌*◌, ◌<◌, ◌≤◌, min, true, false, List, [], ◌∷◌, None, refl, ap, ◌∙◌, All, arith}
-use Rattle.std.specs.Prelude.{is_none, nat_le}
-use Rattle.std.proofs.lemmas.Bool.{and_parts}
+use Rattle.std.proofs.Common.{◌≡◌, ℕ, ◌+◌, ◌*◌, ◌<◌, ◌≤◌, min, true, false, None, refl, ap, ◌∙◌, All, arith}
+use Rattle.std.specs.Prelude.{nat_le}
 use Rattle.std.proofs.lemmas.Bool.Decides.{nat_tests}
 use Rattle.xm_rules.specs.Commands.{is_in_range}
 use Rattle.xm_rules.specs.Refusals.{refusal_of}
-use Rattle.xm_rules.specs.State.{State, opening}
-use Rattle.xm_rules.specs.Step.{Journal, is_lawful, is_lawful_from, replay, replay_from, step}
+use Rattle.xm_rules.specs.State.{State}
+use Rattle.xm_rules.specs.Step.{Journal, is_lawful, replay, step}
 use Rattle.xm_rules.specs.declared.commands.Command.{Command}
 use Rattle.xm_rules.specs.declared.commands.Command.TheVariants.{Enter, Change, Cancel, CancelAll, StartOpening, StartIntraday, StartClosing, Uncross, EndDay}
 use Rattle.xm_rules.specs.Sums.{AreWithinLimits, total_quantity}
@@ -16,8 +15,8 @@ use Rattle.xm_rules.proofs.Accepted.{accepted, change-accepted, entry-accepted}
 use Rattle.xm_rules.proofs.InHand.{brought, in_hand, step-more}
 use Rattle.xm_rules.proofs.Journals.{step-accepted}
 use Rattle.xm_rules.proofs.Kept.{step-settings}
-use Rattle.xm_rules.proofs.LawfulJournals.{none_from_test}
 use Rattle.xm_rules.proofs.OneName.{step-uses, uses}
+use Rattle.xm_rules.proofs.Replays.{lawful-has}
 use Rattle.xm_rules.proofs.TradeSizes.{money_within}
 
 pub record Kept (settings : DeskSettings) (s : State) : Type 0 where
@@ -64,15 +63,8 @@ kept_step settings s c h k =
       units = omega (arith, limit, before, brought_within s c h, step-accepted s c, step-more s c (λ member reference. let l = k.names member reference in omega arith));
     }
 
-kept_from : (settings : DeskSettings) (s : State) (cs : List Command) → is_lawful_from s cs ≡ true → Kept settings s → Kept settings (replay_from s cs)
-kept_from settings s [] h k = k
-kept_from settings s (c ∷ cs) h k =
-    let parts = and_parts (is_none (refusal_of s c)) (is_lawful_from (step s c) cs) h in
-    kept_from settings (step s c) cs parts.1 (kept_step settings s c (none_from_test (refusal_of s c) parts.0) k)
-
 pub kept : (j : Journal) → is_lawful j ≡ true → Kept j.settings (replay j)
-unfolding replay is_lawful
-kept j h = kept_from j.settings (opening j.settings) j.commands h (record { same = refl; names = λ member reference. omega arith; units = omega arith })
+kept j h = lawful-has (Kept j.settings) (kept_step j.settings) j h (record { same = refl; names = λ member reference. omega arith; units = omega arith })
 
 pub quantity_within : (j : Journal) → is_lawful j ≡ true → total_quantity (replay j).trades ≤ 1000000 * j.settings.limit
 quantity_within j h = let units = (kept j h).units in omega arith
