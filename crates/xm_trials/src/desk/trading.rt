@@ -40,6 +40,22 @@ macro_rules! enter {
     };
 }
 
+/// The entry of a limited order for auctions alone.
+macro_rules! in_auctions {
+    ($side:ident, $member:expr, $reference:expr, $limit:expr, $quantity:expr) => {
+        Command::Enter {
+            member: $member,
+            reference: $reference,
+            side: Side::$side,
+            kind: Kind::Limit($limit),
+            quantity: $quantity,
+            validity: Validity::Day,
+            restriction: Restriction::AuctionsOnly,
+            condition: Condition::Plain,
+        }
+    };
+}
+
 /// A command that trades nothing, and leaves trading as it is.
 macro_rules! rests {
     ($command:expr) => {
@@ -271,7 +287,7 @@ fn orders_at_a_range(rt: HostRuntime) -> Result<(), Fail> {
 }
 
 /// Changed orders that come in again, orders for auctions alone, and an auction whose price is outside the static range alone.
-const OTHERS: [Scene; 4] = [
+const OTHERS: [Scene; 5] = [
     Scene {
         commands: &[
             rests!(buy!(0, 1, 990, 10)),
@@ -294,16 +310,7 @@ const OTHERS: [Scene; 4] = [
     },
     Scene {
         commands: &[
-            rests!(Command::Enter {
-                member: 0,
-                reference: 7,
-                side: Side::Sell,
-                kind: Kind::Limit(990),
-                quantity: 10,
-                validity: Validity::Day,
-                restriction: Restriction::AuctionsOnly,
-                condition: Condition::Plain,
-            }),
+            rests!(in_auctions!(Sell, 0, 7, 990, 10)),
             rests!(buy!(1, 7, 1000, 10)),
             (
                 Command::StartIntraday,
@@ -317,6 +324,18 @@ const OTHERS: [Scene; 4] = [
         best: (None, None),
         prices: (1000, 1000),
         live: &[],
+    },
+    // The auction after an interruption takes them too.
+    Scene {
+        commands: &[
+            rests!(sell!(1, 1, 1030, 10)),
+            rests!(in_auctions!(Buy, 0, 7, 1030, 6)),
+            interrupted!(buy!(0, 1, 1030, 2), 0, 0, 0),
+            trades!(Command::Uncross, 2, 8, 8_240),
+        ],
+        best: (None, Some(1030)),
+        prices: (1030, 1030),
+        live: &[(1, 1, 2)],
     },
     Scene {
         commands: &[
