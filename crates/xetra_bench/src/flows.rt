@@ -34,11 +34,11 @@ const FARTHEST: u32 = 1_000;
 /// How orders come.
 #[derive(Clone, Copy)]
 pub enum Shape {
-    /// Nine of ten orders rest, and most are cancelled.
+    /// More than nine of ten orders rest, and most are cancelled.
     Passive,
     /// Many orders cross the spread.
     Crossing,
-    /// Each order that crosses trades with two to five others.
+    /// Orders that cross trade with four others on average, most with two to five.
     Several,
     /// Large orders go through many levels.
     Large,
