@@ -1,48 +1,19 @@
 -- The day of desks that take rows.
-use Rattle.std.proofs.Common.{◌≡◌, ℕ, ◌+◌, ◌<◌, ◌≤◌, true, false, List, [], ◌∷◌, ◌++◌, length, map, slice_get, set, get_or, take, drop, take-append-drop, suc, zero, All, arith, Some, None, option_map, refl, ap, sym, subst, ◌∙◌}
+use Rattle.std.proofs.Common.{◌≡◌, ℕ, ◌+◌, ◌<◌, ◌≤◌, List, [], ◌∷◌, ◌++◌, length, map, slice_get, set, get_or, take, drop, take-append-drop, suc, arith, Some, None, option_map, refl, ap, sym, subst, ◌∙◌}
 use Rattle.std.proofs.Math.Seq.{drop-cons, take-length}
 use Rattle.std.proofs.Math.ListN.{drop_of_length-le}
 use Rattle.std.proofs.lemmas.List.{append-nil, map-set, take_more}
-use Rattle.std.proofs.lemmas.List.Elements.{All-cons, All-nil}
 use Rattle.std.proofs.lemmas.Option.{slice_get-map, slice_get_past}
 use Rattle.xm_rules.proofs.Journals.{replay-opening, replay-push}
 use Rattle.xm_rules.specs.Refusals.{refusal_of}
-use Rattle.xm_rules.specs.Served.{is_served}
-use Rattle.xm_rules.specs.Settling.{come, is_continuous, order_of_stop, reached, released, settle_in, take_pending}
 use Rattle.xm_rules.specs.State.{State, opening}
-use Rattle.xm_rules.specs.Step.{Journal, act, replay, step}
+use Rattle.xm_rules.specs.Step.{Journal, replay, step}
 use Rattle.xm_rules.specs.declared.commands.Command.{Command}
-use Rattle.xm_rules.specs.declared.commands.Command.TheVariants.{Enter, Cancel, StartOpening}
-use Rattle.xm_rules.specs.declared.commands.Condition.{Condition}
-use Rattle.xm_rules.specs.declared.commands.Condition.TheVariants.{Plain}
-use Rattle.xm_rules.specs.declared.commands.Kind.{Kind}
-use Rattle.xm_rules.specs.declared.commands.Kind.TheVariants as kind
-use Rattle.xm_rules.specs.declared.orders.Order.{Order}
-use Rattle.xm_rules.specs.declared.orders.OrderKind.TheVariants.{Limit}
-use Rattle.xm_rules.specs.declared.orders.Restriction.{Restriction}
-use Rattle.xm_rules.specs.declared.orders.Restriction.TheVariants.{Free}
-use Rattle.xm_rules.specs.declared.orders.Side.{Side}
-use Rattle.xm_rules.specs.declared.orders.Stop.{Stop}
-use Rattle.xm_rules.specs.declared.orders.Validity.{Validity}
-use Rattle.xm_rules.specs.declared.orders.Validity.TheVariants.{Day}
 use Rattle.xm_rules.specs.declared.replies.Refusal.{Refusal}
 use Rattle.xm_day.specs.Day.{Accepts, Day as TheDay, LacksMemoryAt, after_row, after_rows, answered, day, day_of, journal_of, on_security, settings_of}
-use Rattle.xm_day.specs.Rows.{is_listed}
 use Rattle.xm_day.specs.declared.config.SecurityConfig.{SecurityConfig}
 use Rattle.xm_day.specs.declared.config.SegmentConfig.{SegmentConfig}
 use Rattle.xm_day.specs.declared.rows.Row.{Row}
-
-entry-served : (member reference : ℕ) (side : Side) (k : Kind) (quantity : ℕ) (v : Validity) (r : Restriction) (condition : Condition)
-    → is_listed (Enter member reference side k quantity v r condition) ≡ true → is_served (Enter member reference side k quantity v r condition) ≡ true
-entry-served member reference side (kind.Limit p) quantity Day Free Plain h = refl
-entry-served member reference side _ quantity _ _ _ h = cc
-
--- what an order file lists is served
-pub listed-served : (c : Command) → is_listed c ≡ true → is_served c ≡ true
-listed-served (Enter member reference side k quantity validity restriction condition) h = entry-served member reference side k quantity validity restriction condition h
-listed-served (Cancel member reference) h = refl
-listed-served StartOpening h = refl
-listed-served _ h = cc
 
 abbrev pub with_command : Journal → Command → Journal
 with_command j c = record j { commands = j.commands ++ c ∷ [] }

@@ -6,7 +6,7 @@ pub mod Documents
 pub mod Takes
 pub mod Unread
 pub mod Progress
-pub mod ListedRows
+pub mod ServedRows
 pub mod Lines
 pub mod Days
 pub mod Endings

@@ -10,6 +10,7 @@ use Rattle.xm_rules.specs.State.{State, opening}
 use Rattle.xm_rules.specs.Step.{Journal, replay, step}
 use Rattle.xm_rules.specs.declared.replies.Refusal.{Refusal}
 use Rattle.xm_rules.specs.declared.settings.DeskSettings.{DeskSettings}
+use Rattle.xm_day.specs.declared.desks.TheConstants.{MAX_SECURITIES}
 use Rattle.xm_day.specs.declared.config.SecurityConfig.{SecurityConfig}
 use Rattle.xm_day.specs.declared.config.SegmentConfig.{SegmentConfig}
 use Rattle.xm_day.specs.declared.rows.Row.{Row}
@@ -71,10 +72,9 @@ journal_of config security = record { settings = settings_of config security; co
 abbrev pub day_of : List Journal → ℕ → ℕ → Day
 day_of desks accepted refused = record { states = map replay desks; accepted = accepted; refused = refused }
 
--- what is wrong with a segment, if anything is: it has no security; it has more than one, which is all that is served today,
--- or more than 1,000 members; the widths of one
+-- what is wrong with a segment, if anything is: it has no security; more than 8, or more than 1,000 members; the widths of one
 abbrev pub segment_fault : SegmentConfig → Option OpenFault
 segment_fault config =
     if not (nat_lt 0 (length config.securities)) then Some NoSecurity
-    else (if nat_lt 1 (length config.securities) || nat_lt MAX_MEMBERS config.members then Some TooMany
+    else (if nat_lt MAX_SECURITIES (length config.securities) || nat_lt MAX_MEMBERS config.members then Some TooMany
     else (if list_all (λ (security : SecurityConfig). are_widths security.widths) config.securities then None else Some BadWidths))

@@ -1,5 +1,5 @@
 -- The rows of one record of an order file.
-use Rattle.std.specs.Prelude.{ℕ, Bool, true, false, ◌&&◌, if◌then◌else◌, nat_le, ◌==◌, List, [], ◌∷◌, length, map, Option, Some, None, option_map, option_and_then, unwrap_or, slice_get, Result, Ok, Err, codes}
+use Rattle.std.specs.Prelude.{ℕ, Bool, ◌&&◌, ◌||◌, if◌then◌else◌, nat_le, ◌==◌, List, [], ◌∷◌, length, map, Option, Some, None, option_map, option_and_then, unwrap_or, slice_get, Result, Ok, Err, codes}
 use Rattle.std.specs.List.{list_all, position_or_len, range_with_len}
 use Rattle.std.specs.Option.{option_map_or}
 use Rattle.std.specs.Str.{bytes_eq}
@@ -7,15 +7,15 @@ use Rattle.csv.specs.Records.{field_at}
 use Rattle.xm_rules.specs.declared.commands.Command.{Command}
 use Rattle.xm_rules.specs.declared.commands.Command.TheVariants as command
 use Rattle.xm_rules.specs.declared.commands.Condition.{Condition}
-use Rattle.xm_rules.specs.declared.commands.Condition.TheVariants.{Plain}
+use Rattle.xm_rules.specs.declared.commands.Condition.TheVariants.{Plain, Ioc, Fok}
 use Rattle.xm_rules.specs.declared.commands.Kind.{Kind}
 use Rattle.xm_rules.specs.declared.commands.Kind.TheVariants as kind
 use Rattle.xm_rules.specs.declared.orders.Restriction.{Restriction}
-use Rattle.xm_rules.specs.declared.orders.Restriction.TheVariants.{Free}
+use Rattle.xm_rules.specs.declared.orders.Restriction.TheVariants.{Free, OpeningOnly, AuctionsOnly, ClosingOnly}
 use Rattle.xm_rules.specs.declared.orders.Side.{Side}
 use Rattle.xm_rules.specs.declared.orders.Side.TheVariants.{Buy, Sell}
 use Rattle.xm_rules.specs.declared.orders.Validity.{Validity}
-use Rattle.xm_rules.specs.declared.orders.Validity.TheVariants.{Day}
+use Rattle.xm_rules.specs.declared.orders.Validity.TheVariants.{Day, TillDate, TillCancelled}
 use Rattle.xm_ticks.specs.Reading.{number_of, price_of}
 use Rattle.xm_ticks.specs.declared.reading.PriceFault.{PriceFault}
 use Rattle.xm_ticks.specs.declared.reading.PriceFault.TheVariants.{NotANumber}
@@ -102,21 +102,40 @@ raw_price (Err fault) = Some 0
 abbrev pub tick_of : List SecurityConfig → ℕ → ℕ
 tick_of securities index = option_map_or (λ security. security.tick) (slice_get securities index) 1
 
--- the kind of an order: a limit order has a limit and no trigger
+-- a market order has neither limit nor trigger, a limit order a limit and no trigger; the kinds of stops aren't listed yet
+abbrev pub market_in : List (List ℕ) → Option Kind
+market_in fields = if are_empty (column.Limit ∷ column.Trigger ∷ []) fields then Some kind.Market else None
+
+abbrev pub limit_in : ℕ → List (List ℕ) → Option Kind
+limit_in tick fields = if are_empty (column.Trigger ∷ []) fields then option_map kind.Limit (raw_price (price_of (field column.Limit fields) tick)) else None
+
 abbrev pub kind_in_record : ℕ → List (List ℕ) → Option Kind
 kind_in_record tick fields =
-    if bytes_eq (field column.Kind fields) (codes "limit") && are_empty (column.Trigger ∷ []) fields
-    then option_map kind.Limit (raw_price (price_of (field column.Limit fields) tick)) else None
+    if bytes_eq (field column.Kind fields) (codes "market") then market_in fields
+    else (if bytes_eq (field column.Kind fields) (codes "limit") then limit_in tick fields else None)
 
--- an empty field is the plain case, and no other text is listed
+-- a date has exactly eight digits
+abbrev pub date_of : List ℕ → Option ℕ
+date_of text = if length text == 8 then whole_of text else None
+
+-- an empty field is the plain case
 abbrev pub validity_of : List ℕ → Option Validity
-validity_of text = if length text == 0 then Some Day else None
+validity_of text =
+    if (length text == 0) || bytes_eq text (codes "day") then Some Day
+    else (if bytes_eq text (codes "gtc") then Some TillCancelled else option_map TillDate (date_of text))
 
 abbrev pub restriction_of : List ℕ → Option Restriction
-restriction_of text = if length text == 0 then Some Free else None
+restriction_of text =
+    if (length text == 0) || bytes_eq text (codes "free") then Some Free
+    else (if bytes_eq text (codes "opening") then Some OpeningOnly
+    else (if bytes_eq text (codes "auctions") then Some AuctionsOnly
+    else (if bytes_eq text (codes "closing") then Some ClosingOnly else None)))
 
 abbrev pub condition_of : List ℕ → Option Condition
-condition_of text = if length text == 0 then Some Plain else None
+condition_of text =
+    if (length text == 0) || bytes_eq text (codes "plain") then Some Plain
+    else (if bytes_eq text (codes "ioc") then Some Ioc
+    else (if bytes_eq text (codes "fok") then Some Fok else None))
 
 -- the order that a member enters in a security with this tick
 abbrev pub order_command : ℕ → ℕ → List (List ℕ) → Option Command
@@ -141,6 +160,25 @@ member_row names fields make =
 abbrev pub enter_entry : NameLists → List SecurityConfig → List (List ℕ) → Option Entry
 enter_entry names securities fields = member_row names fields (λ member security. order_command (tick_of securities security) member fields)
 
+-- the limit that a change gives, where it gives one
+abbrev pub given_limit : ℕ → List ℕ → Option (Option ℕ)
+given_limit tick text = if length text == 0 then Some None else option_map Some (raw_price (price_of text tick))
+
+abbrev pub change_command : ℕ → ℕ → List (List ℕ) → Option Command
+change_command tick member fields =
+    whole_of (field column.Reference fields) >>= (λ reference.
+    whole_of (field column.Quantity fields) >>= (λ quantity.
+    given_limit tick (field column.Limit fields) >>= (λ limit.
+    Some (command.Change member reference quantity limit))))
+
+-- a change has a member, a reference, a security, a quantity, and a limit where it gives one
+abbrev pub change_blank : List Column
+change_blank = column.Side ∷ column.Kind ∷ column.Trigger ∷ column.Validity ∷ column.Restriction ∷ column.Condition ∷ []
+
+abbrev pub change_entry : NameLists → List SecurityConfig → List (List ℕ) → Option Entry
+change_entry names securities fields =
+    if are_empty change_blank fields then member_row names fields (λ member security. change_command (tick_of securities security) member fields) else None
+
 -- a cancellation has a member, a reference and a security, and nothing else
 abbrev pub cancel_blank : List Column
 cancel_blank = column.Side ∷ column.Kind ∷ column.Limit ∷ column.Trigger ∷ column.Quantity ∷ column.Validity ∷ column.Restriction ∷ column.Condition ∷ []
@@ -150,9 +188,17 @@ cancel_entry names fields =
     if are_empty cancel_blank fields
     then member_row names fields (λ member security. option_map (command.Cancel member) (whole_of (field column.Reference fields))) else None
 
+-- that of all orders of a member has no reference
+abbrev pub cancel_all_blank : List Column
+cancel_all_blank = column.Reference ∷ cancel_blank
+
+abbrev pub cancel_all_entry : NameLists → List (List ℕ) → Option Entry
+cancel_all_entry names fields =
+    if are_empty cancel_all_blank fields then member_row names fields (λ member security. Some (command.CancelAll member)) else None
+
 -- a phase row has a security and nothing else; `*` is each security
 abbrev pub phase_blank : List Column
-phase_blank = column.Member ∷ column.Reference ∷ cancel_blank
+phase_blank = column.Member ∷ cancel_all_blank
 
 abbrev pub phase_entry : Command → NameLists → List (List ℕ) → Option Entry
 phase_entry phase names fields =
@@ -161,19 +207,31 @@ phase_entry phase names fields =
     else option_map (λ security. One (record { security = security; command = phase })) (name_index names.securities (field column.Security fields)))
     else None
 
--- the command words that are listed
+-- the command words
 abbrev pub word_of : List ℕ → Option Word
 word_of text =
     if bytes_eq text (codes "enter") then Some word.Enter
+    else (if bytes_eq text (codes "change") then Some word.Change
     else (if bytes_eq text (codes "cancel") then Some word.Cancel
-    else (if bytes_eq text (codes "open") then Some word.Open else None))
+    else (if bytes_eq text (codes "cancel-all") then Some word.CancelAll
+    else (if bytes_eq text (codes "open") then Some word.Open
+    else (if bytes_eq text (codes "intraday") then Some word.Intraday
+    else (if bytes_eq text (codes "close") then Some word.Close
+    else (if bytes_eq text (codes "uncross") then Some word.Uncross
+    else (if bytes_eq text (codes "end") then Some word.End else None))))))))
 
 -- what a record with this command word says, if each of its fields is lawful
 abbrev pub entry_with : Option Word → NameLists → List SecurityConfig → List (List ℕ) → Option Entry
 entry_with None names securities fields = None
 entry_with (Some word.Enter) names securities fields = enter_entry names securities fields
+entry_with (Some word.Change) names securities fields = change_entry names securities fields
 entry_with (Some word.Cancel) names securities fields = cancel_entry names fields
+entry_with (Some word.CancelAll) names securities fields = cancel_all_entry names fields
 entry_with (Some word.Open) names securities fields = phase_entry command.StartOpening names fields
+entry_with (Some word.Intraday) names securities fields = phase_entry command.StartIntraday names fields
+entry_with (Some word.Close) names securities fields = phase_entry command.StartClosing names fields
+entry_with (Some word.Uncross) names securities fields = phase_entry command.Uncross names fields
+entry_with (Some word.End) names securities fields = phase_entry command.EndDay names fields
 
 abbrev pub record_entry : NameLists → List SecurityConfig → List (List ℕ) → Option Entry
 record_entry names securities fields = entry_with (word_of (field column.Command fields)) names securities fields
@@ -186,10 +244,3 @@ rows_of_entry count (Each phase) = map (λ security. record { security = securit
 -- the rows of a record, if it is lawful
 abbrev pub rows_of_record : NameLists → SegmentConfig → List (List ℕ) → Option (List Row)
 rows_of_record names config fields = option_map (rows_of_entry (length names.securities)) (record_entry names config.securities fields)
-
--- the commands that the rows of an order file give: a plain limit order of the day, a cancellation, the start of the opening call
-abbrev pub is_listed : Command → Bool
-is_listed (command.Enter member reference side (kind.Limit limit) quantity Day Free Plain) = true
-is_listed (command.Cancel member reference) = true
-is_listed command.StartOpening = true
-is_listed _ = false

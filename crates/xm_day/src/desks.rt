@@ -2,7 +2,7 @@
 ghost use Rattle.std.specs.Prelude.{◌≡◌, ◌≢◌, ◌+◌, ◌<◌, ◌^◌, [], All, Err, IfErr, IfOk, None, OnErr, OnOk, Some, false, length, map, true};
 ghost use Rattle.std.specs.List.{list_all};
 ghost use Rattle.xm_day.specs.Day.{Accepts, LacksMemoryAt, after_row, after_rows, day_of, journal_of, segment_fault};
-ghost use Rattle.xm_day.specs.Rows.{is_listed};
+ghost use Rattle.xm_rules.specs.Served.{is_served};
 ghost use Rattle.xm_desk.specs.Opening.{are_widths};
 ghost use Rattle.xm_rules.specs.Step.{replay};
 
@@ -13,6 +13,9 @@ use std::alloc::{AllocError, Allocator, Global};
 use xm_desk::{Desk, MAX_MEMBERS, OpenFault, are_widths};
 use xm_names::Seed;
 use xm_rules::{DeskSettings, OutOfMemory, Refusal};
+
+/// The most securities of a segment.
+pub const MAX_SECURITIES: usize = 8;
 
 /// Opens a desk for each security of a segment.
 pub fn open_desks(
@@ -63,14 +66,14 @@ fn settings_of(config: &SegmentConfig, security: &SecurityConfig) -> DeskSetting
     }
 }
 
-/// What is wrong with a segment, if anything is. Today one security is served.
+/// What is wrong with a segment, if anything is.
 fn segment_fault(config: &SegmentConfig) -> Option<OpenFault>
     ensures { result ≡ segment_fault config.now }
 {
     let securities = config.securities.as_slice();
     if securities.is_empty() {
         Some(OpenFault::NoSecurity)
-    } else if securities.len() > 1 || config.members > MAX_MEMBERS {
+    } else if securities.len() > MAX_SECURITIES || config.members > MAX_MEMBERS {
         Some(OpenFault::TooMany)
     } else if have_widths(securities) {
         None
@@ -94,7 +97,7 @@ pub fn take_rows<A: Allocator + Copy>(
     desks: &mut [Desk<A>],
     rows: &[Row],
 ) -> Result<DayReport, OutOfMemory>
-    requires listed { list_all (λ row. is_listed row.command) rows.now ≡ true }
+    requires served { list_all (λ row. is_served row.command) rows.now ≡ true }
     ensures taken { IfOk result (λ report. day_of desks.new report.accepted report.refused ≡ after_rows (day_of desks.old 0 0) rows.now) }
     ensures memory { OnErr result (LacksMemoryAt (day_of desks.old 0 0) rows.now) }
 {
@@ -115,7 +118,7 @@ fn take_row<A: Allocator + Copy>(
     row: &Row,
     report: DayReport,
 ) -> Result<DayReport, OutOfMemory>
-    requires listed { is_listed row.now.command ≡ true }
+    requires served { is_served row.now.command ≡ true }
     requires room { report.accepted + report.refused + 1 < 2 ^ 64 }
     ensures taken { IfOk result (λ counted. after_row (day_of desks.old report.accepted report.refused) row.now ≡ day_of desks.new counted.accepted counted.refused) }
     ensures counted { IfOk result (λ counted. counted.accepted + counted.refused ≡ report.accepted + report.refused + 1) }

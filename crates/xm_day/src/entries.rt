@@ -2,7 +2,7 @@
 ghost use Rattle.std.specs.Prelude.{◌≡◌};
 ghost use Rattle.csv.specs.Records.{fields_of};
 ghost use Rattle.xm_day.specs.declared.columns.Column.TheVariants as column;
-ghost use Rattle.xm_day.specs.Rows.{cancel_entry, enter_entry, record_entry, field, name_index, kind_in_record, order_command, phase_entry, tick_of, word_of};
+ghost use Rattle.xm_day.specs.Rows.{cancel_all_entry, cancel_entry, change_command, change_entry, enter_entry, record_entry, field, given_limit, limit_in, market_in, name_index, kind_in_record, order_command, phase_entry, tick_of, word_of};
 
 use crate::columns::{Column, are_empty, field};
 use crate::config::{SecurityConfig, SegmentConfig};
@@ -20,12 +20,18 @@ pub(crate) enum Entry {
     Each(Command),
 }
 
-/// The command words that are listed.
+/// The command words.
 #[derive(Clone, Copy, PartialEq, Eq, Debug)]
 enum Word {
     Enter,
+    Change,
     Cancel,
+    CancelAll,
     Open,
+    Intraday,
+    Close,
+    Uncross,
+    End,
 }
 
 /// What a record says, if each of its fields is lawful.
@@ -38,8 +44,14 @@ pub(crate) fn parse_entry(
 {
     match parse_word(field(fields, Column::Command))? {
         Word::Enter => enter(fields, names, config.securities.as_slice()),
+        Word::Change => change(fields, names, config.securities.as_slice()),
         Word::Cancel => cancel(fields, names),
+        Word::CancelAll => cancel_all(fields, names),
         Word::Open => phase(fields, names, Command::StartOpening),
+        Word::Intraday => phase(fields, names, Command::StartIntraday),
+        Word::Close => phase(fields, names, Command::StartClosing),
+        Word::Uncross => phase(fields, names, Command::Uncross),
+        Word::End => phase(fields, names, Command::EndDay),
     }
 }
 
@@ -49,10 +61,22 @@ fn parse_word(text: &[u8]) -> Option<Word>
 {
     if is_word(text, "enter") {
         Some(Word::Enter)
+    } else if is_word(text, "change") {
+        Some(Word::Change)
     } else if is_word(text, "cancel") {
         Some(Word::Cancel)
+    } else if is_word(text, "cancel-all") {
+        Some(Word::CancelAll)
     } else if is_word(text, "open") {
         Some(Word::Open)
+    } else if is_word(text, "intraday") {
+        Some(Word::Intraday)
+    } else if is_word(text, "close") {
+        Some(Word::Close)
+    } else if is_word(text, "uncross") {
+        Some(Word::Uncross)
+    } else if is_word(text, "end") {
+        Some(Word::End)
     } else {
         None
     }
@@ -125,31 +149,105 @@ fn order(fields: &ByteRecord, member: u32, tick: TickSize) -> Option<Command>
     })
 }
 
-/// The kind of an order with its prices.
+/// The kind of an order with its prices. Those of stops aren't listed yet.
 fn kind(fields: &ByteRecord, tick: TickSize) -> Option<Kind>
     ensures { result ≡ kind_in_record tick (fields_of fields.now) }
 {
-    if !is_word(field(fields, Column::Kind), "limit") || !are_empty(fields, &[Column::Trigger]) {
+    let word = field(fields, Column::Kind);
+    if is_word(word, "market") {
+        market(fields)
+    } else if is_word(word, "limit") {
+        limit(fields, tick)
+    } else {
+        None
+    }
+}
+
+/// The kind of a market order.
+fn market(fields: &ByteRecord) -> Option<Kind>
+    ensures { result ≡ market_in (fields_of fields.now) }
+{
+    if are_empty(fields, &[Column::Limit, Column::Trigger]) {
+        Some(Kind::Market)
+    } else {
+        None
+    }
+}
+
+/// The kind of a limit order.
+fn limit(fields: &ByteRecord, tick: TickSize) -> Option<Kind>
+    ensures { result ≡ limit_in tick (fields_of fields.now) }
+{
+    if !are_empty(fields, &[Column::Trigger]) {
         return None;
     }
     price(field(fields, Column::Limit), tick).map(Kind::Limit)
 }
 
-/// The cancellation that a record is.
-fn cancel(fields: &ByteRecord, names: &Names) -> Option<Entry>
-    ensures { result ≡ cancel_entry names.now (fields_of fields.now) }
+/// The change of an order that a record is.
+fn change(fields: &ByteRecord, names: &Names, securities: &[SecurityConfig]) -> Option<Entry>
+    ensures { result ≡ change_entry names.now securities.now (fields_of fields.now) }
 {
     let blank = [
         Column::Side,
         Column::Kind,
-        Column::Limit,
         Column::Trigger,
-        Column::Quantity,
         Column::Validity,
         Column::Restriction,
         Column::Condition,
     ];
     if !are_empty(fields, &blank) {
+        return None;
+    }
+    let member = member(fields, names)?;
+    let security = security(fields, names)?;
+    let command = changed(fields, member, tick(securities, security))?;
+    Some(Entry::One(Row { security, command }))
+}
+
+/// The change that a member makes in a security with this tick.
+fn changed(fields: &ByteRecord, member: u32, tick: TickSize) -> Option<Command>
+    ensures { result ≡ change_command tick member (fields_of fields.now) }
+{
+    let reference = whole(field(fields, Column::Reference))?;
+    let quantity = whole(field(fields, Column::Quantity))?;
+    let limit = given_limit(field(fields, Column::Limit), tick)?;
+    Some(Command::Change {
+        member,
+        reference,
+        quantity,
+        limit,
+    })
+}
+
+/// The limit that a change gives, where it gives one.
+fn given_limit(text: &[u8], tick: TickSize) -> Option<Option<u32>>
+    ensures { result ≡ given_limit tick text.now }
+{
+    if text.is_empty() {
+        Some(None)
+    } else {
+        price(text, tick).map(Some)
+    }
+}
+
+/// The columns that a cancellation leaves empty.
+const CANCEL_BLANK: [Column; 8] = [
+    Column::Side,
+    Column::Kind,
+    Column::Limit,
+    Column::Trigger,
+    Column::Quantity,
+    Column::Validity,
+    Column::Restriction,
+    Column::Condition,
+];
+
+/// The cancellation that a record is.
+fn cancel(fields: &ByteRecord, names: &Names) -> Option<Entry>
+    ensures { result ≡ cancel_entry names.now (fields_of fields.now) }
+{
+    if !are_empty(fields, &CANCEL_BLANK) {
         return None;
     }
     let member = member(fields, names)?;
@@ -161,23 +259,28 @@ fn cancel(fields: &ByteRecord, names: &Names) -> Option<Entry>
     }))
 }
 
+/// The cancellation of all orders of a member that a record is.
+fn cancel_all(fields: &ByteRecord, names: &Names) -> Option<Entry>
+    ensures { result ≡ cancel_all_entry names.now (fields_of fields.now) }
+{
+    if !are_empty(fields, &[Column::Reference]) || !are_empty(fields, &CANCEL_BLANK) {
+        return None;
+    }
+    let member = member(fields, names)?;
+    let security = security(fields, names)?;
+    Some(Entry::One(Row {
+        security,
+        command: Command::CancelAll { member },
+    }))
+}
+
 /// The phase command that a record gives to one security, or by `*` to each.
 fn phase(fields: &ByteRecord, names: &Names, command: Command) -> Option<Entry>
     ensures { result ≡ phase_entry command names.now (fields_of fields.now) }
 {
-    let blank = [
-        Column::Member,
-        Column::Reference,
-        Column::Side,
-        Column::Kind,
-        Column::Limit,
-        Column::Trigger,
-        Column::Quantity,
-        Column::Validity,
-        Column::Restriction,
-        Column::Condition,
-    ];
-    if !are_empty(fields, &blank) {
+    if !are_empty(fields, &[Column::Member, Column::Reference])
+        || !are_empty(fields, &CANCEL_BLANK)
+    {
         return None;
     }
     if is_word(field(fields, Column::Security), "*") {

@@ -2,7 +2,7 @@
 ghost use Rattle.std.specs.Prelude.{◌≡◌};
 ghost use Rattle.std.specs.Str.{bytes_eq};
 ghost use Rattle.xm_ticks.specs.Reading.{price_of};
-ghost use Rattle.xm_day.specs.Rows.{condition_of, raw_price, restriction_of, side_of, validity_of, whole_of};
+ghost use Rattle.xm_day.specs.Rows.{condition_of, date_of, raw_price, restriction_of, side_of, validity_of, whole_of};
 
 use xm_rules::{Condition, Restriction, Side, Validity};
 use xm_ticks::{PriceFault, TickSize, read_number, read_price};
@@ -51,34 +51,53 @@ pub(crate) fn side(text: &[u8]) -> Option<Side>
     }
 }
 
-/// How long an order is valid: for the day, the one that an empty text names.
+/// The date that exactly eight digits write.
+fn date(text: &[u8]) -> Option<u32>
+    ensures { result ≡ date_of text.now }
+{
+    if text.len() == 8 { whole(text) } else { None }
+}
+
+/// How long an order is valid; an empty text is the day.
 pub(crate) fn validity(text: &[u8]) -> Option<Validity>
     ensures { result ≡ validity_of text.now }
 {
-    if text.is_empty() {
+    if text.is_empty() || is_word(text, "day") {
         Some(Validity::Day)
+    } else if is_word(text, "gtc") {
+        Some(Validity::TillCancelled)
     } else {
-        None
+        date(text).map(Validity::TillDate)
     }
 }
 
-/// The restriction of an order: none, which an empty text names.
+/// The restriction of an order; an empty text is none.
 pub(crate) fn restriction(text: &[u8]) -> Option<Restriction>
     ensures { result ≡ restriction_of text.now }
 {
-    if text.is_empty() {
+    if text.is_empty() || is_word(text, "free") {
         Some(Restriction::Free)
+    } else if is_word(text, "opening") {
+        Some(Restriction::OpeningOnly)
+    } else if is_word(text, "auctions") {
+        Some(Restriction::AuctionsOnly)
+    } else if is_word(text, "closing") {
+        Some(Restriction::ClosingOnly)
     } else {
         None
     }
 }
 
-/// The condition of an order: none, which an empty text names.
+/// The condition of an order; an empty text is none.
 pub(crate) fn condition(text: &[u8]) -> Option<Condition>
     ensures { result ≡ condition_of text.now }
 {
-    if text.is_empty() {
+    if text.is_empty() || is_word(text, "plain") {
         Some(Condition::Plain)
+    } else if is_word(text, "ioc") {
+        Some(Condition::Ioc)
+    } else if is_word(text, "fok") {
+        Some(Condition::Fok)
     } else {
         None
     }

@@ -4,11 +4,11 @@ ghost use Rattle.std.specs.Prelude.{◌≡◌, ℕ, List, Ok, true};
 ghost use Rattle.std.specs.List.{list_all};
 ghost use Rattle.xm_day.specs.Names.{NameLists};
 ghost use Rattle.xm_day.specs.Orders.{orders_of};
-ghost use Rattle.xm_day.specs.Rows.{is_listed};
+ghost use Rattle.xm_rules.specs.Served.{is_served};
 ghost use Rattle.xm_day.specs.declared.config.SegmentConfig.{SegmentConfig};
 ghost use Rattle.xm_day.specs.declared.rows.Row.{Row};
 
-/// Each row of an order file is one that the format lists.
-pub fn rows_are_listed()
-    ensures { (names : NameLists) (config : SegmentConfig) (bytes : List ℕ) (rows : List Row) → orders_of names config bytes ≡ Ok rows → list_all (λ row. is_listed row.command) rows ≡ true }
+/// Each row of an order file has a command that a desk serves.
+pub fn rows_are_served()
+    ensures { (names : NameLists) (config : SegmentConfig) (bytes : List ℕ) (rows : List Row) → orders_of names config bytes ≡ Ok rows → list_all (λ row. is_served row.command) rows ≡ true }
 {}

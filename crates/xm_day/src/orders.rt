@@ -6,7 +6,8 @@ ghost use Rattle.csv.specs.Reading.{default_config, error_kind, records, strip_b
 ghost use Rattle.csv.specs.Records.{fields_of};
 ghost use Rattle.xm_day.specs.FileFaults.{is_from_outside};
 ghost use Rattle.xm_day.specs.Orders.{fault_of_error, orders_of, rows_of_records, with_rows};
-ghost use Rattle.xm_day.specs.Rows.{is_listed, rows_of_entry, rows_of_record};
+ghost use Rattle.xm_day.specs.Rows.{rows_of_entry, rows_of_record};
+ghost use Rattle.xm_rules.specs.Served.{is_served};
 
 use crate::bytes::{MAX_BYTES, read_whole};
 use crate::columns::is_header;
@@ -40,7 +41,7 @@ pub fn read_rows<R: Read>(
     requires securities { length names.now.securities ≡ length config.now.securities }
     requires members { length names.now.members ≡ config.now.members }
     ensures read { IfOk result (λ rows. IfSome (R.remaining reader.old) (λ bytes. orders_of names.now config.now bytes ≡ Ok rows.items)) }
-    ensures listed { IfOk result (λ rows. list_all (λ row. is_listed row.command) rows.items ≡ true) }
+    ensures served { IfOk result (λ rows. list_all (λ row. is_served row.command) rows.items ≡ true) }
     ensures few { IfOk result (λ rows. length rows.items ≤ MAX_ROWS) }
     ensures fault { IfErr result (λ fault. OnFalse (is_from_outside fault.cause) (IfSome (R.remaining reader.old) (λ bytes. orders_of names.now config.now bytes ≡ Err fault))) }
     ensures outside { IfErr result (λ fault. OnTrue (is_from_outside fault.cause) (fault.line ≡ 0)) }
@@ -58,7 +59,7 @@ fn parse_rows(
 ) -> Result<Vec<Row>, FileFault>
     requires { length text.now ≤ MAX_BYTES }
     ensures ok { IfOk result (λ rows. rows_of_records names.now config.now (records default_config (strip_bom text.now)) ≡ Ok rows.items) }
-    ensures listed { IfOk result (λ rows. list_all (λ row. is_listed row.command) rows.items ≡ true) }
+    ensures served { IfOk result (λ rows. list_all (λ row. is_served row.command) rows.items ≡ true) }
     ensures few { IfOk result (λ rows. length rows.items ≤ MAX_ROWS) }
     ensures err { IfErr result (λ fault. fault.cause ≢ FileCause.OutOfMemory → rows_of_records names.now config.now (records default_config (strip_bom text.now)) ≡ Err fault) }
     ensures memory { IfErr result (λ fault. OnTrue (is_from_outside fault.cause) (fault.line ≡ 0)) }

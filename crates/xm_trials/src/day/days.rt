@@ -102,16 +102,27 @@ const BAD_HEADER: DayFault = DayFault::Orders(FileFault {
     cause: FileCause::BadHeader,
 });
 
+/// A segment of nine securities.
+fn nine_securities(alloc: Global) -> Result<String, Fail> {
+    let mut segment = String::from_str(alloc, SEGMENT)?;
+    for name in ["A", "B", "C", "D", "E", "F", "G", "H"] {
+        let security = replaced(alloc, SECOND, "UVW", name)?;
+        segment.push_str("\n")?;
+        segment.push_str(security.as_str())?;
+    }
+    Ok(segment)
+}
+
 #[test]
 fn faults_in_order(rt: HostRuntime) -> Result<(), Fail> {
     let alloc = rt.alloc();
-    let two = format!(in alloc; "{SEGMENT}\n{SECOND}")?;
+    let nine = nine_securities(alloc)?;
     let wide = replaced(alloc, SEGMENT, "dynamic = 20", "dynamic = 40")?;
     let damaged = replaced(alloc, SEGMENT, "tick = 100", "tick = 0")?;
     let faults = [
         (damaged.as_str(), "", BAD_VALUE),
-        (two.as_str(), "", BAD_HEADER),
-        (two.as_str(), HEADER, DayFault::Open(OpenFault::TooMany)),
+        (nine.as_str(), "", BAD_HEADER),
+        (nine.as_str(), HEADER, DayFault::Open(OpenFault::TooMany)),
         (NO_SECURITY, HEADER, DayFault::Open(OpenFault::NoSecurity)),
         (wide.as_str(), HEADER, DayFault::Open(OpenFault::BadWidths)),
     ];

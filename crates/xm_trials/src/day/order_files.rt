@@ -157,29 +157,43 @@ fn prefixes_of_an_order_file(rt: HostRuntime) -> Result<(), Fail> {
 }
 
 /// Records of twelve fields, of which each has a bad one.
-const BAD_FIELDS: [&str; 22] = [
-    "change,AAA,1,XYZ,,,,,5,,,",
+const BAD_FIELDS: [&str; 36] = [
+    "leave,AAA,1,XYZ,,,,,,,,",
     ",,,*,,,,,,,,",
     "enter,,1,XYZ,buy,limit,10.00,,10,,,",
     "enter,AAA,,XYZ,buy,limit,10.00,,10,,,",
     "enter,AAA,1,,buy,limit,10.00,,10,,,",
     "enter,AAA,1,XYZ,up,limit,10.00,,10,,,",
-    "enter,AAA,1,XYZ,buy,market,,,10,,,",
+    "enter,AAA,1,XYZ,buy,,10.00,,10,,,",
+    "enter,AAA,1,XYZ,buy,market,10.00,,10,,,",
+    "enter,AAA,1,XYZ,buy,market,,10.00,10,,,",
     "enter,AAA,1,XYZ,buy,limit,,,10,,,",
     "enter,AAA,1,XYZ,buy,limit,10.,,10,,,",
     "enter,AAA,1,ABC,buy,limit,+1,,10,,,",
     "enter,AAA,1,XYZ,buy,limit,10.00,1,10,,,",
+    "enter,AAA,1,XYZ,sell,stop-market,,9.90,10,,,",
+    "enter,AAA,1,XYZ,sell,stop-limit,9.90,9.90,10,,,",
     "enter,AAA,1,XYZ,buy,limit,10.00,,,,,",
     "enter,AAA,1,XYZ,buy,limit,10.00,,4294967296,,,",
     "enter,AAA,1,XYZ,buy,limit,10.00,,00000000001,,,",
     "enter,AAA,1,XYZ,buy,limit,10.00,,-1,,,",
-    "enter,AAA,1,XYZ,buy,limit,10.00,,10,day,,",
-    "enter,AAA,1,XYZ,buy,limit,10.00,,10,,free,",
-    "enter,AAA,1,XYZ,buy,limit,10.00,,10,,,plain",
+    "enter,AAA,1,XYZ,buy,limit,10.00,,10,Day,,",
+    "enter,AAA,1,XYZ,buy,limit,10.00,,10,2026010,,",
+    "enter,AAA,1,XYZ,buy,limit,10.00,,10,020260105,,",
+    "enter,AAA,1,XYZ,buy,limit,10.00,,10,2026-1-5,,",
+    "enter,AAA,1,XYZ,buy,limit,10.00,,10,,auction,",
+    "enter,AAA,1,XYZ,buy,limit,10.00,,10,,,gfd",
+    "change,AAA,1,XYZ,,,,,,,,",
+    "change,AAA,1,XYZ,buy,,,,5,,,",
+    "change,AAA,1,XYZ,,,,,5,day,,",
+    "change,AAA,1,XYZ,,,ten,,5,,,",
     "cancel,AAA,1,XYZ,buy,,,,,,,",
     "cancel,AAA,1,,,,,,,,,",
+    "cancel-all,AAA,1,XYZ,,,,,,,,",
+    "cancel-all,,,XYZ,,,,,,,,",
     "open,AAA,,*,,,,,,,,",
-    "open,,,,,,,,,,,",
+    "uncross,,,*,,,,,5,,,",
+    "end,,,,,,,,,,,",
 ];
 
 /// Records that have another number of fields than the header.
@@ -203,6 +217,94 @@ fn have_faults(
 fn damaged_records(rt: HostRuntime) -> Result<(), Fail> {
     have_faults(&rt, &BAD_FIELDS, FileCause::BadField)?;
     have_faults(&rt, &OTHER_LENGTHS, FileCause::Syntax)
+}
+
+/// Each command, kind, validity, restriction and condition.
+const EVERY_WORD: &[u8] = b"enter,AAA,1,XYZ,buy,market,,,10,day,free,plain
+enter,AAA,2,XYZ,sell,limit,10.00,,20,gtc,opening,ioc
+enter,AAA,3,XYZ,buy,limit,9.90,,30,20260106,auctions,fok
+enter,AAA,4,XYZ,buy,limit,9.90,,30,00000000,closing,
+change,AAA,1,XYZ,,,,,5,,,
+change,AAA,2,XYZ,,,10.01,,5,,,
+change,AAA,2,XYZ,,,10.001,,5,,,
+cancel-all,AAA,,XYZ,,,,,,,,
+intraday,,,XYZ,,,,,,,,
+close,,,*,,,,,,,,
+uncross,,,XYZ,,,,,,,,
+end,,,*,,,,,,,,
+";
+
+/// An order of the first member in the first security.
+macro_rules! entered {
+    ($reference:expr, $side:ident, $kind:expr, $quantity:expr, $validity:expr, $restriction:ident, $condition:ident) => {
+        first!(Command::Enter {
+            member: 0,
+            reference: $reference,
+            side: Side::$side,
+            kind: $kind,
+            quantity: $quantity,
+            validity: $validity,
+            restriction: Restriction::$restriction,
+            condition: Condition::$condition,
+        })
+    };
+}
+
+/// A change of an order of the first member in the first security.
+macro_rules! changed {
+    ($reference:expr, $limit:expr) => {
+        first!(Command::Change {
+            member: 0,
+            reference: $reference,
+            quantity: 5,
+            limit: $limit,
+        })
+    };
+}
+
+const EVERY_COMMAND: [Row; 12] = [
+    entered!(1, Buy, Kind::Market, 10, Validity::Day, Free, Plain),
+    entered!(
+        2,
+        Sell,
+        Kind::Limit(1000),
+        20,
+        Validity::TillCancelled,
+        OpeningOnly,
+        Ioc
+    ),
+    entered!(
+        3,
+        Buy,
+        Kind::Limit(990),
+        30,
+        Validity::TillDate(20260106),
+        AuctionsOnly,
+        Fok
+    ),
+    entered!(
+        4,
+        Buy,
+        Kind::Limit(990),
+        30,
+        Validity::TillDate(0),
+        ClosingOnly,
+        Plain
+    ),
+    changed!(1, None),
+    changed!(2, Some(1001)),
+    changed!(2, Some(0)),
+    first!(Command::CancelAll { member: 0 }),
+    first!(Command::StartIntraday),
+    first!(Command::StartClosing),
+    first!(Command::Uncross),
+    first!(Command::EndDay),
+];
+
+#[test]
+fn every_command(rt: HostRuntime) -> Result<(), Fail> {
+    let text = file_of(rt.alloc(), EVERY_WORD)?;
+    rows_are(&rt, SEGMENT, &mut text.as_slice(), &EVERY_COMMAND)
 }
 
 #[test]

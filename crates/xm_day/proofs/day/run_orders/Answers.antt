@@ -1,6 +1,5 @@
-use Rattle.std.proofs.Common.{◌≡◌, false, ◌∙◌, List, All, Result, Err, length, map, ap, sym, subst}
+use Rattle.std.proofs.Common.{◌∙◌, List, Result, Err, length, map, ap, sym, subst}
 use Rattle.std.specs.Io.KnownBytes.{Appends}
-use Rattle.xm_rules.specs.Settling.{is_continuous}
 use Rattle.xm_rules.specs.Step.{Journal, replay}
 use Rattle.xm_ticks.specs.Writing.{AppendsPrefix}
 use Rattle.xm_day.proofs.Days.{day-taken, lent_back}

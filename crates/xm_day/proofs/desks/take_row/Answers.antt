@@ -1,20 +1,11 @@
-use Rattle.std.proofs.Common.{◌≡◌, ◌<◌, ◌+◌, ◌∙◌, List, Some, None, Err, All, length, set, get_or, false, refl, ap, sym, subst, arith, rules}
+use Rattle.std.proofs.Common.{◌≡◌, ◌<◌, ◌+◌, ◌∙◌, List, Some, None, Err, length, set, refl, ap, sym, subst, arith, rules}
 use Rattle.std.proofs.lemmas.List.{set-get_or}
-use Rattle.std.proofs.lemmas.List.Elements.{All-set}
 use Rattle.std.proofs.lemmas.Option.{slice_get_read}
-use Rattle.xm_rules.proofs.Journals.{replay-push}
 use Rattle.xm_rules.specs.Refusals.{refusal_of}
-use Rattle.xm_rules.specs.Settling.{is_continuous}
-use Rattle.xm_rules.specs.State.{State}
-use Rattle.xm_rules.specs.Step.{Journal, replay, step}
-use Rattle.xm_day.proofs.Days.{accepts-known, listed-served, on_accepted, on_refused, on_unknown, with_command}
+use Rattle.xm_rules.specs.Step.{Journal, replay}
+use Rattle.xm_day.proofs.Days.{accepts-known, on_accepted, on_refused, on_unknown, with_command}
 use Rattle.xm_day.specs.Day.{day_of}
 use Rattle.xm_day.proofs.desks.take_row.Goals as goal
-
-pub apply-requires : goal.apply-requires
-apply-requires g c =
-    let served = listed-served c.args.row.now.command c.requires.listed in
-    search (rules, served)
 
 pub returns-then-index-desks-clause-taken : goal.returns-then-index-desks-clause-taken
 returns-then-index-desks-clause-taken g c = on_unknown c.args.desks.now c.args.row.now c.args.report.accepted c.args.report.refused c.if-index-desks.true

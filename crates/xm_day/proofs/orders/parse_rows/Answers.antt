@@ -1,7 +1,7 @@
 use Rattle.std.proofs.Common.{◌≤◌, length, sym, inr, arith, ◌∙◌}
 use Rattle.csv.specs.Reading.{default_config, error_kind, records, strip_bom}
 use Rattle.csv.specs.Records.{fields_of}
-use Rattle.xm_day.proofs.ListedRows.{records-listed}
+use Rattle.xm_day.proofs.ServedRows.{records-served}
 use Rattle.xm_day.proofs.PassedErrors.{if_passed}
 use Rattle.xm_day.proofs.Progress.{after-header, no-header, no-record, at-end, refused, bad-record, progress-more, shorter}
 use Rattle.xm_day.proofs.Unread.{start-unread, strip-shorter}
@@ -74,6 +74,6 @@ records-preserved c =
     progress-more _ _ _ _ c.read_byte_record-in-records.new.self _ _ c.add_record.new.rows.items (fields_of c.read_byte_record-in-records.new.row) p
     (rw arm.field-0-test at (arm.ensures.reads p.unread.trim p.unread.ready)) (arm.ensures.ready p.unread.trim) arm.ensures.flexible c.in_ok-add_record.ensures.ok c.in_ok-add_record.ensures.few
 
-pub returns-in-Ok-false-read_byte_record-clause-listed : goal.returns-in-Ok-false-read_byte_record-clause-listed
-returns-in-Ok-false-read_byte_record-clause-listed c =
-    records-listed c.args.names.now c.args.config.now (records default_config (strip_bom c.args.text.now)) c.records.rows.items (returns-in-Ok-false-read_byte_record-clause-ok c)
+pub returns-in-Ok-false-read_byte_record-clause-served : goal.returns-in-Ok-false-read_byte_record-clause-served
+returns-in-Ok-false-read_byte_record-clause-served c =
+    records-served c.args.names.now c.args.config.now (records default_config (strip_bom c.args.text.now)) c.records.rows.items (returns-in-Ok-false-read_byte_record-clause-ok c)
