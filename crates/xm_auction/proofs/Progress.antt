@@ -39,7 +39,9 @@ pub record Progress (u : Uncrossing) (number left : ℕ) (now : List Order) (old
   pub trades : made ≡ old ++ auction_trades number (upto done u)
   pub rooms : room + length (auction_trades number (upto done u)) ≡ before
   pub cut : 0 < left → IsCut u Buy done ⊎ IsCut u Sell done
-  pub enough : 0 < left → length now ≤ room
+  -- each trade has used up an order, or is the last
+  pub used : length now + length (auction_trades number (upto done u)) ≤ length u.orders + (1 - left)
+  pub enough : length u.orders ≤ before
 
 -- what a trade does
 pub record Turn (u : Uncrossing) (number left : ℕ) (now : List Order) (old made : List Trade) (before room : ℕ) (trade : Trade) : Type 0 where
@@ -48,6 +50,9 @@ pub record Turn (u : Uncrossing) (number left : ℕ) (now : List Order) (old mad
   pub some : 0 < trade.quantity
   pub within : trade.quantity ≤ left
   pub next : Progress u number (left - trade.quantity) (taken_from_best (phase_of u) Sell trade.quantity (taken_from_best (phase_of u) Buy trade.quantity now)) old (made ++ trade ∷ []) before (room - 1)
+
+none_or_some : (n : ℕ) → (n ≡ 0) ⊎ (0 < n)
+none_or_some n = grind arith
 
 both_raised : (m n : ℕ) (side : Side) → raised Sell m (raised Buy m (λ s. n)) side ≡ m
 both_raised m n Buy = refl
@@ -137,6 +142,12 @@ module _ (u : Uncrossing) (number left : ℕ) (now : List Order) (old made : Lis
       let same : first_unit u Sell sell_order + units sell_order ≡ p.done + count = (let s = sell_next.to in omega arith) in
       inr (subst (λ (n : ℕ). IsCut u Sell n) same (cut_after u Sell p.done sell_order sell_next))
 
+  no_longer : length (taken_from_best (phase_of u) Sell count (taken_from_best (phase_of u) Buy count now)) ≤ length now
+  no_longer =
+      let a = no_more count now (best_order (phase_of u) Buy now) in
+      let b = no_more count (taken_from_best (phase_of u) Buy count now) (best_order (phase_of u) Sell (taken_from_best (phase_of u) Buy count now)) in
+      omega arith
+
   fewer : (buy_rest ≡ count) ⊎ (sell_rest ≡ count) → length (taken_from_best (phase_of u) Sell count (taken_from_best (phase_of u) Buy count now)) < length now
   fewer (inl e) =
       let a = one_less (phase_of u) Buy count now (lessened (allotted_to u so_far) buy_order) best_buy (let r = buy_rest_is in omega arith) in
@@ -154,7 +165,15 @@ module _ (u : Uncrossing) (number left : ℕ) (now : List Order) (old made : Lis
       either b s l h = grind arith
 
   room_there : 0 < room
-  room_there = let l = some_there (phase_of u) Buy now (lessened (allotted_to u so_far) buy_order) best_buy in let e = p.enough some in omega arith
+  room_there = let l = some_there (phase_of u) Buy now (lessened (allotted_to u so_far) buy_order) best_buy in let e = p.enough in let h = p.used in let r = p.rooms in omega arith
+
+  one_more : length (auction_trades number (upto (p.done + count) u)) ≡ length (auction_trades number (upto p.done u)) + 1
+  one_more = ap length trades_after ∙ length-append (auction_trades number (upto p.done u)) (trade_of_next number u count buy_order sell_order ∷ [])
+
+  used_next : (left - count ≡ 0) ⊎ (0 < left - count)
+      → length (taken_from_best (phase_of u) Sell count (taken_from_best (phase_of u) Buy count now)) + length (auction_trades number (upto (p.done + count) u)) ≤ length u.orders + (1 - (left - count))
+  used_next (inl e) = let n = one_more in let l = no_longer in let h = p.used in omega arith
+  used_next (inr h) = let n = one_more in let f = fewer (one_ended h) in let h = p.used in omega arith
 
   on : Progress u number (left - count) (taken_from_best (phase_of u) Sell count (taken_from_best (phase_of u) Buy count now)) old (made ++ trade_of_next number u count buy_order sell_order ∷ []) before (room - 1)
   on = record {
@@ -165,12 +184,10 @@ module _ (u : Uncrossing) (number left : ℕ) (now : List Order) (old made : Lis
         ap (λ (l : List Trade). l ++ trade_of_next number u count buy_order sell_order ∷ []) p.trades
         ∙ append_assoc old (auction_trades number (upto p.done u)) (trade_of_next number u count buy_order sell_order ∷ [])
         ∙ ap (λ (l : List Trade). old ++ l) (sym trades_after);
-    rooms =
-        (let long : length (auction_trades number (upto (p.done + count) u)) ≡ length (auction_trades number (upto p.done u)) + 1 =
-        ap length trades_after ∙ length-append (auction_trades number (upto p.done u)) (trade_of_next number u count buy_order sell_order ∷ []) in
-        let r = p.rooms in let h = room_there in omega arith);
+    rooms = (let n = one_more in let r = p.rooms in let h = room_there in omega arith);
     cut = λ h. cut_next (one_ended h);
-    enough = λ h. let f = fewer (one_ended h) in let e = p.enough some in omega arith;
+    used = used_next (none_or_some (left - count));
+    enough = p.enough;
   }
 
   turn_next : Turn u number left now old made before room (trade_of_next number u count buy_order sell_order)
@@ -215,7 +232,8 @@ at_begin u number old room rests enough = record {
   trades = sym (append-nil old) ∙ ap (λ (l : List Trade). old ++ l) (sym (no_trades number u));
   rooms = (let e : length (auction_trades number (upto 0 u)) ≡ 0 = ap length (no_trades number u) in omega arith);
   cut = λ h. inl (cut_at_first u Buy);
-  enough = λ h. enough;
+  used = (let e : length (auction_trades number (upto 0 u)) ≡ 0 = ap length (no_trades number u) in omega arith);
+  enough = enough;
 }
 
 pub the_same : (u : Uncrossing) (number left : ℕ) (now : List Order) (old made : List Trade) (before room m : ℕ) (os : List Order) (ts : List Trade) (n : ℕ)

@@ -1,7 +1,7 @@
 -- How the best orders of a book trade with each other.
-use Rattle.std.specs.Prelude.{ℕ, min, List, Option, Some, None}
+use Rattle.std.specs.Prelude.{◌≤◌, ℕ, ◌+◌, min, List, length, Option, Some, None}
 use Rattle.xm_book.specs.Queues.{best_order}
-use Rattle.xm_rules.specs.Allotment.{Uncrossing}
+use Rattle.xm_rules.specs.Allotment.{Uncrossing, auction_trades, orders_after_call}
 use Rattle.xm_rules.specs.Orders.{trade_between}
 use Rattle.xm_rules.specs.declared.orders.Order.{Order}
 use Rattle.xm_rules.specs.declared.orders.Side.TheVariants.{Buy, Sell}
@@ -14,6 +14,10 @@ use Rattle.xm_rules.specs.declared.phases.Phase.{Phase}
 -- the end of a call with this time list, price and volume
 abbrev pub uncrossing_of : Auction → CallStage → List Order → ℕ → ℕ → Uncrossing
 uncrossing_of auction stage orders price volume = record { auction = auction; stage = stage; orders = orders; price = price; volume = volume }
+
+-- each trade of the end of a call but the last uses up an order at least
+abbrev pub UsesUpOrders : ℕ → Uncrossing → Type 0
+UsesUpOrders sweep u = length (orders_after_call u) + length (auction_trades sweep u) ≤ length u.orders + 1
 
 -- where the trades of a sweep are made, and at which price
 pub record Terms : Type 0 where

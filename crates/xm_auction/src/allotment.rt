@@ -1,6 +1,6 @@
 //! The allotment of a call: its volume goes, at its price, to the orders that are first in priority.
 ghost use Rattle.std.specs.Prelude.{◌≡◌, ◌+◌, ◌++◌, ◌<◌, ◌≤◌, IfSome, IsSome, Some, length};
-ghost use Rattle.xm_auction.specs.Allotment.{best_trade, uncrossing_of};
+ghost use Rattle.xm_auction.specs.Allotment.{UsesUpOrders, best_trade, uncrossing_of};
 ghost use Rattle.xm_book.specs.Queues.{best_order};
 ghost use Rattle.xm_rules.specs.Allotment.{auction_trades, orders_after_call};
 ghost use Rattle.xm_rules.specs.Auction.{volume as executable};
@@ -13,7 +13,8 @@ use xm_ticks::Price;
 
 /// Allots the volume of a call, in units, at its price: the best buys trade with the best sells, until the volume is
 /// reached. The volume is no more than what can be executed at the price, and there is room for as many trades as there
-/// are orders. The trades bear the number of the sweep. It takes no memory.
+/// are orders. Each trade but the last uses up an order at least. The trades bear the number of the sweep. It takes no
+/// memory.
 pub fn allocate<A: Allocator + Copy, B: Allocator>(
     book: &mut Book<A>,
     auction: Auction,
@@ -28,6 +29,7 @@ pub fn allocate<A: Allocator + Copy, B: Allocator>(
     ensures orders { book.new ≡ record book.old { orders = orders_after_call (uncrossing_of auction stage book.old.orders price volume) } }
     ensures trades { trades.new.trades ≡ trades.old.trades ++ auction_trades sweep (uncrossing_of auction stage book.old.orders price volume) }
     ensures room { trades.new.room + length (auction_trades sweep (uncrossing_of auction stage book.old.orders price volume)) ≡ trades.old.room }
+    ensures used { UsesUpOrders sweep (uncrossing_of auction stage book.old.orders price volume) }
 {
     let _ = book.len(); // What every book keeps is known of one whose length is asked.
     let phase = Phase::Call(auction, stage);

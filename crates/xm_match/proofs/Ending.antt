@@ -1,6 +1,6 @@
 -- Where there is no further trade, a sweep has come to its end: it has filled what the rules fill, and it is interrupted where
 -- the next order is met.
-use Rattle.std.proofs.Common.{◌≡◌, ℕ, ◌+◌, ◌-◌, ◌<◌, ◌≤◌, Bool, true, false, not, ◌&&◌, if◌then◌else◌, List, ◌++◌, length, sum_by, Contains, Option, Some, None, refl, sym, ap, ◌∙◌, ◌⊎◌, inl, inr, arith}
+use Rattle.std.proofs.Common.{◌≡◌, ℕ, ◌+◌, ◌-◌, ◌<◌, ◌≤◌, Bool, true, false, not, ◌&&◌, if◌then◌else◌, List, ◌++◌, length, sum_by, Contains, Some, None, refl, sym, ap, ◌∙◌, ◌⊎◌, inl, inr, arith}
 use Rattle.std.specs.List.{list_all}
 use Rattle.std.specs.Prelude.{nat_lt}
 use Rattle.std.proofs.lemmas.Bool.{and_from, both_ways, false_from_ne_true, lt-ltb, ltb-true}
@@ -9,9 +9,10 @@ use Rattle.xm_book.proofs.Cutting.{given_same}
 use Rattle.xm_book.proofs.Joining.{some_none}
 use Rattle.xm_book.proofs.Members.{Contains-filter, Passes-filter, list_any-none}
 use Rattle.xm_book.proofs.Remaining.{same_left}
-use Rattle.xm_match.specs.Meeting.{interrupts, is_met_if, next_trade, terms_of}
-use Rattle.xm_match.specs.declared.terms.Terms.{Terms}
+use Rattle.xm_match.specs.Meeting.{EachUsesUp, next_met, terms_of}
+use Rattle.xm_match.specs.declared.meeting.Next.TheVariants.{Inside}
 use Rattle.xm_match.proofs.Cuts.{AllDone, IsNext, IsSound, fill_none, fill_of, next_or_all, not_behind, not_inside, placed, some_units, upto}
+use Rattle.xm_match.proofs.NextTrade.{at_end, interrupts, is_met_if, next_trade}
 use Rattle.xm_match.proofs.Lists.{all_of_each, all_pass, any_of_one}
 use Rattle.xm_match.proofs.Progress.{Progress, best_now, count, met_same, next_is, no_best, some_or_none}
 use Rattle.xm_match.proofs.Trading.{fill_off, given_of, trade_of, trades_are}
@@ -30,6 +31,7 @@ pub record Ended (w : Sweep) (number left : ℕ) (now : List Order) (old made : 
   pub rooms : room + length (sweep_trades number w) ≡ from
   pub filled : w.incoming.rest - left ≡ filled w
   pub rest : left ≡ rest_after w
+  pub used_up : EachUsesUp number w
   pub interrupted : interrupts (terms_of w) left now ≡ is_interrupted w
 
 -- no order is filled another number of units
@@ -78,12 +80,15 @@ module _ (w : Sweep) (number left : ℕ) (now : List Order) (old made : List Tra
       sum-same (fill (upto p.done w)) (fill w) (queue w) (λ k e l. same _ (All-contains_itself (queue w) k e l)) in
       let whole = p.is_done.whole in
       let all = p.whole in
+      let orders : now ≡ orders_after_sweep w =
+      p.orders ∙ same_left (fill (upto p.done w)) (fill w) w.orders (λ i at. of_list i at (is_active_on Continuous (other_side w) i) refl) in
       record {
-        orders = p.orders ∙ same_left (fill (upto p.done w)) (fill w) w.orders (λ i at. of_list i at (is_active_on Continuous (other_side w) i) refl);
+        orders = orders;
         trades = p.trades ∙ ap (λ (l : List Trade). old ++ l) trades;
         rooms = (let long = ap length trades in let r = p.rooms in omega arith);
         filled = omega arith;
         rest = omega arith;
+        used_up = (let long = ap length trades in let shorter = ap length orders in record { units_left = λ some. let u = p.units_left (omega arith) in omega arith; at_most = (let u = p.at_most in omega arith) });
         interrupted = interrupted;
       }
     where
@@ -144,8 +149,8 @@ module _ (w : Sweep) (number left : ℕ) (now : List Order) (old made : List Tra
       same_by i at (inr (inl e)) = same_none i (ap (is_executable w) e ∙ not_next)
       same_by i at (inr (inr h)) = same_none i (not_behind w p.done s p.is_done (p.cut some) m next outside i h)
 
-      next_met : interrupts (terms_of w) left now ≡ is_met w m
-      next_met =
+      next_is_met : interrupts (terms_of w) left now ≡ is_met w m
+      next_is_met =
           (λ k. lt-ltb 0 left some k && is_met_if (terms_of w) (best_now w number left now old made from room s p some m next k))
           ∙ met_same w m next.contained
 
@@ -175,7 +180,7 @@ module _ (w : Sweep) (number left : ℕ) (now : List Order) (old made : List Tra
       interrupted_by false e = e ∙ sym (list_any-none (interrupts_at w) (queue w) (λ i at. no_interruption e i at (place i at)))
 
       pub outside_ranges : Ended w number left now old made from room
-      outside_ranges = ended_from (λ i at. same_by i at (place i at)) (next_met ∙ interrupted_by (is_met w m) refl)
+      outside_ranges = ended_from (λ i at. same_by i at (place i at)) (next_is_met ∙ interrupted_by (is_met w m) refl)
 
     ended_by : next_trade number (terms_of w) left now ≡ None → AllDone w p.done ⊎ ((m : Positioned) × IsNext w p.done m) → Ended w number left now old made from room
     ended_by e (inl all) = all_past all
@@ -190,5 +195,6 @@ module _ (w : Sweep) (number left : ℕ) (now : List Order) (old made : List Tra
   ended_if e (inl some) = ended_by some e (next_or_all w p.done s p.is_done (p.cut some))
   ended_if e (inr none) = nothing_left none
 
-  pub ended : (t : Terms) → t ≡ terms_of w → (o : Option Trade) → o ≡ next_trade number t left now → o ≡ None → Ended w number left now old made from room
-  ended t same o e none = ended_if (sym (e ∙ ap (λ (u : Terms). next_trade number u left now) same) ∙ none) (some_or_none left)
+  -- where no further order is met inside both ranges
+  pub ended : ((o : Order) → next_met (terms_of w) left now ≡ Inside o → ⊥) → Ended w number left now old made from room
+  ended none = ended_if ((at_end (terms_of w) left now none).none number) (some_or_none left)

@@ -3,5 +3,6 @@ mod Covering
 mod Cuts
 mod Ending
 mod Lists
+mod NextTrade
 mod Progress
 mod Trading

@@ -6,10 +6,11 @@ use Rattle.xm_book.specs.Queues.{best_order, taken_from_best}
 use Rattle.xm_book.proofs.Joining.{same_some, some_none}
 use Rattle.xm_book.proofs.Members.{Passes-filter}
 use Rattle.xm_book.proofs.Remaining.{all_kept, lessened, no_best_left}
-use Rattle.xm_book.proofs.Shortening.{one_less, some_there}
-use Rattle.xm_match.specs.Meeting.{is_met, meets_inside, next_trade, price_met, terms_of, trade_if_met, trade_with}
-use Rattle.xm_match.specs.declared.terms.Terms.{Terms}
+use Rattle.xm_book.proofs.Shortening.{no_more, one_less, some_there}
+use Rattle.xm_match.specs.Meeting.{is_met, meets_inside, next_met, price_met, terms_of, trade_with}
+use Rattle.xm_match.specs.declared.meeting.Next.TheVariants.{Inside}
 use Rattle.xm_match.proofs.Cuts.{AllDone, IsCut, IsDone, IsNext, IsSound, executable_next, fill_past, filled_whole, next_or_all, some_units, upto}
+use Rattle.xm_match.proofs.NextTrade.{inside, next_trade, trade_if_met}
 use Rattle.xm_match.proofs.Trading.{best_is, best_taken, cut_after, done_after, last_trade, nothing_yet, quantity_is, rest_apart_too, trade_of, trades_none}
 use Rattle.xm_rules.specs.Active.{Positioned, is_active_on, positioned_from}
 use Rattle.xm_rules.specs.Orders.{meets, trade_between}
@@ -49,7 +50,9 @@ pub record Progress (w : Sweep) (number left : ℕ) (now : List Order) (old made
   pub rooms : room + length (sweep_trades number (upto done w)) ≡ from
   pub is_done : IsDone w done
   pub cut : 0 < left → IsCut w done
-  pub enough : 0 < left → length now ≤ room
+  pub units_left : 0 < left → length now + length (sweep_trades number (upto done w)) ≤ length w.orders
+  pub at_most : length now + length (sweep_trades number (upto done w)) ≤ length w.orders + 1
+  pub enough : length w.orders ≤ from
 
 -- what a trade of so many units does
 pub record Turn (w : Sweep) (number left : ℕ) (now : List Order) (old made : List Trade) (from room : ℕ) (trade : Trade) (n : ℕ) : Type 0 where
@@ -58,6 +61,7 @@ pub record Turn (w : Sweep) (number left : ℕ) (now : List Order) (old made : L
   pub some : 0 < n
   pub fits : n ≤ best.rest
   pub within : n ≤ left
+  pub has_room : 0 < room
   pub next : Progress w number (left - n) (taken_from_best Continuous (other_side w) n now) old (made ++ trade ∷ []) from (room - 1)
 
 is_some : (b : Bool) (t u : Trade) → Some t ≡ (if b then Some u else None) → (b ≡ true) × (t ≡ u)
@@ -112,7 +116,15 @@ module _ (w : Sweep) (number left : ℕ) (now : List Order) (old made : List Tra
       ended l = omega arith
 
       room_there : 0 < room
-      room_there = let l = some_there Continuous (other_side w) now (lessened (fill (upto p.done w)) m) best_now in let e = p.enough some in omega arith
+      room_there =
+          let l = some_there Continuous (other_side w) now (lessened (fill (upto p.done w)) m) best_now in
+          let u = p.units_left some in
+          let e = p.enough in
+          let r = p.rooms in
+          omega arith
+
+      trades_longer : length (sweep_trades number (upto (p.done + count) w)) ≡ length (sweep_trades number (upto p.done w)) + 1
+      trades_longer = ap length trades_after ∙ length-append (sweep_trades number (upto p.done w)) (trade_of number w count m ∷ [])
 
       on : Progress w number (left - count) (taken_from_best Continuous (other_side w) count now) old (made ++ trade_of number w count m ∷ []) from (room - 1)
       on = record {
@@ -125,16 +137,17 @@ module _ (w : Sweep) (number left : ℕ) (now : List Order) (old made : List Tra
             ap (λ (l : List Trade). l ++ trade_of number w count m ∷ []) p.trades
             ∙ append_assoc old (sweep_trades number (upto p.done w)) (trade_of number w count m ∷ [])
             ∙ ap (λ (l : List Trade). old ++ l) (sym trades_after);
-        rooms =
-            (let long : length (sweep_trades number (upto (p.done + count) w)) ≡ length (sweep_trades number (upto p.done w)) + 1 =
-            ap length trades_after ∙ length-append (sweep_trades number (upto p.done w)) (trade_of number w count m ∷ []) in
-            let r = p.rooms in let h = room_there in omega arith);
+        rooms = (let long = trades_longer in let r = p.rooms in let h = room_there in omega arith);
         is_done = done_after w number p.done s p.is_done (p.cut some) m next exec count some_traded (omega arith);
         cut = λ l. cut_after w number p.done s p.is_done (p.cut some) m next exec count some_traded (omega arith) (ended l);
-        enough = λ l.
+        units_left = λ l.
             let f = one_less Continuous (other_side w) count now (lessened (fill (upto p.done w)) m) best_now (let r = rest_now in let e = ended l in omega arith) in
-            let e = p.enough some in
+            let long = trades_longer in
+            let u = p.units_left some in
             omega arith;
+        at_most =
+            (let f = no_more count now (best_order Continuous (other_side w) now) in let long = trades_longer in let u = p.units_left some in omega arith);
+        enough = p.enough;
       }
 
       turn_next : Turn w number left now old made from room (trade_of number w count m) count
@@ -144,6 +157,7 @@ module _ (w : Sweep) (number left : ℕ) (now : List Order) (old made : List Tra
         some = some_traded;
         fits = (let r = rest_now in omega arith);
         within = omega arith;
+        has_room = room_there;
         next = on;
       }
 
@@ -164,9 +178,10 @@ module _ (w : Sweep) (number left : ℕ) (now : List Order) (old made : List Tra
   turn_if trade e (inl some) = turn_by trade e some (next_or_all w p.done s p.is_done (p.cut some))
   turn_if trade e (inr none) = absurd (some_none (e ∙ nothing_at_zero w number left (best_order Continuous (other_side w) now) none))
 
-  pub turn : (t : Terms) → t ≡ terms_of w → (o : Option Trade) → o ≡ next_trade number t left now → (trade : Trade) → o ≡ Some trade
+  -- the trade with an order that is met inside both ranges
+  pub turn : (o : Order) → next_met (terms_of w) left now ≡ Inside o → (trade : Trade) → trade ≡ trade_with number (terms_of w) left o
       → Turn w number left now old made from room trade trade.quantity
-  turn t same o e trade some = turn_if trade (sym some ∙ e ∙ ap (λ (u : Terms). next_trade number u left now) same) (some_or_none left)
+  turn o met trade same = turn_if trade (ap (λ (t : Trade). Some t) same ∙ sym ((inside (terms_of w) left now o met).trade number)) (some_or_none left)
 
 -- ---- at the begin
 pub none_done : (w : Sweep) → IsDone w 0
@@ -179,11 +194,16 @@ at_begin w number old room s enough = record {
   whole = omega arith;
   orders = sym (all_kept (fill (upto 0 w)) w.orders (λ i. fill_past w 0 i (omega arith)) s.rests);
   trades = sym (append-nil old) ∙ ap (λ (l : List Trade). old ++ l) (sym (trades_none number w));
-  rooms = (let e : length (sweep_trades number (upto 0 w)) ≡ 0 = ap length (trades_none number w) in omega arith);
+  rooms = (let e = long_none in omega arith);
   is_done = none_done w;
   cut = λ l. record { cut = λ i at. inr (omega arith) };
-  enough = λ l. enough;
+  units_left = λ l. let e = long_none in omega arith;
+  at_most = (let e = long_none in omega arith);
+  enough = enough;
 }
+  where
+    long_none : length (sweep_trades number (upto 0 w)) ≡ 0
+    long_none = ap length (trades_none number w)
 
 pub the_same : (w : Sweep) (number left : ℕ) (now : List Order) (old made : List Trade) (from room k : ℕ) (os : List Order) (ts : List Trade) (n : ℕ)
     → k ≡ left → os ≡ now → ts ≡ made → n ≡ room → Progress w number left now old made from room → Progress w number k os old ts from n

@@ -1,6 +1,8 @@
 -- How an incoming order meets the orders of the other side, and its next trade.
-use Rattle.std.specs.Prelude.{ℕ, min, Bool, false, ◌&&◌, nat_lt, if◌then◌else◌, List, Option, Some, None}
+use Rattle.std.specs.Prelude.{ℕ, ◌+◌, ◌<◌, ◌≤◌, min, Bool, true, false, ◌&&◌, ◌==◌, if◌then◌else◌, List, length, Option, Some, None}
 use Rattle.xm_book.specs.Queues.{best_order}
+use Rattle.xm_match.specs.declared.meeting.Next.{Next}
+use Rattle.xm_match.specs.declared.meeting.Next.TheVariants.{Nothing, Inside, Outside}
 use Rattle.xm_match.specs.declared.terms.Terms.{Terms}
 use Rattle.xm_rules.specs.Orders.{meets, trade_between}
 use Rattle.xm_rules.specs.Sides.{opposite}
@@ -32,8 +34,11 @@ abbrev pub price_met : Terms → OrderKind → ℕ
 price_met t Market = t.market
 price_met t (Limit p) = p
 
+abbrev pub is_inside : Terms → OrderKind → Bool
+is_inside t kind = inside_both (ranges_of t) (price_met t kind)
+
 abbrev pub meets_inside : Terms → OrderKind → Bool
-meets_inside t kind = is_met t kind && inside_both (ranges_of t) (price_met t kind)
+meets_inside t kind = is_met t kind && is_inside t kind
 
 -- the best order of the other side, where there is one
 abbrev pub best_of : Terms → List Order → Option Order
@@ -43,18 +48,27 @@ best_of t orders = best_order Continuous (opposite t.incoming.side) orders
 abbrev pub trade_with : ℕ → Terms → ℕ → Order → Trade
 trade_with number t units o = trade_between number made.Continuous (price_met t o.kind) (min o.rest units) t.incoming.side t.incoming o
 
-abbrev pub trade_if_met : ℕ → Terms → ℕ → Option Order → Option Trade
-trade_if_met number t units None = None
-trade_if_met number t units (Some o) = if nat_lt 0 units && meets_inside t o.kind then Some (trade_with number t units o) else None
+-- how an incoming order meets the best order of the other side
+abbrev pub next_of : Terms → Order → Next
+next_of t o = if is_met t o.kind then (if is_inside t o.kind then Inside o else Outside) else Nothing
 
--- the trade with the best order of the other side, where there is one that is met inside both ranges, and units are left
-abbrev pub next_trade : ℕ → Terms → ℕ → List Order → Option Trade
-next_trade number t units orders = trade_if_met number t units (best_of t orders)
+abbrev pub next_of_any : Terms → Option Order → Next
+next_of_any t None = Nothing
+next_of_any t (Some o) = next_of t o
 
-abbrev pub is_met_if : Terms → Option Order → Bool
-is_met_if t None = false
-is_met_if t (Some o) = is_met t o.kind
+-- what an incoming order meets next of which so many units are left
+abbrev pub next_met : Terms → ℕ → List Order → Next
+next_met t units orders = if units == 0 then Nothing else next_of_any t (best_of t orders)
 
--- units are left, and there is a best order of the other side that is met, inside the ranges or not
-abbrev pub interrupts : Terms → ℕ → List Order → Bool
-interrupts t units orders = nat_lt 0 units && is_met_if t (best_of t orders)
+abbrev pub is_outside : Next → Bool
+is_outside Outside = true
+is_outside next = false
+
+-- the orders and the trades after a sweep, together
+abbrev pub orders_and_trades : ℕ → rules.Sweep → ℕ
+orders_and_trades number w = length (rules.orders_after_sweep w) + length (rules.sweep_trades number w)
+
+-- each trade uses up the order that it is made with, but the last one where it uses up the incoming order
+pub record EachUsesUp (number : ℕ) (w : rules.Sweep) : Type 0 where
+  pub units_left : 0 < rules.rest_after w → orders_and_trades number w ≤ length w.orders
+  pub at_most : orders_and_trades number w ≤ length w.orders + 1

@@ -2,6 +2,7 @@
 #![tactic(auto)]
 
 mod filling;
+mod meeting;
 mod sweeping;
 mod terms;
 

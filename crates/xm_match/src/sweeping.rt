@@ -1,12 +1,13 @@
 //! The sweep of continuous trading: an incoming order takes the orders of the other side, the best first.
 ghost use Rattle.std.specs.Prelude.{◌≡◌, ◌+◌, ◌++◌, ◌≤◌, length};
-ghost use Rattle.xm_match.specs.Meeting.{interrupts, next_trade, sweep_of, trade_with};
+ghost use Rattle.xm_match.specs.Meeting.{EachUsesUp, sweep_of, trade_with};
 ghost use Rattle.xm_rules.specs.Sweep.{filled, is_interrupted, orders_after_sweep, rest_after, sweep_trades};
 
+use crate::meeting::{Next, next_met};
 use crate::terms::Terms;
 use std::alloc::Allocator;
 use xm_book::{Book, Trades};
-use xm_rules::{Order, Phase, Trade, TradeKind, Widths};
+use xm_rules::{Order, Trade, TradeKind, Widths};
 use xm_ticks::Price;
 
 /// What a sweep came to.
@@ -39,6 +40,7 @@ pub fn sweep<A: Allocator + Copy, B: Allocator>(
     ensures orders { book.new ≡ record book.old { orders = orders_after_sweep (sweep_of book.old.orders incoming.now ref1 ref2 widths.now) } }
     ensures trades { trades.new.trades ≡ trades.old.trades ++ sweep_trades number (sweep_of book.old.orders incoming.now ref1 ref2 widths.now) }
     ensures room { trades.new.room + length (sweep_trades number (sweep_of book.old.orders incoming.now ref1 ref2 widths.now)) ≡ trades.old.room }
+    ensures used_up { EachUsesUp number (sweep_of book.old.orders incoming.now ref1 ref2 widths.now) }
     ensures filled { result.filled ≡ filled (sweep_of book.old.orders incoming.now ref1 ref2 widths.now) }
     ensures rest { result.rest ≡ rest_after (sweep_of book.old.orders incoming.now ref1 ref2 widths.now) }
     ensures interrupted { result.interrupted ≡ is_interrupted (sweep_of book.old.orders incoming.now ref1 ref2 widths.now) }
@@ -46,39 +48,18 @@ pub fn sweep<A: Allocator + Copy, B: Allocator>(
     let _ = book.len(); // What every book keeps is known of one whose length is asked.
     let terms = Terms::new(book, incoming, ref1, ref2, widths);
     let mut rest = incoming.rest;
-    while let Some(trade) = next_trade(book, &terms, number, rest) {
-        book.fill_best(terms.other_side(), Phase::Continuous, trade.quantity);
+    let mut next = next_met(book, &terms, rest);
+    while let Next::Inside(order) = next {
+        let trade = trade_with(&order, &terms, number, rest);
+        book.fill(&order, trade.quantity);
         rest -= trade.quantity;
         trades.push(trade);
+        next = next_met(book, &terms, rest);
     }
     Swept {
         filled: incoming.rest - rest,
         rest,
-        interrupted: interrupts(book, &terms, rest),
-    }
-}
-
-/// The trade with the best order of the other side, of no more than so many units, where it is met inside both ranges and
-/// there are units.
-fn next_trade<A: Allocator + Copy>(
-    book: &Book<A>,
-    terms: &Terms,
-    number: u64,
-    units: u32,
-) -> Option<Trade>
-    requires dynamic { terms.now.widths.dynamic ≤ 999 }
-    requires statics { terms.now.widths.statics ≤ 999 }
-    ensures { result ≡ next_trade number terms.now units book.now.orders }
-{
-    match book.best(terms.other_side(), Phase::Continuous) {
-        None => None,
-        Some(best) => {
-            if 0 < units && terms.meets_inside(&best.kind) {
-                Some(trade_with(best, terms, number, units))
-            } else {
-                None
-            }
-        }
+        interrupted: next.is_outside(),
     }
 }
 
@@ -95,14 +76,4 @@ fn trade_with(order: &Order, terms: &Terms, number: u64, units: u32) -> Trade
         &terms.incoming,
         order,
     )
-}
-
-/// Whether units are left, and the best order of the other side is met, inside the ranges or not.
-fn interrupts<A: Allocator + Copy>(book: &Book<A>, terms: &Terms, units: u32) -> bool
-    ensures { result ≡ interrupts terms.now units book.now.orders }
-{
-    match book.best(terms.other_side(), Phase::Continuous) {
-        None => false,
-        Some(best) => 0 < units && terms.is_met(best.kind),
-    }
 }

@@ -1,7 +1,7 @@
 //! What is fixed before the first fill of a sweep.
 ghost use Rattle.std.specs.Prelude.{◌≡◌, ◌≤◌};
 ghost use Rattle.std.specs.Option.{option_to_list};
-ghost use Rattle.xm_match.specs.Meeting.{is_met, meets_inside, price_met, sweep_of, terms_of};
+ghost use Rattle.xm_match.specs.Meeting.{is_inside, is_met, meets_inside, price_met, sweep_of, terms_of};
 ghost use Rattle.xm_rules.specs.Sides.{best_from, opposite};
 
 use std::alloc::Allocator;
@@ -83,15 +83,22 @@ impl Terms {
         }
     }
 
+    /// Whether the price at which an order of this kind is met is inside both ranges.
+    pub fn is_inside(&self, kind: OrderKind) -> bool
+        requires dynamic { self.now.widths.dynamic ≤ 999 }
+        requires statics { self.now.widths.statics ≤ 999 }
+        ensures { result ≡ is_inside self.now kind }
+    {
+        self.widths
+            .is_inside_both(self.ref1, self.ref2, self.price_met(kind))
+    }
+
     /// Whether an order of this kind is met at a price inside both ranges.
     pub fn meets_inside(&self, kind: &OrderKind) -> bool
         requires dynamic { self.now.widths.dynamic ≤ 999 }
         requires statics { self.now.widths.statics ≤ 999 }
         ensures { result ≡ meets_inside self.now kind.now }
     {
-        self.is_met(*kind)
-            && self
-                .widths
-                .is_inside_both(self.ref1, self.ref2, self.price_met(*kind))
+        self.is_met(*kind) && self.is_inside(*kind)
     }
 }

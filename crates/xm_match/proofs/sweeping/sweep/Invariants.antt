@@ -1,13 +1,14 @@
 use Rattle.std.proofs.Common.{◌≡◌}
-use Rattle.xm_match.specs.Meeting.{sweep_of}
+use Rattle.xm_match.specs.Meeting.{next_met, sweep_of, terms_of}
 use Rattle.xm_match.proofs.Progress.{Progress}
 use Rattle.xm_match.proofs.sweeping.sweep.Given as goal
 
-abbrev pub invariant-loop-trade : goal.invariant-loop-trade
-invariant-loop-trade g l = record {
+abbrev pub invariant-loop-next : goal.invariant-loop-next
+invariant-loop-next g l = record {
   book : l.book ≡ record l.initial.book { orders = l.book.orders };
+  next : l.next ≡ next_met (terms_of (sweep_of l.initial.book.orders l.incoming l.fn.ref1 l.fn.ref2 l.widths)) l.rest l.book.orders;
   progress : Progress (sweep_of l.initial.book.orders l.incoming l.fn.ref1 l.fn.ref2 l.widths) l.number l.rest l.book.orders l.initial.trades.trades l.trades.trades l.initial.trades.room l.trades.room;
 }
 
-abbrev pub decreases-loop-trade : goal.decreases-loop-trade
-decreases-loop-trade g l = l.rest
+abbrev pub decreases-loop-next : goal.decreases-loop-next
+decreases-loop-next g l = l.rest

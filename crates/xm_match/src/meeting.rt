@@ -1,0 +1,63 @@
+//! What an incoming order meets next.
+ghost use Rattle.std.specs.Prelude.{◌≡◌, ◌≤◌};
+ghost use Rattle.xm_match.specs.Meeting.{is_outside, next_met, next_of};
+
+use crate::terms::Terms;
+use std::alloc::Allocator;
+use xm_book::Book;
+use xm_rules::{Order, Phase};
+
+/// What an incoming order meets next.
+#[derive(Clone, Copy)]
+pub enum Next {
+    /// Nothing: no units are left, or no order is met.
+    Nothing,
+    /// This order, at a price inside both ranges.
+    Inside(Order),
+    /// An order at a price outside a range.
+    Outside,
+}
+
+impl Next {
+    /// Whether an order is met at a price outside a range.
+    pub fn is_outside(&self) -> bool
+        ensures { result ≡ is_outside self.now }
+    {
+        match self {
+            Next::Outside => true,
+            _ => false,
+        }
+    }
+}
+
+/// What an incoming order meets next of which so many units are left: the best order of the other side, inside the ranges
+/// or not.
+#[inline(always)]
+pub fn next_met<A: Allocator + Copy>(book: &Book<A>, terms: &Terms, units: u32) -> Next
+    requires dynamic { terms.now.widths.dynamic ≤ 999 }
+    requires statics { terms.now.widths.statics ≤ 999 }
+    ensures { result ≡ next_met terms.now units book.now.orders }
+{
+    if units == 0 {
+        return Next::Nothing;
+    }
+    match book.best(terms.other_side(), Phase::Continuous) {
+        None => Next::Nothing,
+        Some(best) => next_of(terms, best),
+    }
+}
+
+/// How an incoming order meets the best order of the other side.
+fn next_of(terms: &Terms, best: &Order) -> Next
+    requires dynamic { terms.now.widths.dynamic ≤ 999 }
+    requires statics { terms.now.widths.statics ≤ 999 }
+    ensures { result ≡ next_of terms.now best.now }
+{
+    if !terms.is_met(best.kind) {
+        Next::Nothing
+    } else if terms.is_inside(best.kind) {
+        Next::Inside(*best)
+    } else {
+        Next::Outside
+    }
+}
