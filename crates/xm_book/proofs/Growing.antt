@@ -1,17 +1,18 @@
 -- Queues that have more room.
-use Rattle.std.proofs.Common.{◌≡◌, ℕ, ◌+◌, ◌-◌, ◌<◌, ◌≤◌, Bool, true, false, List, length, get_or, count_by, Option, None, Some, refl, sym, subst, arith}
+use Rattle.std.proofs.Common.{◌≡◌, ℕ, ◌+◌, ◌-◌, ◌<◌, ◌≤◌, Bool, true, false, ◌&&◌, List, length, get_or, count_by, Option, None, Some, refl, sym, subst, arith}
 use Rattle.std.proofs.lemmas.Bool.{and_parts}
+use Rattle.xm_book.specs.Levels.{same_restriction}
 use Rattle.xm_book.specs.Places.{same_place}
-use Rattle.xm_book.specs.Queued.{HasKinds, HasPlaces, HoldsLevel, IsQueued, is_limit, is_limit_on, members}
+use Rattle.xm_book.specs.Queued.{HasKindOf, HasPlaces, HoldsLevel, IsQueued, is_limit, is_limit_in, members}
 use Rattle.xm_book.specs.Reserved.{Gains}
 use Rattle.xm_book.specs.Slots.{SlotsView}
 use Rattle.xm_book.specs.declared.listing.Listed.{Listed}
 use Rattle.xm_book.specs.declared.places.Place.{Place}
-use Rattle.xm_book.proofs.Joining.{side-is}
+use Rattle.xm_book.proofs.Joining.{restriction-is, side-is}
 use Rattle.xm_book.proofs.Keeping.{kept-once, levels-fewer}
 use Rattle.xm_book.proofs.Reserved.{Gains-length, counted-within}
 use Rattle.xm_book.proofs.Sameness.{same_place-is}
-use Rattle.xm_ladders.specs.Ladder.{HasKind, HasLevels}
+use Rattle.xm_ladders.specs.Ladder.{HasKind, HasLevels, LadderView}
 use Rattle.xm_ladders.specs.Ladders.{ladder_on, level_on, side_of}
 use Rattle.xm_ladders.specs.declared.ladders.Ladders.{Ladders}
 use Rattle.xm_ladders.specs.declared.level.Level.{Level}
@@ -47,27 +48,29 @@ module _ {A : Type 0} (xs : List Listed) (entries : SlotsView) (links : List Lin
   }
 
   module _ (rooms : (s : Side) (r : Restriction) (k : OrderKind) (n : ℕ) → HasLevels (ladder_on r (side_of s ladders)) k n → HasLevels (ladder_on r (side_of s ladders')) k n)
-      (ps : List Place) (h : HasPlaces xs ps entries ladders) (p : Place) (qs : List Place) (gain : Gains p ps qs) (kind : HasKinds ladders' p)
-      (room : (r : Restriction) (k : OrderKind) → is_limit p.kind ≡ true → HasLevels (ladder_on r (side_of p.side ladders')) k (length ps + 1)) where
-    kinds_if : (q : Place) (b : Bool) → same_place q p ≡ b → 0 < count_by (same_place q) qs → HasKinds ladders' q
-    kinds_if q true e c = subst (λ (z : Place). HasKinds ladders' z) (sym (same_place-is q p e)) kind
-    kinds_if q false e c = λ r. kinds q.side r q.kind (h.kinds_room q (omega (arith, c, kept-once (same_place q) false p ps qs gain e)) r)
+      (ps : List Place) (h : HasPlaces xs ps entries ladders) (p : Place) (qs : List Place) (gain : Gains p ps qs) (kind : HasKindOf ladders' p)
+      (room : (k : OrderKind) → is_limit p.kind ≡ true → HasLevels (ladder_on p.restriction (side_of p.side ladders')) k (length ps + 1)) where
+    kinds_if : (q : Place) (b : Bool) → same_place q p ≡ b → 0 < count_by (same_place q) qs → HasKindOf ladders' q
+    kinds_if q true e c = subst (λ (z : Place). HasKindOf ladders' z) (sym (same_place-is q p e)) kind
+    kinds_if q false e c = kinds q.side q.restriction q.kind (h.kinds_room q (omega (arith, c, kept-once (same_place q) false p ps qs gain e)))
 
-    room_if : (s : Side) (r : Restriction) (k : OrderKind) (n : ℕ) (b : Bool) → is_limit_on s p ≡ b → n < count_by (is_limit_on s) qs → HasLevels (ladder_on r (side_of s ladders')) k (n + 1)
+    room_if : (s : Side) (r : Restriction) (k : OrderKind) (n : ℕ) (b : Bool) → is_limit_in s r p ≡ b → n < count_by (is_limit_in s r) qs → HasLevels (ladder_on r (side_of s ladders')) k (n + 1)
     room_if s r k n true e lt =
-        let parts = and_parts (same_side s p.side) (is_limit p.kind) e in
-        let side : s ≡ p.side = side-is s p.side parts.0 in
-        let all = counted-within (is_limit_on s) ps in
-        let more : (length ps - n) + (n + 1) ≡ length ps + 1 = omega (arith, lt, kept-once (is_limit_on s) true p ps qs gain e, all) in
+        let parts = and_parts (same_side s p.side && same_restriction r p.restriction) (is_limit p.kind) e in
+        let ladder = and_parts (same_side s p.side) (same_restriction r p.restriction) parts.0 in
+        let side : s ≡ p.side = side-is s p.side ladder.0 in
+        let restriction : r ≡ p.restriction = restriction-is r p.restriction ladder.1 in
+        let all = counted-within (is_limit_in s r) ps in
+        let more : (length ps - n) + (n + 1) ≡ length ps + 1 = omega (arith, lt, kept-once (is_limit_in s r) true p ps qs gain e, all) in
         levels-fewer (ladder_on r (side_of s ladders')) k (n + 1) (length ps - n)
         (subst (λ (i : ℕ). HasLevels (ladder_on r (side_of s ladders')) k i) (let z : length ps + 1 ≡ (n + 1) + (length ps - n) = omega (arith, more) in z)
-        (subst (λ (t : Side). HasLevels (ladder_on r (side_of t ladders')) k (length ps + 1)) (sym side) (room r k parts.1)))
-    room_if s r k n false e lt = rooms s r k (n + 1) (h.levels_room s r k n (omega (arith, lt, kept-once (is_limit_on s) false p ps qs gain e)))
+        (subst (λ (l : LadderView). HasLevels l k (length ps + 1)) (λ i. ladder_on (sym restriction i) (side_of (sym side i) ladders')) (room k parts.1)))
+    room_if s r k n false e lt = rooms s r k (n + 1) (h.levels_room s r k n (omega (arith, lt, kept-once (is_limit_in s r) false p ps qs gain e)))
 
     pub grown-places : length xs + length ps < 2000000 → length xs + length ps + 1 ≤ capacity → HasPlaces xs qs roomier ladders'
     grown-places few enough = record {
       within = omega (arith, few, Gains-length p ps qs gain);
       entries_room = omega (arith, enough, Gains-length p ps qs gain);
       kinds_room = λ q c. kinds_if q (same_place q p) refl c;
-      levels_room = λ s r k n lt. room_if s r k n (is_limit_on s p) refl lt;
+      levels_room = λ s r k n lt. room_if s r k n (is_limit_in s r p) refl lt;
     }

@@ -78,7 +78,7 @@ pub side-itself : (s : Side) → same_side s s ≡ true
 side-itself Buy = refl
 side-itself Sell = refl
 
-restriction-itself : (r : Restriction) → same_restriction r r ≡ true
+pub restriction-itself : (r : Restriction) → same_restriction r r ≡ true
 restriction-itself Free = refl
 restriction-itself OpeningOnly = refl
 restriction-itself AuctionsOnly = refl

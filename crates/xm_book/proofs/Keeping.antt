@@ -4,15 +4,15 @@ use Rattle.std.specs.Prelude.{nat_le}
 use Rattle.std.proofs.lemmas.Bool.{and_parts, leb-true}
 use Rattle.std.proofs.lemmas.Bool.Decides.{nat_tests}
 use Rattle.std.proofs.lemmas.List.{length-append}
-use Rattle.xm_book.specs.Levels.{level_for}
+use Rattle.xm_book.specs.Levels.{level_for, same_restriction}
 use Rattle.xm_book.specs.Listing.{reduced_at, rises}
 use Rattle.xm_book.specs.Places.{place_of, same_place}
-use Rattle.xm_book.specs.Queued.{HasPlaces, is_limit, is_limit_on}
+use Rattle.xm_book.specs.Queued.{HasPlaces, is_limit, is_limit_in}
 use Rattle.xm_book.specs.Reserved.{Gains}
 use Rattle.xm_book.specs.Slots.{SlotsView}
 use Rattle.xm_book.specs.declared.listing.Listed.{Listed}
 use Rattle.xm_book.specs.declared.places.Place.{Place}
-use Rattle.xm_book.proofs.Joining.{side-itself}
+use Rattle.xm_book.proofs.Joining.{restriction-itself, side-itself}
 use Rattle.xm_book.proofs.Placing.{levels-less}
 use Rattle.xm_book.proofs.Reserved.{Gains-length, count_one}
 use Rattle.xm_book.proofs.Reserving.{same_place-self}
@@ -20,7 +20,6 @@ use Rattle.xm_book.proofs.Sameness.{left-true, right-true}
 use Rattle.xm_ladders.specs.Ladder.{HasKind, HasLevels, LadderView}
 use Rattle.xm_ladders.specs.Ladders.{ladder_on, level_on, side_of}
 use Rattle.xm_ladders.specs.declared.ladders.Ladders.{Ladders}
-use Rattle.xm_ladders.specs.declared.ladders.SideLadders.{SideLadders}
 use Rattle.xm_rules.specs.Sides.{same_side}
 use Rattle.xm_rules.specs.declared.orders.Order.{Order}
 use Rattle.xm_rules.specs.declared.orders.OrderKind.{OrderKind}
@@ -85,7 +84,7 @@ module _ {A : Type 0} (xs : List Listed) (ps : List Place) (entries : SlotsView)
   places-kept ys fewer entries' cap ladders' kinds levels = record {
     within = omega (arith, h.within);
     entries_room = omega (arith, h.entries_room);
-    kinds_room = λ p c r. kinds p.side r p.kind (h.kinds_room p c r);
+    kinds_room = λ p c. kinds p.side p.restriction p.kind (h.kinds_room p c);
     levels_room = λ s r k n lt. levels s r k (n + 1) (h.levels_room s r k n lt);
   }
 
@@ -95,7 +94,7 @@ module _ {A : Type 0} (xs : List Listed) (ps : List Place) (entries : SlotsView)
     within = omega (arith, h.within, Gains-length p qs ps gain);
     entries_room = omega (arith, h.entries_room, Gains-length p qs ps gain);
     kinds_room = λ q c. h.kinds_room q (omega (arith, gain.counts (same_place q), count_one (same_place q) p qs));
-    levels_room = λ s r k n lt. h.levels_room s r k n (omega (arith, lt, gain.counts (is_limit_on s), count_one (is_limit_on s) p qs));
+    levels_room = λ s r k n lt. h.levels_room s r k n (omega (arith, lt, gain.counts (is_limit_in s r), count_one (is_limit_in s r) p qs));
   }
 
 pub kept-once : (f : Place → Bool) (b : Bool) (p : Place) (ps qs : List Place) → Gains p ps qs → f p ≡ b → count_by f qs ≡ (if b then 1 else 0) + count_by f ps
@@ -110,7 +109,7 @@ module _ {A : Type 0} (xs : List Listed) (ps : List Place) (entries : SlotsView)
   few-orders = omega (arith, h.within, some-place)
 
   pub kind-room : HasKind (ladder_on o.restriction (side_of o.side ladders)) o.kind
-  kind-room = h.kinds_room (place_of o) (omega (arith, kept-once (same_place (place_of o)) true (place_of o) qs ps gain (same_place-self (place_of o)))) o.restriction
+  kind-room = h.kinds_room (place_of o) (omega (arith, kept-once (same_place (place_of o)) true (place_of o) qs ps gain (same_place-self (place_of o))))
 
   pub level-room : HasLevels (ladder_on o.restriction (side_of o.side ladders)) o.kind 1
   level-room = room_for o.kind refl
@@ -118,7 +117,7 @@ module _ {A : Type 0} (xs : List Listed) (ps : List Place) (entries : SlotsView)
       room_for : (k : OrderKind) → o.kind ≡ k → HasLevels (ladder_on o.restriction (side_of o.side ladders)) k 1
       room_for Market e = tt
       room_for (Limit p) e =
-          let one = kept-once (is_limit_on o.side) true (place_of o) qs ps gain (λ i. side-itself o.side i && is_limit (e i)) in
+          let one = kept-once (is_limit_in o.side o.restriction) true (place_of o) qs ps gain (λ i. (side-itself o.side i && restriction-itself o.restriction i) && is_limit (e i)) in
           subst (λ (n : ℕ). HasLevels (ladder_on o.restriction (side_of o.side ladders)) (Limit p) n) (let z : 0 + 1 ≡ 1 = refl in z)
           (h.levels_room o.side o.restriction (Limit p) 0 (omega (arith, one)))
 
@@ -126,22 +125,23 @@ module _ {A : Type 0} (xs : List Listed) (ps : List Place) (entries : SlotsView)
       (kinds : (s : Side) (r : Restriction) (k : OrderKind) → HasKind (ladder_on r (side_of s ladders)) k → HasKind (ladder_on r (side_of s ladders')) k)
       (used : (s : Side) (r : Restriction) (k : OrderKind) (n : ℕ) → HasLevels (ladder_on r (side_of s ladders)) k (n + 1) → HasLevels (ladder_on r (side_of s ladders')) k n)
       (kept : IsSome (level_for o ladders) → (s : Side) (r : Restriction) (k : OrderKind) (n : ℕ) → HasLevels (ladder_on r (side_of s ladders)) k n → HasLevels (ladder_on r (side_of s ladders')) k n)
-      (other : (s : Side) → same_side s o.side ≡ false → side_of s ladders' ≡ side_of s ladders) where
-    -- room for a level where its side has a place
-    room-left : (s : Side) (r : Restriction) (k : OrderKind) (n : ℕ) (b : Bool) (kind : OrderKind) → o.kind ≡ kind → same_side s o.side ≡ b
-        → count_by (is_limit_on s) ps ≡ (if b && is_limit kind then 1 else 0) + count_by (is_limit_on s) qs → n < count_by (is_limit_on s) qs → HasLevels (ladder_on r (side_of s ladders')) k (n + 1)
+      (other : (s : Side) (r : Restriction) → (same_side s o.side && same_restriction r o.restriction) ≡ false → ladder_on r (side_of s ladders') ≡ ladder_on r (side_of s ladders)) where
+    -- room for a level where its side and restriction have a place
+    room-left : (s : Side) (r : Restriction) (k : OrderKind) (n : ℕ) (b : Bool) (kind : OrderKind) → o.kind ≡ kind → (same_side s o.side && same_restriction r o.restriction) ≡ b
+        → count_by (is_limit_in s r) ps ≡ (if b && is_limit kind then 1 else 0) + count_by (is_limit_in s r) qs → n < count_by (is_limit_in s r) qs → HasLevels (ladder_on r (side_of s ladders')) k (n + 1)
     room-left s r k n true (Limit p) e t c lt = used s r k (n + 1) (h.levels_room s r k (n + 1) (omega (arith, c, lt)))
     room-left s r k n true Market e t c lt = kept (there o.kind e) s r k (n + 1) (h.levels_room s r k n (omega (arith, c, lt)))
       where
         there : (k : OrderKind) → k ≡ Market → IsSome (level_on (side_of o.side ladders) o.restriction k)
         there Market f = search rules
         there (Limit p) f = absurd (cc)
-    room-left s r k n false kind e t c lt = subst (λ (l : SideLadders A). HasLevels (ladder_on r l) k (n + 1)) (sym (other s t)) (h.levels_room s r k n (omega (arith, c, lt)))
+    room-left s r k n false kind e t c lt = subst (λ (l : LadderView). HasLevels l k (n + 1)) (sym (other s r t)) (h.levels_room s r k n (omega (arith, c, lt)))
 
     pub places-used : HasPlaces (xs ++ x ∷ []) qs entries' ladders'
     places-used = record {
       within = omega (arith, h.within, Gains-length (place_of o) qs ps gain, length-append xs (x ∷ []));
       entries_room = omega (arith, h.entries_room, Gains-length (place_of o) qs ps gain, length-append xs (x ∷ []));
-      kinds_room = λ q c r. kinds q.side r q.kind (h.kinds_room q (omega (arith, gain.counts (same_place q), count_one (same_place q) (place_of o) qs)) r);
-      levels_room = λ s r k n lt. room-left s r k n (same_side s o.side) o.kind refl refl (kept-once (is_limit_on s) (same_side s o.side && is_limit o.kind) (place_of o) qs ps gain refl) lt;
+      kinds_room = λ q c. kinds q.side q.restriction q.kind (h.kinds_room q (omega (arith, gain.counts (same_place q), count_one (same_place q) (place_of o) qs)));
+      levels_room = λ s r k n lt. room-left s r k n (same_side s o.side && same_restriction r o.restriction) o.kind refl refl
+          (kept-once (is_limit_in s r) ((same_side s o.side && same_restriction r o.restriction) && is_limit o.kind) (place_of o) qs ps gain refl) lt;
     }

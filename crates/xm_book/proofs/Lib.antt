@@ -1,9 +1,7 @@
 pub mod Collecting
 pub mod Cutting
 pub mod Expiring
-pub mod Filling
 pub mod Firsts
-pub mod Fronting
 pub mod Growing
 pub mod Heading
 pub mod InTime

@@ -1,10 +1,12 @@
 -- Where a level is put among the ladders.
-use Rattle.std.proofs.Common.{ℕ, ◌+◌}
+use Rattle.std.proofs.Common.{◌≡◌, ℕ, ◌+◌, false, ◌&&◌, refl}
+use Rattle.xm_book.specs.Levels.{same_restriction}
 use Rattle.xm_ladders.specs.Ladder.{HasLevels, LadderView}
 use Rattle.xm_ladders.specs.Ladders.{ladder_on, side_of, with_ladder, with_side}
 use Rattle.xm_ladders.specs.declared.ladders.Ladders.{Ladders}
 use Rattle.xm_ladders.specs.declared.ladders.SideLadders.{SideLadders}
 use Rattle.xm_prices.proofs.Callers.{room-less}
+use Rattle.xm_rules.specs.Sides.{same_side}
 use Rattle.xm_rules.specs.declared.orders.OrderKind.{OrderKind}
 use Rattle.xm_rules.specs.declared.orders.OrderKind.TheVariants.{Market, Limit}
 use Rattle.xm_rules.specs.declared.orders.Restriction.{Restriction}
@@ -42,3 +44,29 @@ module _ {A : Type 0} (P : LadderView → LadderView → Type 0) (same : (l : La
   on_all l Buy q new h Sell r = same (ladder_on r l.sells)
   on_all l Sell q new h Buy r = same (ladder_on r l.buys)
   on_all l Sell q new h Sell r = on_side l.sells q new h r
+
+-- a ladder of another side or restriction stays as it was
+other_ladder : {A : Type 0} (l : SideLadders A) (r q : Restriction) (new : LadderView) → same_restriction r q ≡ false → ladder_on r (with_ladder q l new) ≡ ladder_on r l
+other_ladder l Free Free new apart = absurd (cc)
+other_ladder l Free OpeningOnly new apart = refl
+other_ladder l Free AuctionsOnly new apart = refl
+other_ladder l Free ClosingOnly new apart = refl
+other_ladder l OpeningOnly Free new apart = refl
+other_ladder l OpeningOnly OpeningOnly new apart = absurd (cc)
+other_ladder l OpeningOnly AuctionsOnly new apart = refl
+other_ladder l OpeningOnly ClosingOnly new apart = refl
+other_ladder l AuctionsOnly Free new apart = refl
+other_ladder l AuctionsOnly OpeningOnly new apart = refl
+other_ladder l AuctionsOnly AuctionsOnly new apart = absurd (cc)
+other_ladder l AuctionsOnly ClosingOnly new apart = refl
+other_ladder l ClosingOnly Free new apart = refl
+other_ladder l ClosingOnly OpeningOnly new apart = refl
+other_ladder l ClosingOnly AuctionsOnly new apart = refl
+other_ladder l ClosingOnly ClosingOnly new apart = absurd (cc)
+
+pub others_kept : {A : Type 0} (l : Ladders A) (s t : Side) (r q : Restriction) (new : LadderView) → (same_side s t && same_restriction r q) ≡ false
+    → ladder_on r (side_of s (with_side t l (with_ladder q (side_of t l) new))) ≡ ladder_on r (side_of s l)
+others_kept l Buy Buy r q new apart = other_ladder l.buys r q new apart
+others_kept l Buy Sell r q new apart = refl
+others_kept l Sell Buy r q new apart = refl
+others_kept l Sell Sell r q new apart = other_ladder l.sells r q new apart

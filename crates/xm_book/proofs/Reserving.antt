@@ -6,6 +6,7 @@ use Rattle.std.proofs.lemmas.List.Sums.{sum_by-cons}
 use Rattle.std.proofs.lemmas.Bool.Decides.{nat_tests}
 use Rattle.xm_book.specs.Places.{SamePlaces, same_place}
 use Rattle.xm_book.specs.declared.places.Place.{Place}
+use Rattle.xm_book.proofs.Joining.{restriction-itself}
 use Rattle.xm_ladders.specs.Ladder.{same_kind}
 use Rattle.xm_rules.specs.Sides.{same_side}
 use Rattle.xm_rules.specs.declared.orders.OrderKind.{OrderKind}
@@ -25,7 +26,7 @@ same_kind-self Market = refl
 same_kind-self (Limit p) = same_number p
 
 pub same_place-self : (p : Place) → same_place p p ≡ true
-same_place-self p = rw (same_side-self p.side, same_kind-self p.kind, same_number p.member, same_number p.reference) refl
+same_place-self p = rw (same_side-self p.side, same_kind-self p.kind, restriction-itself p.restriction, same_number p.member, same_number p.reference) refl
 
 -- a count of a list with one more
 pub counted-cons : (f : Place → Bool) (p : Place) (ps : List Place) → count_by f (p ∷ ps) ≡ cond (f p) 1 0 + count_by f ps

@@ -63,11 +63,6 @@ pub record IsFirst (ahead : Listed → Listed → Bool) (passes : Listed → Boo
   pub passing : passes first ≡ true
   pub none : (x : Listed) → Contains xs x → passes x ≡ true → ahead x first ≡ false
 
--- the first itself, or none where none passes
-abbrev pub IsBest : (Listed → Listed → Bool) → (Listed → Bool) → List Listed → Option Listed → Type 0
-IsBest ahead passes xs None = (x : Listed) → Contains xs x → passes x ≡ false
-IsBest ahead passes xs (Some x) = IsFirst ahead passes xs x
-
 -- the entry of the first, or none where none passes
 abbrev pub IsFirstOf : (Listed → Listed → Bool) → (Listed → Bool) → List Listed → Option Entry → Type 0
 IsFirstOf ahead passes xs None = (x : Listed) → Contains xs x → passes x ≡ false

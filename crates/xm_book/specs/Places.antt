@@ -1,5 +1,6 @@
 -- Places that are reserved in a book, and lists of them in which the order doesn't count.
 use Rattle.std.specs.Prelude.{◌≡◌, Bool, ◌&&◌, ◌==◌, List, length, count_by}
+use Rattle.xm_book.specs.Levels.{same_restriction}
 use Rattle.xm_book.specs.declared.places.Place.{Place}
 use Rattle.xm_ladders.specs.Ladder.{same_kind}
 use Rattle.xm_rules.specs.Sides.{same_side}
@@ -7,10 +8,10 @@ use Rattle.xm_rules.specs.declared.orders.Order.{Order}
 
 -- the place that an order takes
 abbrev pub place_of : Order → Place
-place_of o = record { side = o.side; kind = o.kind; member = o.member; reference = o.reference }
+place_of o = record { side = o.side; kind = o.kind; restriction = o.restriction; member = o.member; reference = o.reference }
 
 abbrev pub same_place : Place → Place → Bool
-same_place p q = same_side p.side q.side && same_kind p.kind q.kind && p.member == q.member && p.reference == q.reference
+same_place p q = same_side p.side q.side && same_kind p.kind q.kind && same_restriction p.restriction q.restriction && p.member == q.member && p.reference == q.reference
 
 -- two lists hold each place as often
 pub record SamePlaces (ps qs : List Place) : Type 0 where

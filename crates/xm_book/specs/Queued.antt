@@ -1,7 +1,7 @@
 -- How the orders of a book stand in their queues.
 use Rattle.std.specs.Prelude.{◌≡◌, ◌<◌, ◌≤◌, ℕ, ◌+◌, Bool, true, false, ◌&&◌, List, [], length, filter, sum_by, count_by, Option, None, Some}
 use Rattle.std.specs.List.{All}
-use Rattle.xm_book.specs.Levels.{at_level}
+use Rattle.xm_book.specs.Levels.{at_level, same_restriction}
 use Rattle.xm_book.specs.Listing.{keys_in, listed_entry, rises}
 use Rattle.xm_book.specs.Places.{same_place}
 use Rattle.xm_book.specs.Slots.{SlotsView, get, used}
@@ -72,20 +72,20 @@ abbrev pub is_limit : OrderKind → Bool
 is_limit Market = false
 is_limit (Limit p) = true
 
--- a place that may take a level of its side
-abbrev pub is_limit_on : Side → Place → Bool
-is_limit_on side p = same_side side p.side && is_limit p.kind
+-- a place that may take a level of a side and restriction
+abbrev pub is_limit_in : Side → Restriction → Place → Bool
+is_limit_in side r p = (same_side side p.side && same_restriction r p.restriction) && is_limit p.kind
 
--- the place's kind has room in each ladder of its side, since it is not known which restriction its order will have
-abbrev pub HasKinds : {A : Type 0} → Ladders A → Place → Type 0
-HasKinds ladders p = (r : Restriction) → HasKind (ladder_on r (side_of p.side ladders)) p.kind
+-- the place's kind has room in its ladder
+abbrev pub HasKindOf : {A : Type 0} → Ladders A → Place → Type 0
+HasKindOf ladders p = HasKind (ladder_on p.restriction (side_of p.side ladders)) p.kind
 
 -- there is room for an order of each of these places
 pub record HasPlaces {A : Type 0} (xs : List Listed) (ps : List Place) (entries : SlotsView) (ladders : Ladders A) : Type 0 where
   pub within : length xs + length ps ≤ 2000000
   pub entries_room : length xs + length ps ≤ entries.capacity
-  pub kinds_room : (p : Place) → 0 < count_by (same_place p) ps → HasKinds ladders p
-  pub levels_room : (s : Side) (r : Restriction) (k : OrderKind) (n : ℕ) → n < count_by (is_limit_on s) ps → HasLevels (ladder_on r (side_of s ladders)) k (n + 1)
+  pub kinds_room : (p : Place) → 0 < count_by (same_place p) ps → HasKindOf ladders p
+  pub levels_room : (s : Side) (r : Restriction) (k : OrderKind) (n : ℕ) → n < count_by (is_limit_in s r) ps → HasLevels (ladder_on r (side_of s ladders)) k (n + 1)
 
 pub record IsKept {A : Type 0} (xs : List Listed) (ps : List Place) (adds : ℕ) (entries : SlotsView) (links : List Link) (ladders : Ladders A) : Type 0 where
   pub queued : IsQueued xs entries links ladders

@@ -1,8 +1,8 @@
 //! The book of one security.
-ghost use Rattle.std.specs.Prelude.{◌≡◌, ◌+◌, ◌++◌, ◌∷◌, ◌<◌, ◌≤◌, ◌^◌, [], IsTrue, filter, length, find, false, option_copied, IfOk, IfSome, OnErr, OnOk};
+ghost use Rattle.std.specs.Prelude.{◌≡◌, ◌+◌, ◌++◌, ◌∷◌, ◌<◌, ◌≤◌, ◌^◌, [], Contains, IsTrue, filter, length, find, false, option_copied, IfOk, IfSome, OnErr, OnOk};
 ghost use Rattle.std.specs.Option.{option_map};
 ghost use Rattle.xm_book.specs.Places.{SamePlaces, place_of};
-ghost use Rattle.xm_book.specs.Queues.{best_order, level_after, market_sum, next_order, taken_from_best};
+ghost use Rattle.xm_book.specs.Queues.{best_order, level_after, market_sum, next_order, taken_from, taken_from_best};
 ghost use Rattle.xm_book.specs.TimeList.{IsBook, Reserves, is_known, is_reserved, references_of};
 ghost use Rattle.xm_rules.specs.Active.{active, limits};
 ghost use Rattle.xm_rules.specs.Commands.{is_in_range, outlasts};
@@ -199,6 +199,22 @@ impl<A: Allocator + Copy> Book<A> {
         }
     }
 
+    /// Takes units from an order of the book, which has as many. An order that has none left is gone, and another keeps its
+    /// place in time.
+    pub fn fill(&mut self, order: &Order, units: u32)
+        requires there { Contains self.old.orders order.now }
+        requires some { 1 ≤ units }
+        requires within { units ≤ order.now.rest }
+        ensures { self.new ≡ record self.old { orders = taken_from order.now units self.old.orders } }
+    {
+        let _ = self.len(); // What every book keeps is known of one whose length is asked.
+        if units == order.rest {
+            self.remove(order.member, order.reference);
+        } else {
+            self.reduce(order.member, order.reference, order.rest - units);
+        }
+    }
+
     /// The order of this name.
     pub fn find(&self, member: u32, reference: u32) -> Option<&Order>
         ensures { option_copied result ≡ find (is_named member reference) self.now.orders }
@@ -211,6 +227,7 @@ impl<A: Allocator + Copy> Book<A> {
 /// What is asked of the active orders of a side.
 impl<A: Allocator + Copy> Book<A> {
     /// The best active order of a side in priority.
+    #[inline(always)]
     pub fn best(&self, side: Side, phase: Phase) -> Option<&Order>
         ensures { option_copied result ≡ best_order phase side self.now.orders }
     {
@@ -223,17 +240,8 @@ impl<A: Allocator + Copy> Book<A> {
         requires { IfSome (best_order phase side self.old.orders) (λ o. (1 ≤ units) × (units ≤ o.rest)) }
         ensures { self.new ≡ record self.old { orders = taken_from_best phase side units self.old.orders } }
     {
-        match self.queues.best(side, phase) {
-            None => {}
-            Some(best) => {
-                let order = best.order;
-                if units == order.rest {
-                    self.names.remove(order.member, order.reference);
-                    self.queues.take(best.key);
-                } else {
-                    self.queues.reduce(best.key, order.rest - units);
-                }
-            }
+        if let Some(order) = self.best(side, phase).copied() {
+            self.fill(&order, units);
         }
     }
 
@@ -247,6 +255,7 @@ impl<A: Allocator + Copy> Book<A> {
     }
 
     /// The best limit of the active orders of a side.
+    #[inline(always)]
     pub fn best_limit(&self, side: Side, phase: Phase) -> Option<Price>
         ensures { result ≡ best side (limits (active phase side self.now.orders)) }
     {

@@ -1,7 +1,7 @@
 //! The level of an order.
-ghost use Rattle.std.specs.Prelude.{◌≡◌, if◌then◌else◌, ℕ, ◌+◌, ◌<◌, IsSome, IsTrue, None, OnOk, Some, false};
-ghost use Rattle.xm_book.specs.Levels.{IsFound, IsSet, at_level, level_for};
-ghost use Rattle.xm_book.specs.Queued.{HasKinds, is_limit};
+ghost use Rattle.std.specs.Prelude.{◌≡◌, if◌then◌else◌, ℕ, ◌+◌, ◌<◌, ◌&&◌, IsSome, IsTrue, None, OnOk, Some, false};
+ghost use Rattle.xm_book.specs.Levels.{IsFound, IsSet, at_level, level_for, same_restriction};
+ghost use Rattle.xm_book.specs.Queued.{HasKindOf, is_limit};
 ghost use Rattle.xm_ladders.specs.Ladder.{HasKind, HasLevels, IsCleared};
 ghost use Rattle.xm_ladders.specs.Ladders.{ladder_on, level_on, side_of};
 ghost use Rattle.xm_rules.specs.Sides.{same_side};
@@ -12,7 +12,7 @@ ghost use Rattle.xm_rules.specs.declared.orders.Side.{Side};
 use crate::places::Place;
 use std::alloc::{AllocError, Allocator};
 use xm_ladders::{Ladders, Level};
-use xm_rules::{Order, Restriction};
+use xm_rules::Order;
 
 /// The level in which an order stands or is to stand.
 #[inline(always)]
@@ -36,7 +36,7 @@ pub fn put_level<A: Allocator + Copy>(ladders: &mut Ladders<A>, order: &Order, l
     ensures kinds_kept { (s : Side) (r : Restriction) (k : OrderKind) → HasKind (ladder_on r (side_of s ladders.old)) k → HasKind (ladder_on r (side_of s ladders.new)) k }
     ensures room_used { (s : Side) (r : Restriction) (k : OrderKind) (n : ℕ) → HasLevels (ladder_on r (side_of s ladders.old)) k (n + 1) → HasLevels (ladder_on r (side_of s ladders.new)) k n }
     ensures room_kept { IsSome (level_for order.now ladders.old) → (s : Side) (r : Restriction) (k : OrderKind) (n : ℕ) → HasLevels (ladder_on r (side_of s ladders.old)) k n → HasLevels (ladder_on r (side_of s ladders.new)) k n }
-    ensures other_side { (s : Side) → same_side s order.now.side ≡ false → side_of s ladders.new ≡ side_of s ladders.old }
+    ensures other_ladder { (s : Side) (r : Restriction) → (same_side s order.now.side && same_restriction r order.now.restriction) ≡ false → ladder_on r (side_of s ladders.new) ≡ ladder_on r (side_of s ladders.old) }
 {
     ladders
         .of_mut(order.side)
@@ -62,40 +62,20 @@ pub fn set_level<A: Allocator + Copy>(ladders: &mut Ladders<A>, order: &Order, l
     }
 }
 
-/// Makes room for orders of a place's kind in each ladder of its side, as its order may have any restriction, and for so
-/// many levels more.
-pub fn reserve_levels<A: Allocator + Copy>(
+/// Makes room for orders of a place's kind in its ladder, and for so many levels more.
+pub fn reserve_level<A: Allocator + Copy>(
     ladders: &mut Ladders<A>,
     place: &Place,
     levels: usize,
 ) -> Result<(), AllocError>
-    ensures kind { OnOk result (HasKinds ladders.new place.now) }
-    ensures room { OnOk result ((r : Restriction) (k : OrderKind) → IsTrue (is_limit place.now.kind) → HasLevels (ladder_on r (side_of place.now.side ladders.new)) k levels) }
-    ensures kinds_kept { (s : Side) (r : Restriction) (k : OrderKind) → HasKind (ladder_on r (side_of s ladders.old)) k → HasKind (ladder_on r (side_of s ladders.new)) k }
-    ensures room_kept { (s : Side) (r : Restriction) (k : OrderKind) (n : ℕ) → HasLevels (ladder_on r (side_of s ladders.old)) k n → HasLevels (ladder_on r (side_of s ladders.new)) k n }
-    ensures same { (s : Side) (r : Restriction) (k : OrderKind) → level_on (side_of s ladders.new) r k ≡ level_on (side_of s ladders.old) r k }
-{
-    reserve_level(ladders, place, Restriction::Free, levels)?;
-    reserve_level(ladders, place, Restriction::OpeningOnly, levels)?;
-    reserve_level(ladders, place, Restriction::AuctionsOnly, levels)?;
-    reserve_level(ladders, place, Restriction::ClosingOnly, levels)
-}
-
-/// Makes the same room in the ladder of one restriction.
-fn reserve_level<A: Allocator + Copy>(
-    ladders: &mut Ladders<A>,
-    place: &Place,
-    restriction: Restriction,
-    levels: usize,
-) -> Result<(), AllocError>
-    ensures kind { OnOk result (HasKind (ladder_on restriction (side_of place.now.side ladders.new)) place.now.kind) }
-    ensures room { OnOk result ((k : OrderKind) → IsTrue (is_limit place.now.kind) → HasLevels (ladder_on restriction (side_of place.now.side ladders.new)) k levels) }
+    ensures kind { OnOk result (HasKindOf ladders.new place.now) }
+    ensures room { OnOk result ((k : OrderKind) → IsTrue (is_limit place.now.kind) → HasLevels (ladder_on place.now.restriction (side_of place.now.side ladders.new)) k levels) }
     ensures kinds_kept { (s : Side) (r : Restriction) (k : OrderKind) → HasKind (ladder_on r (side_of s ladders.old)) k → HasKind (ladder_on r (side_of s ladders.new)) k }
     ensures room_kept { (s : Side) (r : Restriction) (k : OrderKind) (n : ℕ) → HasLevels (ladder_on r (side_of s ladders.old)) k n → HasLevels (ladder_on r (side_of s ladders.new)) k n }
     ensures same { (s : Side) (r : Restriction) (k : OrderKind) → level_on (side_of s ladders.new) r k ≡ level_on (side_of s ladders.old) r k }
 {
     ladders
         .of_mut(place.side)
-        .of_mut(restriction)
+        .of_mut(place.restriction)
         .reserve(place.kind, levels)
 }

@@ -2,7 +2,7 @@
 ghost use Rattle.std.specs.Prelude.{◌≡◌, ◌+◌, ◌++◌, ◌∷◌, [], ◌<◌, ◌≤◌, ◌^◌, ◌&&◌, Contains, IfOk, IfSome, IsTrue, OnErr, OnOk, Some, filter, length, map, option_copied, sum_by, true};
 ghost use Rattle.std.specs.List.{list_all, list_any};
 ghost use Rattle.xm_book.specs.Expiry.{is_below};
-ghost use Rattle.xm_book.specs.Fronts.{IsBest, IsBestOf, IsFirstOf, better_of_two, earlier_of_two, goes_ahead, has_kind, has_kind_later, has_worse, is_any, is_earlier, is_in, is_on};
+ghost use Rattle.xm_book.specs.Fronts.{IsBestOf, IsFirstOf, better_of_two, earlier_of_two, goes_ahead, has_kind, has_kind_later, has_worse, is_any, is_earlier, is_in, is_on};
 ghost use Rattle.xm_book.specs.Listing.{is_other_key, keys_in, listed_entry, listed_order, reduced_at, rises};
 ghost use Rattle.xm_book.specs.Places.{place_of, same_place};
 ghost use Rattle.xm_book.specs.Queues.{units_at};
@@ -14,7 +14,7 @@ ghost use Rattle.xm_rules.specs.Active.{active, is_active};
 ghost use Rattle.xm_rules.specs.Commands.{is_in_range};
 
 use crate::entry::Entry;
-use crate::levels::{level_for, put_level, reserve_levels, set_level};
+use crate::levels::{level_for, put_level, reserve_level, set_level};
 use crate::listing::{Listed, Listing};
 use crate::places::{Place, Places};
 use crate::slots::Slots;
@@ -98,7 +98,7 @@ impl<A: Allocator + Copy> OrderQueues<A> {
         let capacity = capacity_for(orders, self.entries.capacity());
         self.links.reserve_key(capacity - 1)?;
         self.entries.grow_to(capacity)?;
-        reserve_levels(&mut self.ladders, place, self.places.len() + 1)?;
+        reserve_level(&mut self.ladders, place, self.places.len() + 1)?;
         self.places.add(place);
         Ok(())
     }
@@ -121,16 +121,22 @@ impl<A: Allocator + Copy> OrderQueues<A> {
         ensures used { Gains (place_of order.now) self.new.reserved self.old.reserved }
         ensures adds { self.new.adds ≡ self.old.adds + 1 }
     {
-        let order = *order;
         let time = self.adds;
-        let key = self.entries.insert(Entry { order, time });
-        let mut level = level_for(&self.ladders, &order);
+        let key = self.entries.insert(Entry {
+            order: *order,
+            time,
+        });
+        let mut level = level_for(&self.ladders, order);
         self.links.push_back(&mut level.ends, key);
         level.orders += 1;
         level.units += u64::from(order.rest);
-        put_level(&mut self.ladders, &order, level);
-        self.listing.join(&Listed { key, time, order });
-        self.places.release(&Place::of(&order));
+        put_level(&mut self.ladders, order, level);
+        self.listing.join(&Listed {
+            key,
+            time,
+            order: *order,
+        });
+        self.places.release(&Place::of(order));
         self.adds += 1;
         key
     }
@@ -142,14 +148,16 @@ impl<A: Allocator + Copy> OrderQueues<A> {
         ensures left { self.new ≡ record self.old { orders = filter (is_other_key key) self.old.orders } }
         ensures distinct { AreDistinct (keys_in self.old.orders) }
     {
-        let entry = self.entries.remove(key);
+        let entry = self.entries.entry(key);
         let mut level = level_for(&self.ladders, &entry.order);
         self.links.unlink(&mut level.ends, key);
         level.orders -= 1;
         level.units -= u64::from(entry.order.rest);
         set_level(&mut self.ladders, &entry.order, level);
+        let order = entry.order;
+        self.entries.vacate(key);
         self.listing.leave(key);
-        entry.order
+        order
     }
 
     /// Gives the order of a key a rest that is at least 1 and no higher than the present one. It keeps its place.
@@ -159,18 +167,12 @@ impl<A: Allocator + Copy> OrderQueues<A> {
         ensures reduced { self.new ≡ record self.old { orders = map (reduced_at key rest) self.old.orders } }
         ensures distinct { AreDistinct (keys_in self.old.orders) }
     {
-        match self.entries.get(key) {
-            None => {}
-            Some(entry) => {
-                let mut entry = *entry;
-                let mut level = level_for(&self.ladders, &entry.order);
-                level.units -= u64::from(entry.order.rest - rest);
-                put_level(&mut self.ladders, &entry.order, level);
-                entry.order.rest = rest;
-                self.entries.replace(key, entry);
-                self.listing.reduce(key, rest);
-            }
-        }
+        let entry = self.entries.entry(key);
+        let mut level = level_for(&self.ladders, &entry.order);
+        level.units -= u64::from(entry.order.rest - rest);
+        put_level(&mut self.ladders, &entry.order, level);
+        self.entries.set_rest(key, rest);
+        self.listing.reduce(key, rest);
     }
 }
 
@@ -231,18 +233,25 @@ fn better_of_two(side: Side, first: Option<Price>, second: Option<Price>) -> Opt
     }
 }
 
-/// What is asked by level and by priority. Each answer is put together from those of the four restrictions, since the
-/// orders of each stand in a ladder of their own. In continuous trading the free orders alone are active, so one ladder
-/// is asked.
+/// What is asked by level and by priority. In continuous trading the free orders alone are active, so one ladder is
+/// asked, without a call; in a call of an auction each answer is put together from those of the four restrictions, since
+/// the orders of each stand in a ladder of their own.
 impl<A: Allocator + Copy> OrderQueues<A> {
     /// The units that rest in the active orders of a side and kind.
     pub fn units_at(&self, side: Side, phase: Phase, kind: &OrderKind) -> u64
         ensures { result ≡ units_at kind.now (active phase side (map listed_order self.now.orders)) }
     {
-        let free = self.units_in(side, phase, Restriction::Free, kind);
         if phase.is_continuous() {
-            return free;
+            return self.units_in(side, phase, Restriction::Free, kind);
         }
+        self.units_of_all(side, phase, kind)
+    }
+
+    /// The same, put together from the answers of all restrictions.
+    fn units_of_all(&self, side: Side, phase: Phase, kind: &OrderKind) -> u64
+        ensures { result ≡ units_at kind.now (active phase side (map listed_order self.now.orders)) }
+    {
+        let free = self.units_in(side, phase, Restriction::Free, kind);
         let opening = self.units_in(side, phase, Restriction::OpeningOnly, kind);
         let auctions = self.units_in(side, phase, Restriction::AuctionsOnly, kind);
         let closing = self.units_in(side, phase, Restriction::ClosingOnly, kind);
@@ -250,13 +259,21 @@ impl<A: Allocator + Copy> OrderQueues<A> {
     }
 
     /// The best limit of the active orders of a side that is worse than this one, or the best of all.
+    #[inline(always)]
     pub fn limit_after(&self, side: Side, phase: Phase, after: &Option<Price>) -> Option<Price>
         ensures { IsBestOf side (is_on phase side (has_worse side after.now)) self.now.orders result }
     {
-        let free = self.limit_in(side, phase, Restriction::Free, after);
         if phase.is_continuous() {
-            return free;
+            return self.limit_in(side, phase, Restriction::Free, after);
         }
+        self.limit_of_all(side, phase, after)
+    }
+
+    /// The same, put together from the answers of all restrictions.
+    fn limit_of_all(&self, side: Side, phase: Phase, after: &Option<Price>) -> Option<Price>
+        ensures { IsBestOf side (is_on phase side (has_worse side after.now)) self.now.orders result }
+    {
+        let free = self.limit_in(side, phase, Restriction::Free, after);
         let opening = self.limit_in(side, phase, Restriction::OpeningOnly, after);
         let auctions = self.limit_in(side, phase, Restriction::AuctionsOnly, after);
         let closing = self.limit_in(side, phase, Restriction::ClosingOnly, after);
@@ -266,6 +283,7 @@ impl<A: Allocator + Copy> OrderQueues<A> {
     }
 
     /// The best active order of a side in priority.
+    #[inline(always)]
     pub fn first(&self, side: Side, phase: Phase) -> Option<&Entry>
         ensures first { IsFirstOf (goes_ahead side) (is_on phase side is_any) self.now.orders (option_copied result) }
         ensures rise { rises 0 self.now.orders self.now.adds ≡ true }
@@ -275,16 +293,6 @@ impl<A: Allocator + Copy> OrderQueues<A> {
             Some(entry) => Some(entry),
             None => self.first_limited(side, phase, &None),
         }
-    }
-
-    /// The best active order of a side in priority, with its key, which its level has at the front.
-    pub fn best(&self, side: Side, phase: Phase) -> Option<Listed>
-        ensures best { IsBest (goes_ahead side) (is_on phase side is_any) self.now.orders result }
-        ensures rise { rises 0 self.now.orders self.now.adds ≡ true }
-    {
-        let Entry { order, time } = *self.first(side, phase)?;
-        let key = level_for(&self.ladders, &order).ends.front()?;
-        Some(Listed { key, time, order })
     }
 
     /// The active order of a side that is next in priority after the order of a key; nothing where that order isn't an
@@ -320,6 +328,7 @@ impl<A: Allocator + Copy> OrderQueues<A> {
     }
 
     /// The best limit of the orders of one restriction, where it is active, that is worse than this one.
+    #[inline(always)]
     fn limit_in(
         &self,
         side: Side,
@@ -340,13 +349,21 @@ impl<A: Allocator + Copy> OrderQueues<A> {
     }
 
     /// The earliest active order of a side and kind.
+    #[inline(always)]
     fn front(&self, side: Side, phase: Phase, kind: &OrderKind) -> Option<&Entry>
         ensures { IsFirstOf is_earlier (is_on phase side (has_kind kind.now)) self.now.orders (option_copied result) }
     {
-        let free = self.front_in(side, phase, Restriction::Free, kind);
         if phase.is_continuous() {
-            return free;
+            return self.front_in(side, phase, Restriction::Free, kind);
         }
+        self.front_of_all(side, phase, kind)
+    }
+
+    /// The same, put together from the answers of all restrictions.
+    fn front_of_all(&self, side: Side, phase: Phase, kind: &OrderKind) -> Option<&Entry>
+        ensures { IsFirstOf is_earlier (is_on phase side (has_kind kind.now)) self.now.orders (option_copied result) }
+    {
+        let free = self.front_in(side, phase, Restriction::Free, kind);
         let opening = self.front_in(side, phase, Restriction::OpeningOnly, kind);
         let auctions = self.front_in(side, phase, Restriction::AuctionsOnly, kind);
         let closing = self.front_in(side, phase, Restriction::ClosingOnly, kind);
@@ -356,6 +373,7 @@ impl<A: Allocator + Copy> OrderQueues<A> {
     }
 
     /// The earliest order of one restriction, where it is active, on a side and of a kind.
+    #[inline(always)]
     fn front_in(
         &self,
         side: Side,
@@ -374,6 +392,7 @@ impl<A: Allocator + Copy> OrderQueues<A> {
     }
 
     /// The best active order of a side whose limit is worse than this one, or the best that has a limit.
+    #[inline(always)]
     fn first_limited(&self, side: Side, phase: Phase, after: &Option<Price>) -> Option<&Entry>
         ensures { IsFirstOf (goes_ahead side) (is_on phase side (has_worse side after.now)) self.now.orders (option_copied result) }
     {

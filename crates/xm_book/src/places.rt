@@ -7,13 +7,15 @@ ghost use Rattle.xm_book.specs.Reserved.{Gains};
 use std::marker::Model;
 use std::mem;
 use std::snapshot::Snapshot;
-use xm_rules::{Order, OrderKind, Side};
+use xm_rules::{Order, OrderKind, Restriction, Side};
 
-/// What is reserved for an order that is to come: room for it in the queue of its side and in the index of names.
+/// What is reserved for an order that is to come: room for it among the levels of its side and restriction, and in the
+/// index of names.
 #[derive(Clone, Copy, PartialEq, Eq, Hash, Debug)]
 pub struct Place {
     pub side: Side,
     pub kind: OrderKind,
+    pub restriction: Restriction,
     /// The index of the member.
     pub member: u32,
     pub reference: u32,
@@ -27,6 +29,7 @@ impl Place {
         Place {
             side: order.side,
             kind: order.kind,
+            restriction: order.restriction,
             member: order.member,
             reference: order.reference,
         }

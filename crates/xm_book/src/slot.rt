@@ -1,5 +1,7 @@
 //! One slot of a book.
-ghost use Rattle.std.specs.Prelude.{◌≡◌, ◌<◌, None, Some, IfSome, IsSome, option_copied};
+ghost use Rattle.std.specs.Prelude.{◌≡◌, ◌<◌, None, Some, IsSome, option_copied};
+ghost use Rattle.std.specs.Option.{option_map};
+ghost use Rattle.xm_book.specs.Slot.{with_rest};
 ghost use Rattle.xm_book.specs.declared.slot.TheConstants.{VACANT};
 
 use crate::entry::Entry;
@@ -46,24 +48,28 @@ impl Slot {
         }
     }
 
-    /// Puts an entry of the same time in place of the one that is there.
+    /// The entry that is there.
     #[inline(always)]
-    pub fn replace(&mut self, entry: Entry)
-        requires there { IsSome self.old }
-        requires time { IfSome self.old (λ e. entry.time ≡ e.time) }
-        ensures { self.new ≡ Some entry }
+    pub fn entry(&self) -> &Entry
+        requires { IsSome self.now }
+        ensures { Some result.now ≡ self.now }
     {
-        self.entry = entry;
+        &self.entry
     }
 
-    /// Takes the entry out, if there is one.
+    /// Gives the order another rest, where there is one.
     #[inline(always)]
-    pub fn take(&mut self) -> Option<Entry>
-        ensures entry { result ≡ self.old }
-        ensures vacant { self.new ≡ None }
+    pub fn set_rest(&mut self, rest: u32)
+        ensures { self.new ≡ option_map (with_rest rest) self.old }
     {
-        let entry = self.get().copied();
+        self.entry.order.rest = rest;
+    }
+
+    /// Leaves the slot without an entry.
+    #[inline(always)]
+    pub fn clear(&mut self)
+        ensures { self.new ≡ None }
+    {
         self.entry.time = VACANT;
-        entry
     }
 }

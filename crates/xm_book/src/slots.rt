@@ -1,5 +1,7 @@
 //! The entries of a book under keys that are given and come back.
 ghost use Rattle.std.specs.Prelude.{◌≡◌, ◌+◌, ◌<◌, ◌≤◌, [], None, Some, IfOk, IfSome, IsSome, OnErr, OnOk, length, option_copied};
+ghost use Rattle.xm_book.specs.Slot.{with_rest};
+ghost use Rattle.xm_book.specs.declared.entry.Entry.{Entry};
 ghost use Rattle.xm_book.specs.declared.slot.TheConstants.{VACANT};
 ghost use Rattle.xm_book.specs.Slots.{ContainsKey, Updates, entries_of, get, is_of, used};
 
@@ -111,29 +113,36 @@ impl<A: Allocator> Slots<A> {
         }
     }
 
-    /// Takes the entry of a key out.
+    /// The entry under a key that has one.
     #[inline(always)]
-    pub fn remove(&mut self, key: usize) -> Entry
+    pub fn entry(&self, key: usize) -> &Entry
+        requires { ContainsKey self.now key }
+        ensures { get self.now key ≡ Some result.now }
+    {
+        self.entries[key].entry()
+    }
+
+    /// Leaves a key that has an entry without one. The key has come back.
+    #[inline(always)]
+    pub fn vacate(&mut self, key: usize)
         requires { ContainsKey self.old key }
-        ensures value { get self.old key ≡ Some result }
         ensures updates { Updates self.old self.new key None }
         ensures used { used self.new + 1 ≡ used self.old }
         ensures capacity { self.new.capacity ≡ self.old.capacity }
     {
-        let entry = self.entries[key].take().unwrap();
+        self.entries[key].clear();
         self.vacant.push_reserved(key as u32);
-        entry
     }
 
-    /// Puts another entry of the same time in place of the one under a key.
-    pub fn replace(&mut self, key: usize, entry: Entry)
-        requires there { ContainsKey self.old key }
-        requires time { IfSome (get self.old key) (λ e. entry.time ≡ e.time) }
-        ensures updates { Updates self.old self.new key (Some entry) }
+    /// Gives the order under a key that has an entry another rest.
+    #[inline(always)]
+    pub fn set_rest(&mut self, key: usize, rest: u32)
+        requires { ContainsKey self.old key }
+        ensures updates { (e : Entry) → get self.old key ≡ Some e → Updates self.old self.new key (Some (with_rest rest e)) }
         ensures used { used self.new ≡ used self.old }
         ensures capacity { self.new.capacity ≡ self.old.capacity }
     {
-        self.entries[key].replace(entry);
+        self.entries[key].set_rest(rest);
     }
 }
 

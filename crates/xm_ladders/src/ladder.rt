@@ -107,6 +107,7 @@ impl<A: Allocator + Copy> Ladder<A> {
     }
 
     /// The best limit that has an order: the highest on the buy side, the lowest on the sell side.
+    #[inline(always)]
     pub fn best_limit(&self, side: Side) -> Option<Price>
         ensures some { IfSome result (IsBestLimit side self.now) }
         ensures none { IfNone result ((p : ℕ) → limit_level self.now p ≡ None) }

@@ -46,6 +46,7 @@ impl<A: Allocator + Copy> SideLadders<A> {
     }
 
     /// The ladder of a restriction.
+    #[inline(always)]
     pub fn of(&self, restriction: Restriction) -> &Ladder<A>
         ensures { result.now ≡ ladder_on restriction self.now }
     {
@@ -92,6 +93,7 @@ impl<A: Allocator + Copy> Ladders<A> {
     }
 
     /// The ladders of a side.
+    #[inline(always)]
     pub fn of(&self, side: Side) -> &SideLadders<A>
         ensures { result.now ≡ side_of side self.now }
     {

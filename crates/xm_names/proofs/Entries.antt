@@ -1,23 +1,8 @@
 -- Entries of a map, as a call leaves them.
-use Rattle.std.proofs.Common.{◌≡◌, ℕ, Bool, true, false, cond, List, [], ◌∷◌, ◌++◌, Option, Some, None, IfNone, IfSome, Result, Ok, Err, OnErr, nat_eq, eq-eqb, refl, sym, ap, ◌∙◌}
-use Rattle.std.proofs.lemmas.Map.Steps.{set_value_same}
+use Rattle.std.proofs.Common.{◌≡◌, ℕ, Bool, true, false, cond, List, [], ◌∷◌, ◌++◌, Option, Some, None, IfNone, IfSome, Result, Ok, Err, OnErr, OnOk, nat_eq, eq-eqb, refl, sym}
 use Rattle.std.proofs.lemmas.Option.{none-some}
-use Rattle.std.specs.Map.{lookup, set_value}
+use Rattle.std.specs.Map.{lookup}
 use Rattle.std.specs.Option.{option_to_list}
-
--- ---- a value that is written back as it was
-
-written_back : {X : Type 0} (test : ℕ → Bool) (es new : List (ℕ × X)) (was is : X) → Some was ≡ lookup test es → new ≡ set_value test es is → is ≡ was → new ≡ es
-written_back test es new was is read write same =
-    write ∙ ap (set_value test es) same ∙ set_value_same test es was (sym read)
-
-pub unchanged_at_none : {X Y : Type 0} (answer : Option Y) (test : ℕ → Bool) (es new : List (ℕ × X)) (was is : X) → Some was ≡ lookup test es → new ≡ set_value test es is → IfNone answer (is ≡ was) → IfNone answer (new ≡ es)
-unchanged_at_none None test es new was is read write same = written_back test es new was is read write same
-unchanged_at_none (Some y) test es new was is read write same = tt
-
-pub unchanged_at_error : {X Y E : Type 0} (answer : Result Y E) (test : ℕ → Bool) (es new : List (ℕ × X)) (was is : X) → Some was ≡ lookup test es → new ≡ set_value test es is → OnErr answer (is ≡ was) → OnErr answer (new ≡ es)
-unchanged_at_error (Ok y) test es new was is read write same = tt
-unchanged_at_error (Err e) test es new was is read write same = written_back test es new was is read write same
 
 -- ---- the last entry of keys that are distinct
 
@@ -37,3 +22,20 @@ popped_key old new (Some p) is absent = rw is (found_last p.0 p.1 new absent)
 pub some_gives : {X : Type 0} (o : Option X) (P Q : X → Type 0) → ((x : X) → P x → Q x) → IfSome o P → IfSome o Q
 some_gives None P Q gives p = tt
 some_gives (Some x) P Q gives p = gives x p
+
+pub none_gives : {X P Q : Type 0} (o : Option X) → (P → Q) → IfNone o P → IfNone o Q
+none_gives None gives p = gives p
+none_gives (Some x) gives p = tt
+
+pub ok_gives : {X E P Q : Type 0} (r : Result X E) → (P → Q) → OnOk r P → OnOk r Q
+ok_gives (Ok x) gives p = gives p
+ok_gives (Err e) gives p = tt
+
+pub error_gives : {X E P Q : Type 0} (r : Result X E) → (P → Q) → OnErr r P → OnErr r Q
+error_gives (Ok x) gives p = tt
+error_gives (Err e) gives p = gives p
+
+-- what holds of both outcomes
+pub either : {X E P Q R : Type 0} (r : Result X E) → (P → R) → (Q → R) → OnOk r P → OnErr r Q → R
+either (Ok x) ok error p q = ok p
+either (Err e) ok error p q = error q

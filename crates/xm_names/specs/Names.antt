@@ -1,5 +1,5 @@
 -- The names of members: a member's own references, each with a key.
-use Rattle.std.specs.Prelude.{ℕ, nat_eq, List, Option, Some, None}
+use Rattle.std.specs.Prelude.{◌≡◌, ℕ, nat_eq, List, Option, Some, None, slice_get}
 use Rattle.std.specs.Map as map
 
 -- the keys of one member's references, and how many names more there is room for
@@ -22,6 +22,12 @@ room_among (Some names) = names.room
 -- the names of a member, where it has had any
 abbrev pub names_of : List (ℕ × NamesOfMember) → ℕ → Option NamesOfMember
 names_of names member = map.lookup (nat_eq member) names
+
+-- the table of a member is at this position
+pub record StandsAt (names : List (ℕ × NamesOfMember)) (member place : ℕ) : Type 0 where
+  pub table : NamesOfMember
+  pub at : slice_get names place ≡ Some (member, table)
+  pub found : names_of names member ≡ Some table
 
 -- the key of the name of this member and reference
 unfoldable pub lookup : List (ℕ × NamesOfMember) → ℕ → ℕ → Option ℕ

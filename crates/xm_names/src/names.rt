@@ -2,7 +2,7 @@
 #![tactic(auto, unfolding(crate::specs::Names::lookup, crate::specs::Names::room))]
 
 ghost use Rattle.std.specs.Prelude.{◌≡◌, ℕ, ◌+◌, ◌-◌, ◌<◌, ◌==◌, ◌&&◌, None, Some, IfNone, IfSome, OnErr, OnOk, if◌then◌else◌};
-ghost use Rattle.xm_names.specs.Names.{lookup, room};
+ghost use Rattle.xm_names.specs.Names.{StandsAt, lookup, names_of, room};
 
 use crate::member_names::MemberNames;
 use indexmap::IndexMap;
@@ -10,11 +10,17 @@ use std::alloc::{AllocError, Allocator};
 use std::hash::BuildHasher;
 use std::marker::Model;
 
+/// The members below this one are found without a hash. They are as many as a market has.
+const PLACED: usize = 1024;
+
 /// The key of each member and reference, found by both, and by member alone. The order in which a member's names come out
 /// is open. Each member that has had a name keeps its table.
 #[derive(Drop)]
 pub struct Names<S: BuildHasher, A: Allocator> {
     members: IndexMap<u32, MemberNames<S, A>, S, A>,
+    // For each member below `PLACED`, where its table was put among `members`. A member that stands there isn't looked for
+    // by its hash.
+    places: Vec<usize, A>,
 }
 
 impl<S: BuildHasher, A: Allocator> Model for Names<S, A> {
@@ -34,6 +40,7 @@ impl<S: BuildHasher + Copy, A: Allocator + Copy> Names<S, A> {
     {
         Names {
             members: IndexMap::with_hasher(alloc, hasher),
+            places: Vec::new(alloc),
         }
     }
 
@@ -43,25 +50,80 @@ impl<S: BuildHasher + Copy, A: Allocator + Copy> Names<S, A> {
         ensures room { OnOk result ((m : ℕ) → room self.new m ≡ (if m == member then room self.old m + 1 else room self.old m)) }
         ensures err { OnErr result (self.new ≡ self.old) }
     {
-        if let Some(names) = self.members.get_mut(&member) {
-            return names.reserve();
+        match self.place(member) {
+            Some(place) => self.members.get_index_mut(place).unwrap().reserve(),
+            None => self.begin(member),
         }
+    }
+
+    /// Makes the table of a member that has none, with room for a name.
+    fn begin(&mut self, member: u32) -> Result<(), AllocError>
+        requires { names_of self.old member ≡ None }
+        ensures names { (m r : ℕ) → lookup self.new m r ≡ lookup self.old m r }
+        ensures room { OnOk result ((m : ℕ) → room self.new m ≡ (if m == member then room self.old m + 1 else room self.old m)) }
+        ensures err { OnErr result (self.new ≡ self.old) }
+    {
         let mut names = MemberNames::new(*self.members.allocator(), *self.members.hasher());
         names.reserve()?;
+        self.reserve_places()?;
+        let place = self.members.len();
         self.members.insert(member, names)?;
+        self.note(member, place);
         Ok(())
     }
 }
 
 impl<S: BuildHasher, A: Allocator> Names<S, A> {
+    /// Makes room for the places.
+    fn reserve_places(&mut self) -> Result<(), AllocError>
+        ensures { self.new ≡ self.old }
+    {
+        if self.places.is_empty() {
+            self.places.resize(PLACED, usize::MAX)
+        } else {
+            Ok(())
+        }
+    }
+
+    /// Notes where the table of a member is, if there is room for it.
+    fn note(&mut self, member: u32, place: usize)
+        ensures { self.new ≡ self.old }
+    {
+        if let Some(known) = self.places.get_mut(member as usize) {
+            *known = place;
+        }
+    }
+
+    /// Where the table of a member is among `members`.
+    #[inline(always)]
+    fn place(&self, member: u32) -> Option<usize>
+        ensures some { IfSome result (StandsAt self.now member) }
+        ensures none { IfNone result (names_of self.now member ≡ None) }
+    {
+        match self.known_place(member) {
+            Some(place) => Some(place),
+            None => self.members.get_index_of(&member),
+        }
+    }
+
+    /// The same, where it was noted.
+    #[inline(always)]
+    fn known_place(&self, member: u32) -> Option<usize>
+        ensures { IfSome result (StandsAt self.now member) }
+    {
+        let place = *self.places.get(member as usize)?;
+        let (other, _names) = self.members.get_index(place)?;
+        if *other == member { Some(place) } else { None }
+    }
+
     /// Gives up the room for one name of this member.
     pub fn release(&mut self, member: u32)
         requires { 0 < room self.old member }
         ensures names { (m r : ℕ) → lookup self.new m r ≡ lookup self.old m r }
         ensures room { (m : ℕ) → room self.new m ≡ (if m == member then room self.old m - 1 else room self.old m) }
     {
-        if let Some(names) = self.members.get_mut(&member) {
-            names.release();
+        if let Some(place) = self.place(member) {
+            self.members.get_index_mut(place).unwrap().release();
         }
     }
 
@@ -69,7 +131,9 @@ impl<S: BuildHasher, A: Allocator> Names<S, A> {
     pub fn get(&self, member: u32, reference: u32) -> Option<usize>
         ensures { result ≡ lookup self.now member reference }
     {
-        self.members.get(&member)?.get(reference)
+        let place = self.place(member)?;
+        let (_member, names) = self.members.get_index(place)?;
+        names.get(reference)
     }
 
     /// Gives a name that is not there its key, in room that was reserved for its member.
@@ -79,8 +143,11 @@ impl<S: BuildHasher, A: Allocator> Names<S, A> {
         ensures names { (m r : ℕ) → lookup self.new m r ≡ (if m == member && r == reference then Some key else lookup self.old m r) }
         ensures room { (m : ℕ) → room self.new m ≡ (if m == member then room self.old m - 1 else room self.old m) }
     {
-        if let Some(names) = self.members.get_mut(&member) {
-            names.insert(reference, key);
+        if let Some(place) = self.place(member) {
+            self.members
+                .get_index_mut(place)
+                .unwrap()
+                .insert(reference, key);
         }
     }
 
@@ -90,7 +157,10 @@ impl<S: BuildHasher, A: Allocator> Names<S, A> {
         ensures names { (m r : ℕ) → lookup self.new m r ≡ (if m == member && r == reference then None else lookup self.old m r) }
         ensures room { (m : ℕ) → room self.new m ≡ room self.old m }
     {
-        self.members.get_mut(&member)?.remove(reference)
+        match self.place(member) {
+            Some(place) => self.members.get_index_mut(place).unwrap().remove(reference),
+            None => None,
+        }
     }
 
     /// Takes any one name of this member out, and answers its reference and its key, or `None` where the member has no name.
@@ -102,6 +172,9 @@ impl<S: BuildHasher, A: Allocator> Names<S, A> {
         ensures unchanged { IfNone result (self.new ≡ self.old) }
         ensures room { (m : ℕ) → room self.new m ≡ room self.old m }
     {
-        self.members.get_mut(&member)?.pop()
+        match self.place(member) {
+            Some(place) => self.members.get_index_mut(place).unwrap().pop(),
+            None => None,
+        }
     }
 }

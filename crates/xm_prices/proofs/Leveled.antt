@@ -112,6 +112,9 @@ module _ {L : Type 0} where
         is_there None e = absurd (cc)
         is_there (Some x) e = search rules
 
+    pub price-at : (p key : ℕ) → map.lookup keys p ≡ Some key → (x : Priced L) → get slab key ≡ Some x → x.price ≡ p
+    price-at p key at x there = ap (λ (y : Priced L). y.price) (same_some (sym there ∙ (h.lies p key at).there))
+
     -- another level of the same price is put under its key
     module _ (p key : ℕ) (at : map.lookup keys p ≡ Some key) (l : L) where
       abbrev pub written : Slab (Priced L)

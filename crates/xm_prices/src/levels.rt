@@ -91,6 +91,7 @@ impl<L: Copy, A: Allocator + Copy> Levels<L, A> {
         }
     }
 
+    /// Puts another level under the key of a price. The level alone is written, so that it goes there from registers.
     #[inline(always)]
     fn overwrite(&mut self, price: u32, key: usize, level: L)
         requires { lookup self.old.keys price ≡ Some key }
@@ -98,7 +99,7 @@ impl<L: Copy, A: Allocator + Copy> Levels<L, A> {
         ensures prices_kept { (p : ℕ) → HasPrice self.old p → HasPrice self.new p }
         ensures room_kept { (n : ℕ) → HasRoom self.old n → HasRoom self.new n }
     {
-        self.levels[key] = Priced { price, level };
+        self.levels[key].level = level;
     }
 
     fn begin(&mut self, price: u32, level: L)

@@ -65,6 +65,6 @@ invariant_of-self g c =
           slots.ensures.vacant slots.new.self slots.ensures.updates slots.ensures.used slots.ensures.capacity links.new.self links.new.ends links.ensures.last links.ensures.others links.ensures.limit
           put.new.ladders (rw c.from.ensures at put.ensures.levels) few (range-high o.rest c.requires.rest) kind put.ensures.kinds_kept;
       places = places-used q.listing q.places q.entries q.ladders c.self.invariant.places o c.release.new.self gain _ slots.new.self slots.ensures.capacity
-          put.new.ladders put.ensures.kinds_kept put.ensures.room_used put.ensures.room_kept put.ensures.other_side;
+          put.new.ladders put.ensures.kinds_kept put.ensures.room_used put.ensures.room_kept put.ensures.other_ladder;
       rise = rises-push 0 q.listing _ c.self.invariant.rise;
     })

@@ -1,19 +1,22 @@
-use Rattle.std.proofs.Common.{◌≡◌, ◌+◌, ◌-◌, ◌≤◌, ℕ, map, sym, ap, ◌∙◌, arith}
+use Rattle.std.proofs.Common.{◌≡◌, ◌+◌, ◌-◌, ◌≤◌, ℕ, map, arith}
 use Rattle.std.proofs.lemmas.List.{length-map}
 use Rattle.std.proofs.lemmas.List.Elements.{All-contains}
 use Rattle.xm_book.specs.declared.listing.Listed.{Listed}
 use Rattle.xm_book.specs.Listing.{reduced_at}
-use Rattle.xm_book.specs.Slots.{get}
-use Rattle.xm_book.proofs.Joining.{some_none}
 use Rattle.xm_book.proofs.Keeping.{places-kept, rises-reduced}
-use Rattle.xm_book.proofs.Leaving.{kind-there, level-there, listed-at, orders-there, taken-rest, units-there}
+use Rattle.xm_book.proofs.Leaving.{kind-there, level-there, orders-there, taken-rest, there-at, units-there}
 use Rattle.xm_book.proofs.Reducing.{no_room, reduced-queued}
 use Rattle.xm_book.proofs.order_queues.OrderQueues.reduce.Goals as goal
+
+pub entry-entry-requires : goal.entry-entry-requires
+entry-entry-requires g c =
+    let q = c.self.inside in
+    there-at q.listing q.entries q.links q.ladders c.self.invariant.queued c.args.key (rw (← c.self.view_is) at c.requires.there)
 
 pub overflow_sub-entry : goal.overflow_sub-entry
 overflow_sub-entry g c =
     let q = c.self.inside in
-    taken-rest q.listing q.entries q.links q.ladders c.self.invariant.queued c.args.key (rw (← c.self.view_is) at c.requires.there) c.in-Some.entry.now (sym c.in-Some.ensures) c.level_for-level.result c.level_for-level.ensures
+    taken-rest q.listing q.entries q.links q.ladders c.self.invariant.queued c.args.key (rw (← c.self.view_is) at c.requires.there) c.entry-entry.result.now c.entry-entry.ensures c.level_for-level.result c.level_for-level.ensures
     (λ (n : ℕ). c.args.rest ≤ n) (λ x at k. (rw (← c.self.view_is) at c.requires.rest c.self.invariant.queued.distinct x at k).1)
 
 pub overflow_sub-level : goal.overflow_sub-level
@@ -22,31 +25,31 @@ overflow_sub-level g c =
     omega (
       arith,
       c.from.ensures,
-      units-there q.listing q.entries q.links q.ladders c.self.invariant.queued c.args.key (rw (← c.self.view_is) at c.requires.there) c.in-Some.entry.now (sym c.in-Some.ensures) c.level_for-level.result c.level_for-level.ensures,
+      units-there q.listing q.entries q.links q.ladders c.self.invariant.queued c.args.key (rw (← c.self.view_is) at c.requires.there) c.entry-entry.result.now c.entry-entry.ensures c.level_for-level.result c.level_for-level.ensures,
     )
 
 pub put_level-requires-clause-kind : goal.put_level-requires-clause-kind
 put_level-requires-clause-kind g c =
     let q = c.self.inside in
-    kind-there q.listing q.entries q.links q.ladders c.self.invariant.queued c.args.key (rw (← c.self.view_is) at c.requires.there) c.in-Some.entry.now (sym c.in-Some.ensures) c.level_for-level.result c.level_for-level.ensures
+    kind-there q.listing q.entries q.links q.ladders c.self.invariant.queued c.args.key (rw (← c.self.view_is) at c.requires.there) c.entry-entry.result.now c.entry-entry.ensures c.level_for-level.result c.level_for-level.ensures
 
 pub put_level-requires-clause-orders : goal.put_level-requires-clause-orders
 put_level-requires-clause-orders g c =
     let q = c.self.inside in
-    orders-there q.listing q.entries q.links q.ladders c.self.invariant.queued c.args.key (rw (← c.self.view_is) at c.requires.there) c.in-Some.entry.now (sym c.in-Some.ensures) c.level_for-level.result c.level_for-level.ensures
+    orders-there q.listing q.entries q.links q.ladders c.self.invariant.queued c.args.key (rw (← c.self.view_is) at c.requires.there) c.entry-entry.result.now c.entry-entry.ensures c.level_for-level.result c.level_for-level.ensures
 
 pub put_level-requires-clause-room : goal.put_level-requires-clause-room
 put_level-requires-clause-room g c vacant =
     let q = c.self.inside in
-    absurd (no_room _ vacant (level-there q.listing q.entries q.links q.ladders c.self.invariant.queued c.args.key (rw (← c.self.view_is) at c.requires.there) c.in-Some.entry.now (sym c.in-Some.ensures) c.level_for-level.result c.level_for-level.ensures))
+    absurd (no_room _ vacant (level-there q.listing q.entries q.links q.ladders c.self.invariant.queued c.args.key (rw (← c.self.view_is) at c.requires.there) c.entry-entry.result.now c.entry-entry.ensures c.level_for-level.result c.level_for-level.ensures))
 
 pub invariant_of-self : goal.invariant_of-self
 invariant_of-self g c =
     let q = c.self.inside in
     let kept = c.self.invariant in
-    let e = c.in-Some.entry.now in
+    let e = c.entry-entry.result.now in
     let there = rw (← c.self.view_is) at c.requires.there in
-    let lies = sym c.in-Some.ensures in
+    let lies = c.entry-entry.ensures in
     let level = c.level_for-level in
     let put = c.put_level in
     let lower = taken-rest q.listing q.entries q.links q.ladders kept.queued c.args.key there e lies level.result level.ensures (λ (n : ℕ). c.args.rest ≤ n) (λ x at k. (rw (← c.self.view_is) at c.requires.rest c.self.invariant.queued.distinct x at k).1) in
@@ -56,16 +59,10 @@ invariant_of-self g c =
     let units : (level.result.units - c.from.result) + e.order.rest ≡ level.result.units + c.args.rest = omega (arith, c.from.ensures, lower, enough) in
     rw c.reduce.ensures (record {
       queued = reduced-queued q.listing q.entries q.links q.ladders kept.queued c.args.key there e lies level.result level.ensures c.args.rest lower
-          c.replace.new.self c.replace.ensures.updates c.replace.ensures.used c.replace.ensures.capacity put.new.ladders (level.result.units - c.from.result) units
+          c.set_rest.new.self (c.set_rest.ensures.updates e lies) c.set_rest.ensures.used c.set_rest.ensures.capacity put.new.ladders (level.result.units - c.from.result) units
           put.ensures.levels put.ensures.kinds_kept (omega (arith, lower, small));
       places = places-kept q.listing q.places q.entries q.ladders kept.places (map (reduced_at c.args.key c.args.rest) q.listing) (omega (arith, length-map q.listing (reduced_at c.args.key c.args.rest)))
-          c.replace.new.self (omega (arith, c.replace.ensures.capacity)) put.new.ladders put.ensures.kinds_kept
+          c.set_rest.new.self (omega (arith, c.set_rest.ensures.capacity)) put.new.ladders put.ensures.kinds_kept
           (put.ensures.room_kept (level-there q.listing q.entries q.links q.ladders kept.queued c.args.key there e lies level.result level.ensures));
       rise = rises-reduced c.args.key c.args.rest 0 q.listing q.adds kept.rise;
     })
-
-pub returns-in-None-clause-reduced : goal.returns-in-None-clause-reduced
-returns-in-None-clause-reduced g c =
-    let q = c.self.inside in
-    let l = listed-at q.listing q.entries q.links q.ladders c.self.invariant.queued c.args.key (rw (← c.self.view_is) at c.requires.there) in
-    absurd (some_none (sym l.3 ∙ ap (get q.entries) l.2 ∙ sym c.in-None.ensures))
