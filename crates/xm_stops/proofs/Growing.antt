@@ -6,11 +6,11 @@ use Rattle.xm_queues.specs.declared.links.Link.{Link}
 use Rattle.xm_queues.specs.declared.queues.Ends.{Ends}
 use Rattle.xm_rules.specs.declared.orders.Side.{Side}
 use Rattle.xm_rules.specs.declared.orders.Stop.{Stop}
-use Rattle.xm_stops.specs.Listing.{keys_in}
-use Rattle.xm_stops.specs.Queued.{HasItsTrigger, HasRoomFor, HoldsQueue, IsKept, IsQueued, IsReady, LiesAt, members}
-use Rattle.xm_stops.specs.Slots.{SlotsView, used}
+use Rattle.xm_slots.specs.Listing.{keys_in, LiesAt}
+use Rattle.xm_stops.specs.Queued.{HasItsTrigger, HasRoomFor, HoldsQueue, IsKept, IsQueued, IsReady, members}
+use Rattle.xm_slots.specs.Slots.{SlotsView, used}
 use Rattle.xm_stops.specs.Triggers.{HasQueueRoom, HasTrigger, queue_of}
-use Rattle.xm_stops.specs.declared.listing.Listed.{Listed}
+use Rattle.xm_slots.specs.declared.listing.Listed.{Listed}
 use Rattle.xm_stops.specs.declared.trigger_queues.TriggerQueues.{TriggerQueues}
 use Rattle.xm_stops.proofs.Joining.{placed-kept}
 
@@ -21,7 +21,7 @@ opened links triggers none = record {
     lie = All-nil (LiesAt (record { slots = []; capacity = 0 }));
     distinct = tt;
     count = refl;
-    placed = All-nil (λ (x : Listed). HasItsTrigger triggers x.stop);
+    placed = All-nil (λ (x : Listed Stop). HasItsTrigger triggers x.item);
     queues = λ s p. subst (λ (l : Option Ends). HoldsQueue links l []) (sym (none s p)) refl;
     fits = omega arith;
   };
@@ -30,7 +30,7 @@ opened links triggers none = record {
 }
 
 -- the room for a stop stays where no room was used
-pub ready-kept : {A : Type 0} (ready : Option Stop) (adds : ℕ) (entries entries' : SlotsView) (triggers triggers' : TriggerQueues A) → used entries' ≤ used entries → entries.capacity ≤ entries'.capacity
+pub ready-kept : {A : Type 0} (ready : Option Stop) (adds : ℕ) (entries entries' : SlotsView Stop) (triggers triggers' : TriggerQueues A) → used entries' ≤ used entries → entries.capacity ≤ entries'.capacity
     → ((s : Side) (p : ℕ) → HasTrigger triggers s p → HasTrigger triggers' s p) → ((s : Side) → HasQueueRoom triggers s → HasQueueRoom triggers' s)
     → IsReady ready adds entries triggers → IsReady ready adds entries' triggers'
 ready-kept None adds entries entries' triggers triggers' less more kept rooms h = tt
@@ -41,13 +41,13 @@ ready-kept (Some stop) adds entries entries' triggers triggers' less more kept r
   number = h.number;
 }
 
-module _ {A : Type 0} (xs : List Listed) (entries : SlotsView) (links : List Link) (triggers : TriggerQueues A) (capacity : ℕ) (links' : List Link)
+module _ {A : Type 0} (xs : List (Listed Stop)) (entries : SlotsView Stop) (links : List Link) (triggers : TriggerQueues A) (capacity : ℕ) (links' : List Link)
     (same : (ends : Ends) (keys : List ℕ) → IsQueue links ends keys → IsQueue links' ends keys) (fits : capacity ≤ key_limit links') (triggers' : TriggerQueues A)
     (queues : (s : Side) (p : ℕ) → queue_of triggers' s p ≡ queue_of triggers s p) (kept : (s : Side) (p : ℕ) → HasTrigger triggers s p → HasTrigger triggers' s p) where
-  abbrev roomier : SlotsView
+  abbrev roomier : SlotsView Stop
   roomier = record entries { capacity = capacity }
 
-  holds : (l : Option Ends) (ys : List Listed) → HoldsQueue links l ys → HoldsQueue links' l ys
+  holds : (l : Option Ends) (ys : List (Listed Stop)) → HoldsQueue links l ys → HoldsQueue links' l ys
   holds None ys h = h
   holds (Some l) ys h = record { queue = same l (keys_in ys) h.queue; some = h.some }
 
@@ -56,11 +56,11 @@ module _ {A : Type 0} (xs : List Listed) (entries : SlotsView) (links : List Lin
     lie = h.lie;
     distinct = h.distinct;
     count = h.count;
-    placed = λ i d lt. placed-kept triggers triggers' kept (get_or xs i d).stop (h.placed i d lt);
+    placed = λ i d lt. placed-kept triggers triggers' kept (get_or xs i d).item (h.placed i d lt);
     queues = λ s p. subst (λ (l : Option Ends). HoldsQueue links' l (members s p xs)) (sym (queues s p)) (holds (queue_of triggers s p) (members s p xs) (h.queues s p));
     fits = fits;
   }
 
 -- what there is for the stop that is ready
-pub room-for : {A : Type 0} (ready : Option Stop) (stop : Stop) (adds : ℕ) (entries : SlotsView) (triggers : TriggerQueues A) → ready ≡ Some stop → IsReady ready adds entries triggers → HasRoomFor stop adds entries triggers
+pub room-for : {A : Type 0} (ready : Option Stop) (stop : Stop) (adds : ℕ) (entries : SlotsView Stop) (triggers : TriggerQueues A) → ready ≡ Some stop → IsReady ready adds entries triggers → HasRoomFor stop adds entries triggers
 room-for ready stop adds entries triggers e h = subst (λ (r : Option Stop). IsReady r adds entries triggers) e h

@@ -3,19 +3,22 @@ use Rattle.std.proofs.Common.{◌≡◌, ℕ, ◌+◌, ◌-◌, ◌<◌, Bool, t
 use Rattle.std.specs.List.{list_any}
 use Rattle.std.proofs.lemmas.Bool.{eqb-true}
 use Rattle.std.proofs.lemmas.Bool.Decides.{nat_tests}
-use Rattle.std.proofs.lemmas.List.{map-append}
+use Rattle.std.proofs.lemmas.List.{length-map, map-append}
 use Rattle.xm_names.specs.Names.{NamesOfMember, lookup, room}
 use Rattle.xm_queues.specs.Keys.{AreDistinct}
 use Rattle.xm_rules.specs.Orders.{is_stop_named, removed_stop, without_stops_of}
 use Rattle.xm_rules.specs.declared.orders.Stop.{Stop}
 use Rattle.xm_stops.specs.HeldStops.{HeldStops, have_own_names}
 use Rattle.xm_stops.specs.Indexed.{IsIndexed}
-use Rattle.xm_stops.specs.Listing.{has_name, is_other_key, key_of, keys_in, listed_entry, listed_stop}
+use Rattle.xm_slots.specs.Listing.{is_other_key, keys_in, listed_entry}
+use Rattle.xm_stops.specs.Listing.{has_name, key_of, listed_stop}
 use Rattle.xm_stops.specs.Queued.{QueuedView}
-use Rattle.xm_stops.specs.declared.entry.Entry.{Entry}
-use Rattle.xm_stops.specs.declared.listing.Listed.{Listed}
-use Rattle.xm_stops.proofs.Members.{Contains-map, find-Some, find-only}
-use Rattle.xm_stops.proofs.Named.{IsNamedAt, find-map, fewer-left, key_of-others, key_of-push, left-by-key, left-without, name-once, named-at, none-found, not-named, nothing-of, others, own_names-kept, own_names-push, some-found, stops-kept}
+use Rattle.xm_slots.specs.declared.entry.Entry.{Entry}
+use Rattle.xm_slots.specs.declared.listing.Listed.{Listed}
+use Rattle.xm_slots.proofs.Leaving.{one-less}
+use Rattle.xm_slots.proofs.Members.{Contains-map, IsMade, IsMade-map, find-Some, find-only}
+use Rattle.xm_slots.proofs.Tests.{none-found, some-found}
+use Rattle.xm_stops.proofs.Named.{IsNamedAt, find-map, key_of-others, key_of-push, left-by-key, left-without, name-once, named-at, named-is, not-named, nothing-of, others, own_names-kept, own_names-push, stops-kept}
 
 -- what is seen of the stops in these queues
 abbrev pub seen : QueuedView → HeldStops
@@ -83,7 +86,7 @@ module _ (q : QueuedView) (names : List (ℕ × NamesOfMember)) (h : IsIndexed q
       by_find None e = refl
       by_find (Some key) e =
           let at = named-at member reference key q.stops (sym e) in
-          let there = some-found (is_stop_named member reference) os at.listed.stop (find-map member reference q.stops ∙ ap (option_map listed_stop) at.found) in
+          let there = some-found (is_stop_named member reference) os at.listed.item (find-map member reference q.stops ∙ ap (option_map listed_stop) at.found) in
           absurd (let k : true ≡ false = sym there ∙ out in cc)
 
   -- ---- other room
@@ -92,13 +95,13 @@ module _ (q : QueuedView) (names : List (ℕ × NamesOfMember)) (h : IsIndexed q
   ready-changed q' stops names' same some = record {
     named = λ m r. same m r ∙ h.named m r ∙ sym (ap (key_of m r) stops);
     names_room = some;
-    own = ap (λ (xs : List Listed). have_own_names (map listed_stop xs)) stops ∙ h.own;
+    own = ap (λ (xs : List (Listed Stop)). have_own_names (map listed_stop xs)) stops ∙ h.own;
   }
 
   -- ---- a stop joins
-  module _ (o : Stop) (time key : ℕ) (q' : QueuedView) (push : q' ≡ record { stops = q.stops ++ record { key = key; time = time; stop = o } ∷ []; ready = None; adds = q.adds + 1 }) where
-    abbrev x : Listed
-    x = record { key = key; time = time; stop = o }
+  module _ (o : Stop) (time key : ℕ) (q' : QueuedView) (push : q' ≡ record { stops = q.stops ++ record { key = key; time = time; item = o } ∷ []; ready = None; adds = q.adds + 1 }) where
+    abbrev x : Listed Stop
+    x = record { key = key; time = time; item = o }
 
     joined : map listed_stop (q.stops ++ x ∷ []) ≡ os ++ o ∷ []
     joined = map-append listed_stop q.stops (x ∷ [])
@@ -125,12 +128,12 @@ module _ (q : QueuedView) (names : List (ℕ × NamesOfMember)) (h : IsIndexed q
   nothing-of-member member none = nothing-of member os (λ r. unnamed member r (sym (none r)))
 
   -- ---- the name of a stop
-  pub its-name : (x : Listed) → Contains q.stops x → Some x.key ≡ lookup names x.stop.member x.stop.reference
-  its-name x there = sym (h.named x.stop.member x.stop.reference ∙ ap (option_map (λ (y : Listed). y.key)) found)
+  pub its-name : (x : Listed Stop) → Contains q.stops x → Some x.key ≡ lookup names x.item.member x.item.reference
+  its-name x there = sym (h.named x.item.member x.item.reference ∙ ap (option_map (λ (y : Listed Stop). y.key)) found)
     where
-      found : find (has_name x.stop.member x.stop.reference) q.stops ≡ Some x
-      found = find-only (has_name x.stop.member x.stop.reference) q.stops x (record { contains = there; passes = named-itself x.stop })
-          (λ z at named. name-once x.stop.member x.stop.reference q.stops x z h.own there at (named-itself x.stop) named)
+      found : find (has_name x.item.member x.item.reference) q.stops ≡ Some x
+      found = find-only (has_name x.item.member x.item.reference) q.stops x (record { contains = there; passes = named-itself x.item })
+          (λ z at named. name-once x.item.member x.item.reference q.stops x z h.own there at (named-itself x.item) named)
 
   -- ---- the stop of a name
   module _ (member reference key : ℕ) (e : Some key ≡ lookup names member reference) where
@@ -141,21 +144,29 @@ module _ (q : QueuedView) (names : List (ℕ × NamesOfMember)) (h : IsIndexed q
     contains = (find-Some (has_name member reference) q.stops at.listed at.found).contains
 
     pub key-there : Contains (keys_in q.stops) key
-    key-there = subst (λ (n : ℕ). Contains (keys_in q.stops) n) at.key_is (Contains-map (λ (x : Listed). x.key) q.stops at.listed contains)
+    key-there = subst (λ (n : ℕ). Contains (keys_in q.stops) n) at.key_is (Contains-map (λ (x : Listed Stop). x.key) q.stops at.listed contains)
 
-    found-stop : find (is_stop_named member reference) os ≡ Some at.listed.stop
+    found-stop : find (is_stop_named member reference) os ≡ Some at.listed.item
     found-stop = find-map member reference q.stops ∙ ap (option_map listed_stop) at.found
 
     -- what its queue answers for its key
-    pub entry-found : (e : Option Entry) → ((x : Listed) → Contains q.stops x → x.key ≡ key → e ≡ Some (listed_entry x)) → option_map (λ (e : Entry). e.stop) e ≡ find (is_stop_named member reference) os
-    entry-found e answer = ap (option_map (λ (e : Entry). e.stop)) (answer at.listed contains at.key_is) ∙ sym found-stop
+    pub entry-found : (e : Option (Entry Stop)) → ((x : Listed Stop) → Contains q.stops x → x.key ≡ key → e ≡ Some (listed_entry x)) → option_map (λ (e : Entry Stop). e.item) e ≡ find (is_stop_named member reference) os
+    entry-found e answer = ap (option_map (λ (e : Entry Stop). e.item)) (answer at.listed contains at.key_is) ∙ sym found-stop
 
     -- the entry that its queue gives up for its key
-    pub stop-found : (e : Entry) → ((x : Listed) → Contains q.stops x → x.key ≡ key → e ≡ listed_entry x) → Some e.stop ≡ find (is_stop_named member reference) os
-    stop-found e answer = ap (λ (e : Entry). Some e.stop) (answer at.listed contains at.key_is) ∙ sym found-stop
+    pub stop-found : (e : Entry Stop) → ((x : Listed Stop) → Contains q.stops x → x.key ≡ key → e ≡ listed_entry x) → Some e.item ≡ find (is_stop_named member reference) os
+    stop-found e answer = ap (λ (e : Entry Stop). Some e.item) (answer at.listed contains at.key_is) ∙ sym found-stop
 
-    known : list_any (is_stop_named member reference) os ≡ true
-    known = some-found (is_stop_named member reference) os at.listed.stop found-stop
+    -- and that bears the name
+    module _ (taken : Entry Stop) (answer : (x : Listed Stop) → Contains q.stops x → x.key ≡ key → taken ≡ listed_entry x) where
+      reference-is : taken.item.reference ≡ reference
+      reference-is = (named-is member reference taken.item (find-Some (is_stop_named member reference) os taken.item (sym (stop-found taken answer))).passes).1
+
+      pub found-by-reference : find (is_stop_named member taken.item.reference) os ≡ Some taken.item
+      found-by-reference = ap (λ (r : ℕ). find (is_stop_named member r) os) reference-is ∙ sym (stop-found taken answer)
+
+      pub removed-by-reference : removed_stop member reference os ≡ removed_stop member taken.item.reference os
+      removed-by-reference = ap (λ (r : ℕ). removed_stop member r os) (sym reference-is)
 
     -- it leaves
     module _ (distinct : AreDistinct (keys_in q.stops)) (q' : QueuedView) (left : q' ≡ record q { stops = filter (is_other_key key) q.stops }) where
@@ -175,8 +186,16 @@ module _ (q : QueuedView) (names : List (ℕ × NamesOfMember)) (h : IsIndexed q
       pub member-left : without_stops_of member (map listed_stop q'.stops) ≡ without_stops_of member os
       member-left = ap (λ (t : HeldStops). without_stops_of member t.stops) seen-left ∙ left-without member reference os
 
-      pub member-shorter : length (map listed_stop q'.stops) < length os
-      member-shorter = omega (arith, ap (λ (t : HeldStops). length t.stops) seen-left, fewer-left member reference os known)
+      pub one-fewer : length (map listed_stop q'.stops) + 1 ≡ length os
+      one-fewer =
+          omega (
+            arith,
+            ap (λ (v : QueuedView). length v.stops) left,
+            ap (λ (n : ℕ). length (filter (is_other_key n) q.stops)) (sym at.key_is),
+            one-less at.listed q.stops distinct contains,
+            length-map q'.stops listed_stop,
+            length-map q.stops listed_stop,
+          )
 
       pub stop-left : (names' : List (ℕ × NamesOfMember)) → ((m r : ℕ) → lookup names' m r ≡ (if (m == member) && (r == reference) then None else lookup names m r)) → ((m : ℕ) → room names' m ≡ room names m)
           → IsIndexed q' names'
@@ -189,3 +208,17 @@ module _ (q : QueuedView) (names : List (ℕ × NamesOfMember)) (h : IsIndexed q
           room-kept : (ready : Option Stop) → IfSome ready (λ (s : Stop). 0 < room names s.member) → ((m : ℕ) → room names' m ≡ room names m) → IfSome ready (λ (s : Stop). 0 < room names' s.member)
           room-kept None some same = tt
           room-kept (Some s) some same = omega (arith, some, same s.member)
+
+  -- the stop of a key leaves with its name
+  pub stop-taken : (key : ℕ) → Contains (keys_in q.stops) key → (taken : Entry Stop) → ((x : Listed Stop) → Contains q.stops x → x.key ≡ key → taken ≡ listed_entry x) → AreDistinct (keys_in q.stops)
+      → (q' : QueuedView) → q' ≡ record q { stops = filter (is_other_key key) q.stops } → (names' : List (ℕ × NamesOfMember))
+      → ((m r : ℕ) → lookup names' m r ≡ (if (m == taken.item.member) && (r == taken.item.reference) then None else lookup names m r)) → ((m : ℕ) → room names' m ≡ room names m) → IsIndexed q' names'
+  stop-taken key at taken is distinct q' left names' out same = stop-left taken.item.member taken.item.reference key name distinct q' left names' out same
+    where
+      made : IsMade (λ (x : Listed Stop). x.key) q.stops key
+      made = IsMade-map (λ (x : Listed Stop). x.key) q.stops key at
+
+      name : Some key ≡ lookup names taken.item.member taken.item.reference
+      name =
+          ap (λ (n : ℕ). Some n) (sym made.made) ∙ its-name made.from made.contains
+          ∙ ap (λ (e : Entry Stop). lookup names e.item.member e.item.reference) (sym (is made.from made.contains made.made))

@@ -1,5 +1,6 @@
 -- A stop joins the queue of its side and trigger.
-use Rattle.std.proofs.Common.{◌≡◌, ℕ, ◌+◌, Bool, true, false, ◌&&◌, ◌==◌, if◌then◌else◌, List, [], ◌∷◌, ◌++◌, get_or, filter, Contains, Option, Some, None, refl, sym, ap, ◌∙◌, subst, ◌⊎◌, inl, inr, arith}
+use Rattle.xm_slots.proofs.Tests.{same_some, some_none}
+use Rattle.std.proofs.Common.{◌≡◌, ℕ, ◌+◌, Bool, true, false, ◌&&◌, ◌==◌, if◌then◌else◌, List, [], ◌∷◌, ◌++◌, get_or, filter, Contains, Option, Some, None, refl, sym, ap, ◌∙◌, subst, arith}
 use Rattle.std.specs.List.{All}
 use Rattle.std.proofs.lemmas.Bool.{and_parts, and_from, eqb-true, false≢true}
 use Rattle.std.proofs.lemmas.Bool.Decides.{nat_tests}
@@ -13,20 +14,15 @@ use Rattle.xm_rules.specs.Sides.{same_side}
 use Rattle.xm_rules.specs.declared.orders.Side.{Side}
 use Rattle.xm_rules.specs.declared.orders.Side.TheVariants.{Buy, Sell}
 use Rattle.xm_rules.specs.declared.orders.Stop.{Stop}
-use Rattle.xm_stops.specs.Listing.{keys_in, listed_entry}
-use Rattle.xm_stops.specs.Queued.{HasItsTrigger, HoldsQueue, IsQueueOf, IsQueued, LiesAt, is_member, members}
-use Rattle.xm_stops.specs.Slots.{SlotsView, Updates, get, used}
+use Rattle.xm_slots.specs.Listing.{keys_in, listed_entry, LiesAt}
+use Rattle.xm_stops.specs.Queued.{HasItsTrigger, HoldsQueue, IsQueueOf, IsQueued, is_member, members}
+use Rattle.xm_slots.specs.Slots.{SlotsView, Updates, get, used}
 use Rattle.xm_stops.specs.Triggers.{HasTrigger, IsFound, is_same_place, queue_of}
-use Rattle.xm_stops.specs.declared.entry.Entry.{Entry}
-use Rattle.xm_stops.specs.declared.listing.Listed.{Listed}
+use Rattle.xm_slots.specs.declared.entry.Entry.{Entry}
+use Rattle.xm_slots.specs.declared.listing.Listed.{Listed}
 use Rattle.xm_stops.specs.declared.trigger_queues.TriggerQueues.{TriggerQueues}
-use Rattle.xm_stops.proofs.Members.{Contains-cases, Contains-here, Contains-none, Contains-there, IsMade-map, Passes-filter}
-
-pub some_none : {X : Type 0} {x : X} → Some x ≡ None → ⊥
-some_none h = cc
-
-pub same_some : {X : Type 0} {x y : X} → Some x ≡ Some y → x ≡ y
-same_some h = cc
+use Rattle.xm_slots.proofs.Distinct.{distinct-push}
+use Rattle.xm_slots.proofs.Members.{IsMade-map, Passes-filter}
 
 pub side-is : (s t : Side) → same_side s t ≡ true → s ≡ t
 side-is Buy Buy h = refl
@@ -57,49 +53,23 @@ at-itself s p o h =
     ∙ and_from (same_side o.side o.side) (o.trigger == o.trigger) (side-itself o.side) (price-itself o.trigger)
 
 -- the keys of a queue that was looked for
-pub found-queue : (links : List Link) (there : Option Ends) (ends : Ends) (ms : List Listed) → IsFound there ends → HoldsQueue links there ms → IsQueue links ends (keys_in ms)
-found-queue links None ends ms f e = subst (λ (ys : List Listed). IsQueue links ends (keys_in ys)) (sym e) (f links)
+pub found-queue : (links : List Link) (there : Option Ends) (ends : Ends) (ms : List (Listed Stop)) → IsFound there ends → HoldsQueue links there ms → IsQueue links ends (keys_in ms)
+found-queue links None ends ms f e = subst (λ (ys : List (Listed Stop)). IsQueue links ends (keys_in ys)) (sym e) (f links)
 found-queue links (Some x) ends ms f e = subst (λ (l : Ends). IsQueue links l (keys_in ms)) (sym f) e.queue
-
-Contains-end : (x y : ℕ) (ks : List ℕ) → Contains (ks ++ y ∷ []) x → Contains ks x ⊎ (x ≡ y)
-Contains-end x y [] c = end_by (Contains-cases y [] x c)
-  where
-    end_by : (y ≡ x) ⊎ Contains [] x → Contains [] x ⊎ (x ≡ y)
-    end_by (inl e) = inr (sym e)
-    end_by (inr n) = inl n
-Contains-end x y (k ∷ ks) c = end_by (λ n. Contains-end x y ks n) (Contains-cases k (ks ++ y ∷ []) x c)
-  where
-    end_by : (Contains (ks ++ y ∷ []) x → Contains ks x ⊎ (x ≡ y)) → (k ≡ x) ⊎ Contains (ks ++ y ∷ []) x → Contains (k ∷ ks) x ⊎ (x ≡ y)
-    end_by more (inl e) = inl (subst (λ (n : ℕ). Contains (k ∷ ks) n) e (Contains-here k ks))
-    end_by more (inr n) = one_by (more n)
-      where
-        one_by : Contains ks x ⊎ (x ≡ y) → Contains (k ∷ ks) x ⊎ (x ≡ y)
-        one_by (inl m) = inl (Contains-there k ks x m)
-        one_by (inr e) = inr e
-
--- keys stay different
-pub distinct-push : (key : ℕ) (ks : List ℕ) → AreDistinct ks → (Contains ks key → ⊥) → AreDistinct (ks ++ key ∷ [])
-distinct-push key [] d out = (λ c. Contains-none key c, tt)
-distinct-push key (k ∷ ks) d out =
-    (λ c. in_by (Contains-end k key ks c), distinct-push key ks d.1 (λ c. out (Contains-there k ks key c)))
-  where
-    in_by : Contains ks k ⊎ (k ≡ key) → ⊥
-    in_by (inl c) = d.0 c
-    in_by (inr e) = out (subst (λ (n : ℕ). Contains (k ∷ ks) n) e (Contains-here k ks))
 
 pub placed-kept : {A : Type 0} (triggers triggers' : TriggerQueues A) → ((s : Side) (p : ℕ) → HasTrigger triggers s p → HasTrigger triggers' s p)
     → (o : Stop) → HasItsTrigger triggers o → HasItsTrigger triggers' o
 placed-kept triggers triggers' kept o h = record { in_range = h.in_range; room = kept o.side o.trigger h.room }
 
-module _ {A : Type 0} (xs : List Listed) (entries : SlotsView) (links : List Link) (triggers : TriggerQueues A) (h : IsQueued xs entries links triggers) where
+module _ {A : Type 0} (xs : List (Listed Stop)) (entries : SlotsView Stop) (links : List Link) (triggers : TriggerQueues A) (h : IsQueued xs entries links triggers) where
   -- each key of a queue has a stop
-  pub has-stop : (p : Listed → Bool) (key : ℕ) → Contains (keys_in (filter p xs)) key → (x : Listed) × (Contains xs x) × (p x ≡ true) × (x.key ≡ key) × LiesAt entries x
+  pub has-stop : (p : Listed Stop → Bool) (key : ℕ) → Contains (keys_in (filter p xs)) key → (x : Listed Stop) × (Contains xs x) × (p x ≡ true) × (x.key ≡ key) × LiesAt entries x
   has-stop p key at =
-      let made = IsMade-map (λ (x : Listed). x.key) (filter p xs) key at in
+      let made = IsMade-map (λ (x : Listed Stop). x.key) (filter p xs) key at in
       let passes = Passes-filter p xs made.from made.contains in
       (made.from, passes.contains, passes.passes, made.made, All-contains (LiesAt entries) xs made.from h.lie passes.contains)
 
-  pub vacant-key : (p : Listed → Bool) (key : ℕ) → get entries key ≡ None → Contains (keys_in (filter p xs)) key → ⊥
+  pub vacant-key : (p : Listed Stop → Bool) (key : ℕ) → get entries key ≡ None → Contains (keys_in (filter p xs)) key → ⊥
   vacant-key p key vacant at = let x = has-stop p key at in some_none (sym x.4 ∙ ap (get entries) x.3 ∙ vacant)
 
   module _ (o : Stop) (ends : Ends) (f : IsFound (queue_of triggers o.side o.trigger) ends) where
@@ -114,30 +84,30 @@ module _ {A : Type 0} (xs : List Listed) (entries : SlotsView) (links : List Lin
         let y = has-stop (is_member o.side o.trigger) n a in
         let z = has-stop (is_member s p) n b in
         let one : Some (listed_entry y.0) ≡ Some (listed_entry z.0) = sym y.4 ∙ ap (get entries) (y.3 ∙ sym z.3) ∙ z.4 in
-        let same : y.0.stop ≡ z.0.stop = ap (λ (e : Entry). e.stop) (same_some one) in
-        let i = is-at o.side o.trigger y.0.stop y.2 in
-        let j = is-at s p z.0.stop z.2 in
+        let same : y.0.item ≡ z.0.item = ap (λ (e : Entry Stop). e.item) (same_some one) in
+        let i = is-at o.side o.trigger y.0.item y.2 in
+        let j = is-at s p z.0.item z.2 in
         let at : IsAt s p o = record {
           side = j.side ∙ sym (ap (λ (w : Stop). w.side) same) ∙ sym i.side;
           trigger = j.trigger ∙ sym (ap (λ (w : Stop). w.trigger) same) ∙ sym i.trigger;
         } in
         absurd (false≢true (sym off ∙ at-itself s p o at))
 
-    module _ (time key : ℕ) (vacant : get entries key ≡ None) (entries' : SlotsView) (u : Updates entries entries' key (Some (record { stop = o; time = time }))) (len : used entries' ≡ used entries + 1)
+    module _ (time key : ℕ) (vacant : get entries key ≡ None) (entries' : SlotsView Stop) (u : Updates entries entries' key (Some (record { item = o; time = time }))) (len : used entries' ≡ used entries + 1)
         (cap : entries'.capacity ≡ entries.capacity) (links' : List Link) (ends' : Ends) (last : (keys : List ℕ) → IsQueue links ends keys → IsQueue links' ends' (keys ++ key ∷ []))
         (others : (other : Ends) (keys keys' : List ℕ) → IsQueue links ends keys → IsQueue links other keys' → AreApart keys keys' → (Contains keys' key → ⊥) → IsQueue links' other keys')
         (limit : key_limit links' ≡ key_limit links) (triggers' : TriggerQueues A)
         (puts : (s : Side) (p : ℕ) → queue_of triggers' s p ≡ (if is_same_place s p o.side o.trigger then Some ends' else queue_of triggers s p))
         (placed : HasItsTrigger triggers o) (kept-triggers : (s : Side) (p : ℕ) → HasTrigger triggers s p → HasTrigger triggers' s p) where
-      abbrev x : Listed
-      x = record { key = key; time = time; stop = o }
+      abbrev x : Listed Stop
+      x = record { key = key; time = time; item = o }
 
-      abbrev ms : List Listed
+      abbrev ms : List (Listed Stop)
       ms = members o.side o.trigger xs
 
       longer : IsQueueOf links' ends' (ms ++ x ∷ [])
       longer = record {
-        queue = subst (λ (ks : List ℕ). IsQueue links' ends' ks) (sym (map-append (λ (y : Listed). y.key) ms (x ∷ []))) (last (keys_in ms) here);
+        queue = subst (λ (ks : List ℕ). IsQueue links' ends' ks) (sym (map-append (λ (y : Listed Stop). y.key) ms (x ∷ []))) (last (keys_in ms) here);
         some = omega (arith, length-append ms (x ∷ []));
       }
 
@@ -152,26 +122,26 @@ module _ {A : Type 0} (xs : List Listed) (entries : SlotsView) (links : List Lin
         holds_if : (b : Bool) → is_same_place s p o.side o.trigger ≡ b → HoldsQueue links' (if b then Some ends' else queue_of triggers s p) (members s p xs ++ (if b then x ∷ [] else []))
         holds_if true t =
             let at = is-at s p o t in
-            subst (λ (ys : List Listed). IsQueueOf links' ends' (ys ++ x ∷ [])) (λ i. members (sym at.side i) (sym at.trigger i) xs) longer
+            subst (λ (ys : List (Listed Stop)). IsQueueOf links' ends' (ys ++ x ∷ [])) (λ i. members (sym at.side i) (sym at.trigger i) xs) longer
         holds_if false t =
-            subst (λ (ys : List Listed). HoldsQueue links' (queue_of triggers s p) ys) (sym (append-nil (members s p xs))) (kept t (queue_of triggers s p) (h.queues s p))
+            subst (λ (ys : List (Listed Stop)). HoldsQueue links' (queue_of triggers s p) ys) (sym (append-nil (members s p xs))) (kept t (queue_of triggers s p) (h.queues s p))
 
         holds : HoldsQueue links' (queue_of triggers' s p) (members s p (xs ++ x ∷ []))
         holds = subst (λ (l : Option Ends). HoldsQueue links' l (members s p (xs ++ x ∷ []))) (sym (puts s p))
-            (subst (λ (ys : List Listed). HoldsQueue links' (if is_same_place s p o.side o.trigger then Some ends' else queue_of triggers s p) ys) (sym pushed) (holds_if (is_same_place s p o.side o.trigger) refl))
+            (subst (λ (ys : List (Listed Stop)). HoldsQueue links' (if is_same_place s p o.side o.trigger then Some ends' else queue_of triggers s p) ys) (sym pushed) (holds_if (is_same_place s p o.side o.trigger) refl))
 
       lie-old : All (LiesAt entries') xs
       lie-old = λ i d lt. (let y = get_or xs i d in let old = h.lie i d lt in u.others y.key (λ same. some_none (sym old ∙ ap (get entries) same ∙ vacant)) ∙ old)
 
-      abbrev Placed : Listed → Type 0
-      Placed y = HasItsTrigger triggers' y.stop
+      abbrev Placed : Listed Stop → Type 0
+      Placed y = HasItsTrigger triggers' y.item
 
       pub joined : IsQueued (xs ++ x ∷ []) entries' links' triggers'
       joined = record {
         lie = All-append (LiesAt entries') xs (x ∷ []) lie-old (All-cons (LiesAt entries') x [] u.changed (All-nil (LiesAt entries')));
-        distinct = subst AreDistinct (sym (map-append (λ (y : Listed). y.key) xs (x ∷ []))) (distinct-push key (keys_in xs) h.distinct (λ c. (let made = IsMade-map (λ (y : Listed). y.key) xs key c in some_none (sym (All-contains (LiesAt entries) xs made.from h.lie made.contains) ∙ ap (get entries) made.made ∙ vacant))));
+        distinct = subst AreDistinct (sym (map-append (λ (y : Listed Stop). y.key) xs (x ∷ []))) (distinct-push key (keys_in xs) h.distinct (λ c. (let made = IsMade-map (λ (y : Listed Stop). y.key) xs key c in some_none (sym (All-contains (LiesAt entries) xs made.from h.lie made.contains) ∙ ap (get entries) made.made ∙ vacant))));
         count = omega (arith, len, h.count, length-append xs (x ∷ []));
-        placed = All-append Placed xs (x ∷ []) (λ i d lt. placed-kept triggers triggers' kept-triggers (get_or xs i d).stop (h.placed i d lt))
+        placed = All-append Placed xs (x ∷ []) (λ i d lt. placed-kept triggers triggers' kept-triggers (get_or xs i d).item (h.placed i d lt))
             (All-cons Placed x [] (placed-kept triggers triggers' kept-triggers o placed) (All-nil Placed));
         queues = holds;
         fits = omega (arith, cap, limit, h.fits);

@@ -1,16 +1,18 @@
 -- The stops of a list by their names, as a stop joins it or leaves it.
-use Rattle.std.proofs.Common.{◌≡◌, ℕ, ◌<◌, ◌≤◌, Bool, true, false, not, ◌&&◌, ◌||◌, ◌==◌, if◌then◌else◌, List, [], ◌∷◌, ◌++◌, length, get_or, map, filter, find, Contains, Option, Some, None, option_map, ◌⊎◌, inl, inr, refl, sym, ap, ◌∙◌, subst, arith}
+use Rattle.xm_slots.proofs.Leaving.{key-once}
+use Rattle.xm_slots.proofs.Tests.{none-found, filter-same, any-kept, find-filter, keep-all}
+use Rattle.std.proofs.Common.{◌≡◌, ℕ, Bool, true, false, not, ◌&&◌, ◌||◌, ◌==◌, if◌then◌else◌, List, [], ◌∷◌, ◌++◌, get_or, map, filter, find, Contains, Option, Some, None, option_map, ◌⊎◌, inl, inr, refl, sym, ap, ◌∙◌, arith}
 use Rattle.std.specs.List.{All, list_any}
 use Rattle.std.specs.Option.{option_or}
 use Rattle.std.proofs.lemmas.Bool.{and_parts, eq-eqb, eqb-true, false≢true, or_parts}
 use Rattle.std.proofs.lemmas.Bool.Decides.{nat_tests}
-use Rattle.std.proofs.lemmas.List.Elements.{All-head, All-tail, Contains-get_or}
+use Rattle.std.proofs.lemmas.List.Elements.{Contains-get_or}
 use Rattle.std.proofs.lemmas.List.Folds.{find-append, list_any-append}
-use Rattle.std.proofs.lemmas.List.Sums.{count_by-le-length, length-filter}
-use Rattle.xm_stops.specs.Listing.{has_name, is_other_key, key_of, keys_in, listed_stop}
+use Rattle.xm_slots.specs.Listing.{is_other_key, keys_in}
+use Rattle.xm_stops.specs.Listing.{has_name, key_of, listed_stop}
 use Rattle.xm_stops.specs.HeldStops.{have_own_names}
-use Rattle.xm_stops.specs.declared.listing.Listed.{Listed}
-use Rattle.xm_stops.proofs.Members.{Contains-cases, Contains-map, Contains-none, find-Some, find-none, list_any-false}
+use Rattle.xm_slots.specs.declared.listing.Listed.{Listed}
+use Rattle.xm_slots.proofs.Members.{Contains-cases, Contains-map, Contains-none, find-Some, find-none, list_any-false}
 use Rattle.xm_queues.specs.Keys.{AreDistinct}
 use Rattle.xm_rules.specs.Orders.{is_stop_named, removed_stop, without_stops_of}
 use Rattle.xm_rules.specs.declared.orders.Stop.{Stop}
@@ -44,81 +46,51 @@ one-name member reference a b h k = (λ i. is_stop_named (h-is.0 i) (h-is.1 i) b
     h-is : (a.member ≡ member) × (a.reference ≡ reference)
     h-is = named-is member reference a h
 
-pub find-map : (member reference : ℕ) (xs : List Listed) → find (is_stop_named member reference) (map listed_stop xs) ≡ option_map listed_stop (find (has_name member reference) xs)
+pub find-map : (member reference : ℕ) (xs : List (Listed Stop)) → find (is_stop_named member reference) (map listed_stop xs) ≡ option_map listed_stop (find (has_name member reference) xs)
 find-map member reference [] = refl
 find-map member reference (x ∷ xs) = find_if (has_name member reference x) (find-map member reference xs)
   where
     find_if : (b : Bool) → find (is_stop_named member reference) (map listed_stop xs) ≡ option_map listed_stop (find (has_name member reference) xs)
-        → (if b then Some x.stop else find (is_stop_named member reference) (map listed_stop xs)) ≡ option_map listed_stop (if b then Some x else find (has_name member reference) xs)
+        → (if b then Some x.item else find (is_stop_named member reference) (map listed_stop xs)) ≡ option_map listed_stop (if b then Some x else find (has_name member reference) xs)
     find_if true rest = refl
     find_if false rest = rest
 
-pub none-found : {X : Type 0} (p : X → Bool) (xs : List X) → find p xs ≡ None → list_any p xs ≡ false
-none-found p [] h = refl
-none-found {X} p (x ∷ xs) h = none_if (p x) (none-found p xs) h
-  where
-    none_if : (b : Bool) → (find p xs ≡ None → list_any p xs ≡ false) → (if b then Some x else find p xs) ≡ None → (b || list_any p xs) ≡ false
-    none_if true rest e = absurd (cc)
-    none_if false rest e = rest e
-
-pub some-found : {X : Type 0} (p : X → Bool) (xs : List X) (x : X) → find p xs ≡ Some x → list_any p xs ≡ true
-some-found p [] x h = absurd (cc)
-some-found {X} p (y ∷ xs) x h = some_if (p y) (some-found p xs x) h
-  where
-    some_if : (b : Bool) → (find p xs ≡ Some x → list_any p xs ≡ true) → (if b then Some y else find p xs) ≡ Some x → (b || list_any p xs) ≡ true
-    some_if true rest e = refl
-    some_if false rest e = rest e
-
 -- a stop that lies under the key of its name
-pub record IsNamedAt (member reference under : ℕ) (xs : List Listed) : Type 0 where
-  pub listed : Listed
+pub record IsNamedAt (member reference under : ℕ) (xs : List (Listed Stop)) : Type 0 where
+  pub listed : Listed Stop
   pub found : find (has_name member reference) xs ≡ Some listed
   pub key_is : listed.key ≡ under
 
-pub named-at : (member reference key : ℕ) (xs : List Listed) → key_of member reference xs ≡ Some key → IsNamedAt member reference key xs
+pub named-at : (member reference key : ℕ) (xs : List (Listed Stop)) → key_of member reference xs ≡ Some key → IsNamedAt member reference key xs
 named-at member reference key xs h = by_find (find (has_name member reference) xs) refl h
   where
-    by_find : (o : Option Listed) → find (has_name member reference) xs ≡ o → option_map (λ (x : Listed). x.key) o ≡ Some key → IsNamedAt member reference key xs
+    by_find : (o : Option (Listed Stop)) → find (has_name member reference) xs ≡ o → option_map (λ (x : Listed Stop). x.key) o ≡ Some key → IsNamedAt member reference key xs
     by_find None e k = absurd (cc)
     by_find (Some x) e k = record { listed = x; found = e; key_is = cc }
 
-pub not-named : (member reference : ℕ) (xs : List Listed) → key_of member reference xs ≡ None → find (is_stop_named member reference) (map listed_stop xs) ≡ None
+pub not-named : (member reference : ℕ) (xs : List (Listed Stop)) → key_of member reference xs ≡ None → find (is_stop_named member reference) (map listed_stop xs) ≡ None
 not-named member reference xs h = find-map member reference xs ∙ ap (option_map listed_stop) (by_find (find (has_name member reference) xs) h)
   where
-    by_find : (o : Option Listed) → option_map (λ (x : Listed). x.key) o ≡ None → o ≡ None
+    by_find : (o : Option (Listed Stop)) → option_map (λ (x : Listed Stop). x.key) o ≡ None → o ≡ None
     by_find None e = refl
     by_find (Some x) e = absurd (cc)
 
--- ---- under a key and of a name is one stop alone
-pub key-once : (xs : List Listed) (x z : Listed) → AreDistinct (keys_in xs) → Contains xs x → Contains xs z → z.key ≡ x.key → z ≡ x
-key-once [] x z d c e k = absurd (Contains-none x c)
-key-once (y ∷ xs) x z d c e k = by_place (key-once xs x z d.1) (Contains-cases y xs x c) (Contains-cases y xs z e)
-  where
-    at : (w : Listed) → Contains xs w → w.key ≡ y.key → ⊥
-    at w there same = d.0 (subst (λ (n : ℕ). Contains (keys_in xs) n) same (Contains-map (λ (v : Listed). v.key) xs w there))
-
-    by_place : (Contains xs x → Contains xs z → z.key ≡ x.key → z ≡ x) → (y ≡ x) ⊎ Contains xs x → (y ≡ z) ⊎ Contains xs z → z ≡ x
-    by_place rest (inl a) (inl b) = sym b ∙ a
-    by_place rest (inl a) (inr b) = absurd (at z b (k ∙ sym (ap (λ (v : Listed). v.key) a)))
-    by_place rest (inr a) (inl b) = absurd (at x a (sym k ∙ sym (ap (λ (v : Listed). v.key) b)))
-    by_place rest (inr a) (inr b) = rest a b k
-
-pub name-once : (member reference : ℕ) (xs : List Listed) (x z : Listed) → have_own_names (map listed_stop xs) ≡ true → Contains xs x → Contains xs z
+pub name-once : (member reference : ℕ) (xs : List (Listed Stop)) (x z : Listed Stop) → have_own_names (map listed_stop xs) ≡ true → Contains xs x → Contains xs z
     → has_name member reference x ≡ true → has_name member reference z ≡ true → z ≡ x
 name-once member reference [] x z own c e h k = absurd (Contains-none x c)
 name-once member reference (y ∷ xs) x z own c e h k =
     by_place (name-once member reference xs x z parts.1) (Contains-cases y xs x c) (Contains-cases y xs z e)
   where
     any : Bool
-    any = list_any (is_stop_named y.stop.member y.stop.reference) (map listed_stop xs)
+    any = list_any (is_stop_named y.item.member y.item.reference) (map listed_stop xs)
 
     parts : (not any ≡ true) × (have_own_names (map listed_stop xs) ≡ true)
     parts = and_parts (not any) (have_own_names (map listed_stop xs)) own
 
-    at : (w : Listed) → Contains xs w → has_name member reference y ≡ true → has_name member reference w ≡ true → ⊥
+    at : (w : Listed Stop) → Contains xs w → has_name member reference y ≡ true → has_name member reference w ≡ true → ⊥
     at w there s t =
-        let other = list_any-false (is_stop_named y.stop.member y.stop.reference) (map listed_stop xs) w.stop (not-true any parts.0) (Contains-map listed_stop xs w there) in
-        false≢true (sym other ∙ one-name member reference y.stop w.stop s t)
+        let other = list_any-false (is_stop_named y.item.member y.item.reference) (map listed_stop xs) w.item (not-true any parts.0) (Contains-map listed_stop xs w there) in
+        false≢true (sym other ∙ one-name member reference y.item w.item s t)
 
     by_place : (Contains xs x → Contains xs z → has_name member reference x ≡ true → has_name member reference z ≡ true → z ≡ x) → (y ≡ x) ⊎ Contains xs x → (y ≡ z) ⊎ Contains xs z → z ≡ x
     by_place rest (inl a) (inl b) = sym b ∙ a
@@ -127,15 +99,15 @@ name-once member reference (y ∷ xs) x z own c e h k =
     by_place rest (inr a) (inr b) = rest a b h k
 
 -- the test by key is the test by name
-pub by-key : (member reference : ℕ) (xs : List Listed) (x : Listed) → AreDistinct (keys_in xs) → have_own_names (map listed_stop xs) ≡ true → find (has_name member reference) xs ≡ Some x
-    → All (λ (z : Listed). (z.key == x.key) ≡ has_name member reference z) xs
+pub by-key : (member reference : ℕ) (xs : List (Listed Stop)) (x : Listed Stop) → AreDistinct (keys_in xs) → have_own_names (map listed_stop xs) ≡ true → find (has_name member reference) xs ≡ Some x
+    → All (λ (z : Listed Stop). (z.key == x.key) ≡ has_name member reference z) xs
 by-key member reference xs x d own f k e lt =
     let z = get_or xs k e in
     let here = find-Some (has_name member reference) xs x f in
     let there = Contains-get_or xs k e lt in
     same_tests (z.key == x.key) (has_name member reference z)
     (λ t. ap (has_name member reference) (key-once xs x z d here.contains there (eqb-true z.key x.key t)) ∙ here.passes)
-    (λ t. eq-eqb z.key x.key (ap (λ (v : Listed). v.key) (name-once member reference xs x z own here.contains there here.passes t)))
+    (λ t. eq-eqb z.key x.key (ap (λ (v : Listed Stop). v.key) (name-once member reference xs x z own here.contains there here.passes t)))
 
 -- ---- a stop joins
 pub own_names-push : (os : List Stop) (o : Stop) → list_any (is_stop_named o.member o.reference) os ≡ false → have_own_names os ≡ true → have_own_names (os ++ o ∷ []) ≡ true
@@ -152,68 +124,52 @@ own_names-push (y ∷ os) o h own =
     none_more true p = refl
     none_more false p = ap (λ b. b || false) p
 
-abbrev key_in : Option Listed → Option ℕ
-key_in o = option_map (λ (x : Listed). x.key) o
+abbrev key_in : Option (Listed Stop) → Option ℕ
+key_in o = option_map (λ (x : Listed Stop). x.key) o
 
-last_if : (x : Listed) (b : Bool) (o : Option Listed) → (b ≡ true → o ≡ None) → key_in (option_or o (if b then Some x else None)) ≡ (if b then Some x.key else key_in o)
+last_if : (x : Listed Stop) (b : Bool) (o : Option (Listed Stop)) → (b ≡ true → o ≡ None) → key_in (option_or o (if b then Some x else None)) ≡ (if b then Some x.key else key_in o)
 last_if x true None h = refl
 last_if x true (Some y) h = absurd (let e : Some y ≡ None = h refl in cc)
 last_if x false None h = refl
 last_if x false (Some y) h = refl
 
-pub key_of-push : (member reference : ℕ) (xs : List Listed) (x : Listed) → list_any (is_stop_named x.stop.member x.stop.reference) (map listed_stop xs) ≡ false
-    → key_of member reference (xs ++ x ∷ []) ≡ (if (member == x.stop.member) && (reference == x.stop.reference) then Some x.key else key_of member reference xs)
+pub key_of-push : (member reference : ℕ) (xs : List (Listed Stop)) (x : Listed Stop) → list_any (is_stop_named x.item.member x.item.reference) (map listed_stop xs) ≡ false
+    → key_of member reference (xs ++ x ∷ []) ≡ (if (member == x.item.member) && (reference == x.item.reference) then Some x.key else key_of member reference xs)
 key_of-push member reference xs x h =
     ap key_in (find-append (has_name member reference) xs (x ∷ [])) ∙ last_if x (has_name member reference x) (find (has_name member reference) xs) alone
-    ∙ ap (λ (b : Bool). if b then Some x.key else key_of member reference xs) (named-test member reference x.stop)
+    ∙ ap (λ (b : Bool). if b then Some x.key else key_of member reference xs) (named-test member reference x.item)
   where
-    other : has_name member reference x ≡ true → (b : Bool) (z : Listed) → Contains xs z → has_name member reference z ≡ b → b ≡ false
+    other : has_name member reference x ≡ true → (b : Bool) (z : Listed Stop) → Contains xs z → has_name member reference z ≡ b → b ≡ false
     other t false z there e = refl
     other t true z there e =
-        let out = list_any-false (is_stop_named x.stop.member x.stop.reference) (map listed_stop xs) z.stop h (Contains-map listed_stop xs z there) in
-        absurd (false≢true (sym out ∙ one-name member reference x.stop z.stop t e))
+        let out = list_any-false (is_stop_named x.item.member x.item.reference) (map listed_stop xs) z.item h (Contains-map listed_stop xs z there) in
+        absurd (false≢true (sym out ∙ one-name member reference x.item z.item t e))
 
     alone : has_name member reference x ≡ true → find (has_name member reference) xs ≡ None
     alone t = find-none (has_name member reference) xs (λ z there. other t (has_name member reference z) z there refl)
 
 -- ---- a stop leaves
 -- those stay whose stops pass a test
-abbrev pub keeps : (Stop → Bool) → Listed → Bool
-keeps test z = test z.stop
+abbrev pub keeps : (Stop → Bool) → Listed Stop → Bool
+keeps test z = test z.item
 
-abbrev pub others : ℕ → ℕ → Listed → Bool
+abbrev pub others : ℕ → ℕ → Listed Stop → Bool
 others member reference = keeps (λ (o : Stop). not (is_stop_named member reference o))
 
-filter-same : {X : Type 0} (p q : X → Bool) (xs : List X) → All (λ x. p x ≡ q x) xs → filter p xs ≡ filter q xs
-filter-same p q [] h = refl
-filter-same p q (x ∷ xs) h =
-    (λ i. if All-head (λ x. p x ≡ q x) x xs h i then x ∷ filter-same p q xs (All-tail (λ x. p x ≡ q x) x xs h) i else filter-same p q xs (All-tail (λ x. p x ≡ q x) x xs h) i)
-
 -- the stop of a key leaves, which is that of a name
-pub left-by-key : (member reference : ℕ) (xs : List Listed) (x : Listed) → AreDistinct (keys_in xs) → have_own_names (map listed_stop xs) ≡ true → find (has_name member reference) xs ≡ Some x
+pub left-by-key : (member reference : ℕ) (xs : List (Listed Stop)) (x : Listed Stop) → AreDistinct (keys_in xs) → have_own_names (map listed_stop xs) ≡ true → find (has_name member reference) xs ≡ Some x
     → filter (is_other_key x.key) xs ≡ filter (others member reference) xs
 left-by-key member reference xs x d own f =
     filter-same (is_other_key x.key) (others member reference) xs (λ k e lt. ap not (by-key member reference xs x d own f k e lt))
 
-pub stops-kept : (test : Stop → Bool) (xs : List Listed) → map listed_stop (filter (keeps test) xs) ≡ filter test (map listed_stop xs)
+pub stops-kept : (test : Stop → Bool) (xs : List (Listed Stop)) → map listed_stop (filter (keeps test) xs) ≡ filter test (map listed_stop xs)
 stops-kept test [] = refl
-stops-kept test (x ∷ xs) = kept_if (test x.stop) (stops-kept test xs)
+stops-kept test (x ∷ xs) = kept_if (test x.item) (stops-kept test xs)
   where
     kept_if : (b : Bool) → map listed_stop (filter (keeps test) xs) ≡ filter test (map listed_stop xs)
-        → map listed_stop (if b then x ∷ filter (keeps test) xs else filter (keeps test) xs) ≡ (if b then x.stop ∷ filter test (map listed_stop xs) else filter test (map listed_stop xs))
-    kept_if true rest = ap (λ os. x.stop ∷ os) rest
+        → map listed_stop (if b then x ∷ filter (keeps test) xs else filter (keeps test) xs) ≡ (if b then x.item ∷ filter test (map listed_stop xs) else filter test (map listed_stop xs))
+    kept_if true rest = ap (λ os. x.item ∷ os) rest
     kept_if false rest = rest
-
-any-kept : {X : Type 0} (q p : X → Bool) (xs : List X) → list_any q xs ≡ false → list_any q (filter p xs) ≡ false
-any-kept q p [] h = refl
-any-kept {X} q p (x ∷ xs) h = kept_if (p x) parts.0 (any-kept q p xs parts.1)
-  where
-    parts : (q x ≡ false) × (list_any q xs ≡ false)
-    parts = or_parts (q x) (list_any q xs) h
-
-    kept_if : (b : Bool) → q x ≡ false → list_any q (filter p xs) ≡ false → list_any q (if b then x ∷ filter p xs else filter p xs) ≡ false
-    kept_if true at rest = (λ i. at i || rest i)
-    kept_if false at rest = rest
 
 pub own_names-kept : (p : Stop → Bool) (os : List Stop) → have_own_names os ≡ true → have_own_names (filter p os) ≡ true
 own_names-kept p [] h = refl
@@ -230,39 +186,16 @@ own_names-kept p (o ∷ os) h =
     kept_if true at rest = (λ i. at i && rest i)
     kept_if false at rest = rest
 
-pub length-kept : {X : Type 0} (p : X → Bool) (xs : List X) → length (filter p xs) ≤ length xs
-length-kept p xs = omega (arith, length-filter p xs, count_by-le-length p xs)
-
-find-filter : {X : Type 0} (p q : X → Bool) (b : Bool) → ((x : X) → q x ≡ true → p x ≡ b) → (xs : List X) → find q (filter p xs) ≡ (if b then find q xs else None)
-find-filter p q true h [] = refl
-find-filter p q false h [] = refl
-find-filter {X} p q b h (x ∷ xs) = found_if b (q x) (p x) refl refl (h x) (find-filter p q b h xs)
-  where
-    found_if : (b c d : Bool) → q x ≡ c → p x ≡ d → (q x ≡ true → p x ≡ b) → find q (filter p xs) ≡ (if b then find q xs else None) → find q (filter p (x ∷ xs)) ≡ (if b then find q (x ∷ xs) else None)
-    found_if true true true ec ed h rest = rw (ed, ec) refl
-    found_if false true false ec ed h rest = rw ed rest
-    found_if true true false ec ed h rest = absurd (false≢true (sym ed ∙ h ec))
-    found_if false true true ec ed h rest = absurd (false≢true (sym (h ec) ∙ ed))
-    found_if b false true ec ed h rest = rw (ed, ec) rest
-    found_if b false false ec ed h rest = rw (ed, ec) rest
-
-pub key_of-others : (m r member reference : ℕ) (xs : List Listed) → key_of member reference (filter (others m r) xs) ≡ (if (member == m) && (reference == r) then None else key_of member reference xs)
+pub key_of-others : (m r member reference : ℕ) (xs : List (Listed Stop)) → key_of member reference (filter (others m r) xs) ≡ (if (member == m) && (reference == r) then None else key_of member reference xs)
 key_of-others m r member reference xs =
     ap key_in (find-filter (others m r) (has_name member reference) (not ((member == m) && (reference == r))) stays xs) ∙ turned ((member == m) && (reference == r))
   where
-    stays : (x : Listed) → has_name member reference x ≡ true → others m r x ≡ not ((member == m) && (reference == r))
-    stays x e = (λ i. not (((named-is member reference x.stop e).0 i == m) && ((named-is member reference x.stop e).1 i == r)))
+    stays : (x : Listed Stop) → has_name member reference x ≡ true → others m r x ≡ not ((member == m) && (reference == r))
+    stays x e = (λ i. not (((named-is member reference x.item e).0 i == m) && ((named-is member reference x.item e).1 i == r)))
 
     turned : (b : Bool) → key_in (if not b then find (has_name member reference) xs else None) ≡ (if b then None else key_of member reference xs)
     turned true = refl
     turned false = refl
-
--- ---- nothing has the name
-keep-all : {X : Type 0} (p : X → Bool) (xs : List X) → list_any p xs ≡ false → filter (λ x. not (p x)) xs ≡ xs
-keep-all p [] h = refl
-keep-all p (x ∷ xs) h =
-    let parts = or_parts (p x) (list_any p xs) h in
-    (λ i. if not (parts.0 i) then x ∷ keep-all p xs parts.1 i else keep-all p xs parts.1 i)
 
 pub nothing-removed : (member reference : ℕ) (os : List Stop) → list_any (is_stop_named member reference) os ≡ false → removed_stop member reference os ≡ os
 nothing-removed member reference os h = keep-all (is_stop_named member reference) os h
@@ -293,13 +226,3 @@ left-without member reference (o ∷ os) = left_if (o.member == member) (o.refer
     left_if true true e rest = rest
     left_if true false e rest = (λ i. if not (e i) then o ∷ rest i else rest i)
     left_if false c e rest = (λ i. if not (e i) then o ∷ rest i else rest i)
-
--- one fewer is left
-pub fewer-left : (member reference : ℕ) (os : List Stop) → list_any (is_stop_named member reference) os ≡ true → length (removed_stop member reference os) < length os
-fewer-left member reference [] h = absurd (cc)
-fewer-left member reference (o ∷ os) h = fewer_if (is_stop_named member reference o) (fewer-left member reference os) h
-  where
-    fewer_if : (b : Bool) → (list_any (is_stop_named member reference) os ≡ true → length (removed_stop member reference os) < length os) → (b || list_any (is_stop_named member reference) os) ≡ true
-        → length (if not b then o ∷ removed_stop member reference os else removed_stop member reference os) < length (o ∷ os)
-    fewer_if true rest h = omega (arith, length-kept (λ (p : Stop). not (is_stop_named member reference p)) os)
-    fewer_if false rest h = let fewer = rest h in omega (arith, fewer)

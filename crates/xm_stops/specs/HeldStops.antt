@@ -1,5 +1,5 @@
 -- What a caller sees of the held stops, and of the pending ones.
-use Rattle.std.specs.Prelude.{ℕ, Bool, true, ◌&&◌, ◌==◌, not, List, [], ◌∷◌, filter, map, Option}
+use Rattle.std.specs.Prelude.{ℕ, ◌-◌, Bool, true, ◌&&◌, ◌==◌, not, List, [], ◌∷◌, ◌++◌, length, filter, map, Option}
 use Rattle.std.specs.List.{list_any}
 use Rattle.xm_rules.specs.Orders.{is_stop_named}
 use Rattle.xm_rules.specs.declared.orders.Stop.{Stop}
@@ -15,6 +15,10 @@ pub record PendingStops : Type 0 where
   pub stops : List Stop
   -- for how many more there is room
   pub room : ℕ
+
+-- the pending stops once others stand behind them, in room that was there
+abbrev pub joined_by : List Stop → PendingStops → PendingStops
+joined_by stops p = record { stops = p.stops ++ stops; room = p.room - length stops }
 
 -- no two stops have one name
 abbrev pub have_own_names : List Stop → Bool

@@ -1,12 +1,9 @@
 pub mod Drained
-pub mod Expiry
 pub mod HeldStops
 pub mod Indexed
 pub mod Lends
 pub mod Listing
 pub mod Pending
 pub mod Queued
-pub mod Slots
-pub mod Timeline
+pub mod Reasons
 pub mod Triggers
-pub mod Vacancies

@@ -1,16 +1,17 @@
 //! The stops that wait to come in, with the numbers of their entries.
-ghost use Rattle.std.specs.Prelude.{◌≡◌, ◌+◌, ◌-◌, ◌<◌, ◌≤◌, ◌++◌, ◌∷◌, [], OnErr, OnOk, drop, length, max, slice_get};
+ghost use Rattle.std.specs.Prelude.{◌≡◌, ◌+◌, ◌-◌, ◌<◌, ◌≤◌, ◌^◌, ◌++◌, ◌∷◌, [], OnErr, OnOk, drop, length, max, slice_get};
 ghost use Rattle.xm_stops.specs.Pending.{IsSortedBehind};
 
-use crate::entry::Entry;
 use std::alloc::{AllocError, Allocator};
 use std::marker::Model;
+use xm_rules::Stop;
+use xm_slots::Entry;
 
 /// A queue of entries, the first of which leaves first. `reserve` makes room, and nothing else takes memory.
 #[derive(Drop)]
 pub struct EntryQueue<A: Allocator> {
     // The entries, behind those that have left.
-    entries: Vec<Entry, A>,
+    entries: Vec<Entry<Stop>, A>,
     // How many have left.
     head: usize,
     // For so many more there is room in `entries`.
@@ -43,7 +44,8 @@ impl<A: Allocator> EntryQueue<A> {
 
     /// How many entries there are.
     pub fn len(&self) -> usize
-        ensures { result ≡ length self.now.entries }
+        ensures len { result ≡ length self.now.entries }
+        ensures within { result + self.now.room < 2 ^ 64 }
     {
         self.entries.len() - self.head
     }
@@ -62,7 +64,7 @@ impl<A: Allocator> EntryQueue<A> {
 
     /// An entry joins last.
     #[inline(always)]
-    pub fn push(&mut self, entry: Entry)
+    pub fn push(&mut self, entry: Entry<Stop>)
         requires { 0 < self.old.room }
         ensures { self.new ≡ record { entries = self.old.entries ++ entry ∷ []; room = self.old.room - 1 } }
     {
@@ -72,7 +74,7 @@ impl<A: Allocator> EntryQueue<A> {
 
     /// The first entry leaves.
     #[inline(always)]
-    pub fn pop(&mut self) -> Option<Entry>
+    pub fn pop(&mut self) -> Option<Entry<Stop>>
         ensures first { result ≡ slice_get self.old.entries 0 }
         ensures rest { self.new ≡ record self.old { entries = drop 1 self.old.entries } }
     {

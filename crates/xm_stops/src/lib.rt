@@ -1,14 +1,10 @@
 //! The stops that are held of one security until the last price reaches their triggers, and those that wait to come in.
 #![tactic(auto)]
 
-mod entry;
 mod entry_queue;
-mod expiry;
-mod listing;
-mod reached;
-mod slots;
 mod stop_queues;
 mod stops;
+mod taking;
 mod trigger_queues;
 mod trigger_table;
 

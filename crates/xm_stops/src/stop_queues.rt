@@ -1,28 +1,27 @@
 //! The held stops in their queues.
-ghost use Rattle.std.specs.Prelude.{◌≡◌, ◌+◌, ◌++◌, ◌∷◌, [], ◌<◌, ◌≤◌, Contains, IfNone, IfOk, IfSome, None, OnErr, OnOk, Some, filter, length, map, option_copied, true};
+ghost use Rattle.std.specs.Prelude.{◌≡◌, All, ◌+◌, ◌++◌, ◌∷◌, [], ◌<◌, ◌≤◌, Contains, IfNone, IfOk, IfSome, IsSome, None, OnErr, OnOk, Some, filter, length, map, option_copied, true};
 ghost use Rattle.std.specs.List.{list_all};
 ghost use Rattle.xm_queues.specs.Keys.{AreDistinct};
-ghost use Rattle.xm_stops.specs.Expiry.{is_below};
-ghost use Rattle.xm_stops.specs.Listing.{is_other_key, keys_in, listed_entry, rises};
+ghost use Rattle.xm_slots.specs.Listing.{is_below, is_other_key, keys_in, listed_entry, rises};
+ghost use Rattle.xm_slots.specs.Slots.{is_of};
+ghost use Rattle.xm_slots.specs.declared.listing.Listed.{Listed};
+ghost use Rattle.xm_rules.specs.declared.orders.Stop.{Stop};
+ghost use Rattle.xm_stops.specs.Listing.{owner_of};
 ghost use Rattle.xm_stops.specs.Queued.{IsReachedAt, IsReachedOn, has_reached, has_reached_on};
-ghost use Rattle.xm_stops.specs.Slots.{is_of};
-ghost use Rattle.xm_stops.specs.declared.listing.Listed.{Listed};
 ghost use Rattle.xm_ticks.specs.declared.numbers.TheConstants.{MAX_PRICE};
 
-use crate::entry::Entry;
-use crate::listing::{Listed, Listing};
-use crate::slots::Slots;
 use crate::trigger_queues::TriggerQueues;
 use std::alloc::{AllocError, Allocator};
 use std::marker::Model;
 use xm_queues::Queues;
 use xm_rules::{OutOfMemory, Side, Stop};
+use xm_slots::{Entry, Listed, Listing, Slots};
 use xm_ticks::Price;
 
 /// The held stops under their keys, each in the queue of its side and trigger.
 #[derive(Drop)]
 pub struct StopQueues<A: Allocator + Copy> {
-    entries: Slots<A>,
+    entries: Slots<Stop, A>,
     links: Queues<A>,
     triggers: TriggerQueues<A>,
     // The stop for which there is room in the other parts.
@@ -30,7 +29,7 @@ pub struct StopQueues<A: Allocator + Copy> {
     // The number of the next entry.
     adds: u64,
     // The stops in order of entry.
-    listing: Listing,
+    listing: Listing<Stop>,
 }
 
 impl<A: Allocator + Copy> Model for StopQueues<A> {
@@ -58,10 +57,12 @@ impl<A: Allocator + Copy> StopQueues<A> {
         }
     }
 
-    /// How many stops there are. Their numbers rise.
+    /// How many stops there are. Their numbers rise, and their triggers are prices.
     pub fn len(&self) -> usize
         ensures len { result ≡ length self.now.stops }
+        ensures within { result ≤ 4294967295 }
         ensures rise { rises 0 self.now.stops self.now.adds ≡ true }
+        ensures triggers { All (λ (x : Listed Stop). x.item.trigger ≤ MAX_PRICE) self.now.stops }
     {
         self.entries.len()
     }
@@ -74,9 +75,9 @@ impl<A: Allocator + Copy> StopQueues<A> {
     }
 
     /// The stop under a key, with the number of its entry.
-    pub fn get(&self, key: usize) -> Option<&Entry>
-        ensures there { (x : Listed) → Contains self.now.stops x → x.key ≡ key → option_copied result ≡ Some (listed_entry x) }
-        ensures held { IfSome (option_copied result) (Contains (map listed_entry self.now.stops)) }
+    pub fn get(&self, key: usize) -> Option<&Entry<Stop>>
+        ensures there { (x : Listed Stop) → Contains self.now.stops x → x.key ≡ key → option_copied result ≡ Some (listed_entry x) }
+        ensures held { IsSome (option_copied result) → Contains (keys_in self.now.stops) key }
     {
         self.entries.get(key)
     }
@@ -110,18 +111,18 @@ impl<A: Allocator + Copy> StopQueues<A> {
     /// The stop for which there is room joins its queue last, and the answer is its key.
     pub fn push(&mut self, stop: &Stop) -> usize
         requires { self.old.ready ≡ Some stop.now }
-        ensures { self.new ≡ record { stops = self.old.stops ++ record { key = result; time = self.old.adds; stop = stop.now } ∷ []; ready = None; adds = self.old.adds + 1 } }
+        ensures { self.new ≡ record { stops = self.old.stops ++ record { key = result; time = self.old.adds; item = stop.now } ∷ []; ready = None; adds = self.old.adds + 1 } }
     {
         let (side, trigger) = (stop.side, stop.trigger);
         let time = self.adds;
-        let key = self.entries.insert(Entry { stop: *stop, time });
+        let key = self.entries.insert(Entry { item: *stop, time });
         let mut ends = self.triggers.queue(side, trigger);
         self.links.push_back(&mut ends, key);
         self.triggers.put(side, trigger, ends);
         self.listing.join(&Listed {
             key,
             time,
-            stop: *stop,
+            item: *stop,
         });
         self.ready = None;
         self.adds += 1;
@@ -129,14 +130,14 @@ impl<A: Allocator + Copy> StopQueues<A> {
     }
 
     /// The stop of a key leaves.
-    pub fn take(&mut self, key: usize) -> Entry
+    pub fn take(&mut self, key: usize) -> Entry<Stop>
         requires { Contains (keys_in self.old.stops) key }
-        ensures entry { (x : Listed) → Contains self.old.stops x → x.key ≡ key → result ≡ listed_entry x }
+        ensures entry { (x : Listed Stop) → Contains self.old.stops x → x.key ≡ key → result ≡ listed_entry x }
         ensures left { self.new ≡ record self.old { stops = filter (is_other_key key) self.old.stops } }
         ensures distinct { AreDistinct (keys_in self.old.stops) }
     {
         let entry = self.entries.remove(key);
-        let Stop { side, trigger, .. } = entry.stop;
+        let Stop { side, trigger, .. } = entry.item;
         let mut ends = self.triggers.queue(side, trigger);
         self.links.unlink(&mut ends, key);
         self.triggers.set(side, trigger, ends);
@@ -161,8 +162,8 @@ fn capacity_for(stops: usize, capacity: usize) -> usize
 impl<A: Allocator + Copy> StopQueues<A> {
     /// The stops in order of entry, each with the number of its entry: those of a member, or all where no member is named,
     /// or `OutOfMemory` where the answer can't be held.
-    pub fn in_time(&self, member: Option<u32>) -> Result<Vec<Entry, A>, OutOfMemory>
-        ensures { IfOk result (λ entries. entries.items ≡ filter (is_of member) (map listed_entry self.now.stops)) }
+    pub fn in_time(&self, member: Option<u32>) -> Result<Vec<Entry<Stop>, A>, OutOfMemory>
+        ensures { IfOk result (λ entries. entries.items ≡ filter (is_of owner_of member) (map listed_entry self.now.stops)) }
     {
         let mut entries = self.entries.entries_of(member)?;
         entries.sort_unstable_by_key(|entry| entry.time);

@@ -1,22 +1,21 @@
 //! The held stops of one security, and the pending ones.
-ghost use Rattle.std.specs.Prelude.{◌≡◌, ◌-◌, ◌<◌, ◌≤◌, ◌++◌, ◌∷◌, [], IsTrue, filter, length, find, false, None, Some, option_copied, IfOk, OnErr, OnOk, drop, max, not, slice_get};
+ghost use Rattle.std.specs.Prelude.{◌≡◌, All, ◌+◌, ◌<◌, ◌≤◌, ◌^◌, ◌++◌, ◌∷◌, [], IsTrue, filter, length, find, false, None, Some, option_copied, IfNone, IfOk, IfSome, OnErr, OnOk, drop, max, not, slice_get};
 ghost use Rattle.std.specs.Option.{option_map};
 ghost use Rattle.xm_rules.specs.Commands.{outlasts};
 ghost use Rattle.xm_rules.specs.Orders.{is_stop_named, removed_stop, without_stops_of};
 ghost use Rattle.xm_rules.specs.Settling.{is_reached};
 ghost use Rattle.xm_rules.specs.declared.orders.Stop.{Stop};
-ghost use Rattle.xm_stops.specs.HeldStops.{have_own_names, is_known, references_of};
+ghost use Rattle.xm_stops.specs.HeldStops.{have_own_names, is_known, joined_by, references_of};
 ghost use Rattle.xm_ticks.specs.declared.numbers.TheConstants.{MAX_PRICE};
 
-use crate::entry::Entry;
 use crate::entry_queue::EntryQueue;
-use crate::expiry::drop_expired;
-use crate::reached::take_reached;
 use crate::stop_queues::StopQueues;
+use crate::taking::{Reason, take_leaving};
 use std::alloc::Allocator;
 use std::marker::Model;
 use xm_names::{Names, Seed};
 use xm_rules::{OutOfMemory, Stop};
+use xm_slots::Entry;
 use xm_ticks::Price;
 
 /// The held stops of one security. A clause sees them in order of entry, with the stop for which there is room.
@@ -49,11 +48,11 @@ impl<A: Allocator + Copy> Model for Stops<A> {
 }
 
 /// The stop of an entry.
-fn stop_of(found: Option<&Entry>) -> Option<&Stop>
-    ensures { option_copied result ≡ option_map (λ e. e.stop) (option_copied found.entry) }
+fn stop_of(found: Option<&Entry<Stop>>) -> Option<&Stop>
+    ensures { option_copied result ≡ option_map (λ e. e.item) (option_copied found.entry) }
 {
     match found {
-        Some(entry) => Some(&entry.stop),
+        Some(entry) => Some(&entry.item),
         None => None,
     }
 }
@@ -75,7 +74,7 @@ impl<A: Allocator + Copy> Stops<A> {
     {
         let entries = self.queues.in_time(None)?;
         let alloc = *entries.allocator();
-        let stops = entries.iter().map(|entry| entry.stop).collect(alloc)?;
+        let stops = entries.iter().map(|entry| entry.item).collect(alloc)?;
         Ok(stops)
     }
 
@@ -87,15 +86,17 @@ impl<A: Allocator + Copy> Stops<A> {
         let alloc = *entries.allocator();
         let references = entries
             .iter()
-            .map(|entry| entry.stop.reference)
+            .map(|entry| entry.item.reference)
             .collect(alloc)?;
         Ok(references)
     }
 
-    /// How many stops there are. No two have one name.
+    /// How many stops there are. No two have one name, and each trigger is a price.
     pub fn len(&self) -> usize
         ensures len { result ≡ length self.now.stops }
+        ensures within { result ≤ 4294967295 }
         ensures names { IsTrue (have_own_names self.now.stops) }
+        ensures triggers { All (λ (s : Stop). s.trigger ≤ MAX_PRICE) self.now.stops }
     {
         self.queues.len()
     }
@@ -136,38 +137,25 @@ impl<A: Allocator + Copy> Stops<A> {
     {
         match self.names.remove(member, reference) {
             None => None,
-            Some(key) => Some(self.queues.take(key).stop),
+            Some(key) => Some(self.queues.take(key).item),
         }
     }
 
-    /// Takes all stops of a member out, at a cost that grows with their number alone.
-    pub fn remove_all(&mut self, member: u32)
-        ensures { self.new ≡ record self.old { stops = without_stops_of member self.old.stops } }
-    {
-        while self.remove_any(member) {}
-    }
-
-    /// Takes some stop of a member out, or answers `false` where it has none.
-    fn remove_any(&mut self, member: u32) -> bool
-        ensures none { result ≡ false → self.new ≡ record self.old { stops = without_stops_of member self.old.stops } }
-        ensures some { IsTrue result → length self.new.stops < length self.old.stops }
+    /// Takes some stop of a member out and answers it, or nothing where the member has none, at a cost that doesn't grow with
+    /// their number. Whoever takes all of a member's stops out asks again until there is none, and can let go with each what
+    /// is kept for it elsewhere, as a place in the book.
+    pub fn remove_any(&mut self, member: u32) -> Option<Stop>
+        ensures found { IfSome result (λ (s : Stop). find (is_stop_named member s.reference) self.old.stops ≡ Some s) }
+        ensures removed { IfSome result (λ (s : Stop). self.new ≡ record self.old { stops = removed_stop member s.reference self.old.stops }) }
+        ensures fewer { IfSome result (λ s. length self.new.stops + 1 ≡ length self.old.stops) }
+        ensures none { IfNone result (without_stops_of member self.old.stops ≡ self.old.stops) }
+        ensures kept { IfNone result (self.new ≡ self.old) }
         ensures left { without_stops_of member self.new.stops ≡ without_stops_of member self.old.stops }
-        ensures rest { self.new ≡ record self.old { stops = self.new.stops } }
     {
         match self.names.pop(member) {
-            None => false,
-            Some((_reference, key)) => {
-                self.queues.take(key);
-                true
-            }
+            None => None,
+            Some((_reference, key)) => Some(self.queues.take(key).item),
         }
-    }
-
-    /// Takes the stops that aren't valid beyond this day out, in one pass over them.
-    pub fn remove_expired(&mut self, today: u32)
-        ensures { self.new ≡ record self.old { stops = filter (λ (s : Stop). outlasts today s.validity) self.old.stops } }
-    {
-        drop_expired(&mut self.queues, &mut self.names, today);
     }
 
     /// The stop of this name.
@@ -184,19 +172,34 @@ impl<A: Allocator + Copy> Stops<A> {
     pub fn take_reached(&mut self, last: Price, pending: &mut Pending<A>)
         requires { length self.old.stops ≤ pending.old.room }
         ensures held { self.new ≡ record self.old { stops = filter (λ (s : Stop). not (is_reached last s)) self.old.stops } }
-        ensures pending { pending.new ≡ record { stops = pending.old.stops ++ filter (is_reached last) self.old.stops; room = pending.old.room - length (filter (is_reached last) self.old.stops) } }
+        ensures pending { pending.new ≡ joined_by (filter (is_reached last) self.old.stops) pending.old }
     {
-        take_reached(
+        take_leaving(
             &mut self.queues,
             &mut self.names,
-            last,
+            Reason::Reached(last),
+            &mut pending.entries,
+        );
+    }
+
+    /// The stops that aren't valid beyond this day leave in order of entry, and stand behind the pending ones, as at the end
+    /// of the day. There is room among the pending ones for all that are held. It costs one pass over the keys.
+    pub fn take_expired(&mut self, today: u32, pending: &mut Pending<A>)
+        requires { length self.old.stops ≤ pending.old.room }
+        ensures held { self.new ≡ record self.old { stops = filter (λ (s : Stop). outlasts today s.validity) self.old.stops } }
+        ensures pending { pending.new ≡ joined_by (filter (λ (s : Stop). not (outlasts today s.validity)) self.old.stops) pending.old }
+    {
+        take_leaving(
+            &mut self.queues,
+            &mut self.names,
+            Reason::Expired(today),
             &mut pending.entries,
         );
     }
 }
 
-/// The stops that were reached and wait to come in, the first of which comes in first. `reserve` makes room, and nothing
-/// else takes memory.
+/// The stops that were reached and wait to come in, the first of which comes in first, and those that a day has ended for,
+/// which wait to be given up. `reserve` makes room, and nothing else takes memory.
 #[derive(Drop)]
 pub struct Pending<A: Allocator> {
     entries: EntryQueue<A>,
@@ -224,7 +227,8 @@ impl<A: Allocator> Pending<A> {
 
     /// How many stops are pending.
     pub fn len(&self) -> usize
-        ensures { result ≡ length self.now.stops }
+        ensures len { result ≡ length self.now.stops }
+        ensures within { result + self.now.room < 2 ^ 64 }
     {
         self.entries.len()
     }
@@ -245,6 +249,6 @@ impl<A: Allocator> Pending<A> {
         ensures rest { self.new ≡ record self.old { stops = drop 1 self.old.stops } }
     {
         let entry = self.entries.pop()?;
-        Some(entry.stop)
+        Some(entry.item)
     }
 }

@@ -1,4 +1,4 @@
-use Rattle.xm_stops.proofs.Expiring.{all-below}
+use Rattle.xm_slots.proofs.Expiring.{all-below}
 use Rattle.xm_stops.proofs.stop_queues.StopQueues.key_limit.Goals as goal
 
 pub returns : goal.returns

@@ -1,6 +1,6 @@
 use Rattle.xm_stops.proofs.Growing.{room-for}
 use Rattle.xm_stops.proofs.Joining.{joined, lacks}
-use Rattle.xm_stops.proofs.Keeping.{rises-push}
+use Rattle.xm_slots.proofs.Keeping.{rises-push}
 use Rattle.xm_stops.proofs.stop_queues.StopQueues.push.Goals as goal
 
 pub push_back-requires-clause-queue : goal.push_back-requires-clause-queue

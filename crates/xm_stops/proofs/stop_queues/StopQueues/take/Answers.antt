@@ -1,14 +1,15 @@
 use Rattle.std.proofs.Common.{arith}
 use Rattle.xm_stops.proofs.Growing.{ready-kept}
-use Rattle.xm_stops.proofs.Keeping.{rises-kept}
-use Rattle.xm_stops.proofs.Leaving.{key-there, left-queued, placed-there, queue-there, there-at}
-use Rattle.xm_stops.specs.Listing.{is_other_key}
+use Rattle.xm_slots.proofs.Keeping.{rises-kept}
+use Rattle.xm_slots.proofs.Leaving.{there-at}
+use Rattle.xm_stops.proofs.Leaving.{key-there, left-queued, placed-there, queue-there}
+use Rattle.xm_slots.specs.Listing.{is_other_key}
 use Rattle.xm_stops.proofs.stop_queues.StopQueues.take.Goals as goal
 
 pub remove-entry-requires : goal.remove-entry-requires
 remove-entry-requires g c =
     let q = c.self.inside in
-    there-at q.listing q.entries q.links q.triggers c.self.invariant.queued c.args.key (rw (← c.self.view_is) at c.requires)
+    there-at q.listing q.entries c.self.invariant.queued.lie c.args.key (rw (← c.self.view_is) at c.requires)
 
 pub queue-ends-requires : goal.queue-ends-requires
 queue-ends-requires g c =

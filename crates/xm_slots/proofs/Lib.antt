@@ -1,0 +1,11 @@
+mod Collecting
+pub mod Distinct
+pub mod Expiring
+pub mod InTime
+pub mod Keeping
+pub mod Leaving
+pub mod Members
+pub mod Rising
+pub mod SlotKeys
+pub mod Tests
+mod Timeline

@@ -1,0 +1,25 @@
+-- What a change leaves of the list.
+use Rattle.std.proofs.Common.{◌≡◌, ℕ, List, [], ◌∷◌, ◌++◌, filter, sym, ap, ◌∙◌}
+use Rattle.std.specs.declared.snapshot.Snapshot.{Snapshot}
+use Rattle.xm_slots.specs.Listing.{is_other_key}
+use Rattle.xm_slots.specs.Timeline.{list_after, listed}
+use Rattle.xm_slots.specs.declared.listing.Change.{Change, fold-Change, fold-roll-Change}
+use Rattle.xm_slots.specs.declared.listing.Change.TheOpen as open'
+use Rattle.xm_slots.specs.declared.listing.Change.TheVariants.{Nothing, Joined, Left, rolls-Nothing, rolls-Joined, rolls-Left}
+use Rattle.xm_slots.specs.declared.listing.Listed.{Listed}
+
+module _ {I : Type 0} where
+  pub listed-nothing : listed {I = I} Nothing ≡ []
+  unfolding listed
+  listed-nothing = ap (fold-Change I (List (Listed I)) list_after) (sym rolls-Nothing) ∙ fold-roll-Change I (List (Listed I)) list_after open'.Nothing
+
+  -- where the snapshots show a value and what was before
+  pub listed-joined : (shown : Snapshot (Listed I)) (before : Snapshot (Change I)) (x : Listed I) (c : Change I) → shown.value ≡ x → before.value ≡ c → listed (Joined shown before) ≡ listed c ++ x ∷ []
+  unfolding listed
+  listed-joined shown before x c e f =
+      ap (fold-Change I (List (Listed I)) list_after) (sym (rolls-Joined shown before)) ∙ fold-roll-Change I (List (Listed I)) list_after (open'.Joined shown before) ∙ (λ i. fold-Change I (List (Listed I)) list_after (f i) ++ e i ∷ [])
+
+  pub listed-left : (shown : Snapshot ℕ) (before : Snapshot (Change I)) (key : ℕ) (c : Change I) → shown.value ≡ key → before.value ≡ c → listed (Left shown before) ≡ filter (is_other_key key) (listed c)
+  unfolding listed
+  listed-left shown before key c e f =
+      ap (fold-Change I (List (Listed I)) list_after) (sym (rolls-Left shown before)) ∙ fold-roll-Change I (List (Listed I)) list_after (open'.Left shown before) ∙ (λ i. filter (is_other_key (e i)) (fold-Change I (List (Listed I)) list_after (f i)))

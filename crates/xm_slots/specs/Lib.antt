@@ -1,0 +1,5 @@
+pub mod Listing
+pub mod Slot
+pub mod Slots
+pub mod Timeline
+pub mod Vacancies

@@ -1,0 +1,59 @@
+//! One slot.
+ghost use Rattle.std.specs.Prelude.{◌≡◌, ◌<◌, None, Some, option_copied};
+ghost use Rattle.xm_slots.specs.declared.slot.TheConstants.{VACANT};
+
+use crate::entry::Entry;
+use std::marker::Model;
+
+/// The number of no entry.
+pub const VACANT: u64 = u64::MAX;
+
+/// An entry or none, in the bytes of an entry: no entry has the greatest number. A clause sees an `Option`.
+#[derive(Drop)]
+pub struct Slot<I> {
+    entry: Entry<I>,
+}
+
+impl<I> Model for Slot<I> {
+    ghost use Rattle.std.specs.Prelude.{Option};
+    ghost use Rattle.xm_slots.specs.Slot.{entry_in};
+    ghost use Rattle.xm_slots.specs.declared.entry.Entry.{Entry};
+
+    ghost Value = { Option (Entry I) };
+
+    ghost view = { λ s. entry_in s.entry };
+}
+
+impl<I: Copy> Slot<I> {
+    /// A slot with this entry.
+    #[inline(always)]
+    pub fn of(entry: Entry<I>) -> Slot<I>
+        requires { entry.time < VACANT }
+        ensures { result ≡ Some entry }
+    {
+        Slot { entry }
+    }
+
+    /// The entry, if there is one.
+    #[inline(always)]
+    pub fn get(&self) -> Option<&Entry<I>>
+        ensures { option_copied result ≡ self.now }
+    {
+        if self.entry.time == VACANT {
+            None
+        } else {
+            Some(&self.entry)
+        }
+    }
+
+    /// Takes the entry out, if there is one.
+    #[inline(always)]
+    pub fn take(&mut self) -> Option<Entry<I>>
+        ensures entry { result ≡ self.old }
+        ensures vacant { self.new ≡ None }
+    {
+        let entry = self.get().copied();
+        self.entry.time = VACANT;
+        entry
+    }
+}

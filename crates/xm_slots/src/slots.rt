@@ -1,0 +1,156 @@
+//! Entries under keys that are given and come back.
+ghost use Rattle.std.specs.Prelude.{◌≡◌, ℕ, ◌+◌, ◌<◌, ◌≤◌, [], None, Some, IfOk, IsSome, OnErr, OnOk, length, option_copied};
+ghost use Rattle.xm_slots.specs.declared.slot.TheConstants.{VACANT};
+ghost use Rattle.xm_slots.specs.Slots.{ContainsKey, Updates, entries_of, get, is_of, used};
+
+use crate::entry::{Entry, OfMember};
+use crate::slot::Slot;
+use std::alloc::{AllocError, Allocator};
+use std::marker::Model;
+
+/// Entries, each under a key below the capacity. A key that has come back is given again before a new one.
+#[derive(Drop)]
+pub struct Slots<I, A: Allocator> {
+    entries: Vec<Slot<I>, A>,
+    // The keys below the length of `entries` that have no entry.
+    vacant: Vec<u32, A>,
+    capacity: usize,
+}
+
+impl<I, A: Allocator> Model for Slots<I, A> {
+    ghost use Rattle.xm_slots.specs.Slots.{SlotsView};
+    ghost use Rattle.xm_slots.specs.Vacancies.{IsSound};
+
+    ghost Value = { SlotsView I };
+
+    ghost view = { λ s. record { slots = s.entries.items; capacity = s.capacity } };
+
+    ghost invariant = { λ s. IsSound s.entries s.vacant s.capacity };
+}
+
+impl<I: Copy, A: Allocator + Copy> Slots<I, A> {
+    /// No entry, and no room, which takes no memory.
+    pub fn new(alloc: A) -> Slots<I, A>
+        ensures { result ≡ record { slots = []; capacity = 0 } }
+    {
+        Slots {
+            entries: Vec::new(alloc),
+            vacant: Vec::new(alloc),
+            capacity: 0,
+        }
+    }
+}
+
+impl<I: Copy, A: Allocator> Slots<I, A> {
+    /// How many entries there are.
+    pub fn len(&self) -> usize
+        ensures used { result ≡ used self.now }
+        ensures within { result ≤ 4294967295 }
+    {
+        self.entries.len() - self.vacant.len()
+    }
+
+    /// For how many entries there is room.
+    pub fn capacity(&self) -> usize
+        ensures capacity { result ≡ self.now.capacity }
+        ensures within { used self.now ≤ result }
+        ensures keys { result ≤ 4294967295 }
+    {
+        self.capacity
+    }
+
+    /// A bound above each key that has an entry.
+    pub fn key_limit(&self) -> usize
+        ensures { result ≡ length self.now.slots }
+    {
+        self.entries.len()
+    }
+
+    /// Makes room for so many entries in all.
+    pub fn grow_to(&mut self, capacity: usize) -> Result<(), AllocError>
+        requires more { self.old.capacity ≤ capacity }
+        requires keys { capacity ≤ 4294967295 }
+        ensures ok { OnOk result (self.new ≡ record self.old { capacity = capacity }) }
+        ensures err { OnErr result (self.new ≡ self.old) }
+    {
+        self.entries.reserve(capacity - self.entries.len())?;
+        self.vacant.reserve(capacity - self.vacant.len())?;
+        self.capacity = capacity;
+        Ok(())
+    }
+
+    /// The entry under a key.
+    #[inline(always)]
+    pub fn get(&self, key: usize) -> Option<&Entry<I>>
+        ensures { option_copied result ≡ get self.now key }
+    {
+        self.entries.get(key)?.get()
+    }
+
+    /// Puts an entry under a key that had none, in room that is there.
+    #[inline(always)]
+    pub fn insert(&mut self, entry: Entry<I>) -> usize
+        requires room { used self.old < self.old.capacity }
+        requires timed { entry.time < VACANT }
+        ensures vacant { get self.old result ≡ None }
+        ensures updates { Updates self.old self.new result (Some entry) }
+        ensures used { used self.new ≡ used self.old + 1 }
+        ensures within { result < self.old.capacity }
+        ensures capacity { self.new.capacity ≡ self.old.capacity }
+    {
+        match self.vacant.pop() {
+            Some(key) => {
+                let key = key as usize;
+                self.entries[key] = Slot::of(entry);
+                key
+            }
+            None => {
+                let key = self.entries.len();
+                self.entries.push_reserved(Slot::of(entry));
+                key
+            }
+        }
+    }
+
+    /// Takes the entry of a key out.
+    #[inline(always)]
+    pub fn remove(&mut self, key: usize) -> Entry<I>
+        requires { ContainsKey self.old key }
+        ensures value { get self.old key ≡ Some result }
+        ensures updates { Updates self.old self.new key None }
+        ensures used { used self.new + 1 ≡ used self.old }
+        ensures capacity { self.new.capacity ≡ self.old.capacity }
+    {
+        let entry = self.entries[key].take().unwrap();
+        self.vacant.push_reserved(key as u32);
+        entry
+    }
+}
+
+impl<I: Copy + OfMember, A: Allocator + Copy> Slots<I, A> {
+    /// The entries of a member, or all where no member is named, by rising key, or `AllocError` where the answer can't be
+    /// held.
+    pub fn entries_of(&self, member: Option<u32>) -> Result<Vec<Entry<I>, A>, AllocError>
+        ensures { IfOk result (λ entries. entries.items ≡ entries_of I.member_of member self.now) }
+    {
+        let mut entries = Vec::new(*self.entries.allocator());
+        for slot in &self.entries {
+            if let Some(entry) = slot.get() {
+                if is_of(member, entry) {
+                    entries.push(*entry)?;
+                }
+            }
+        }
+        Ok(entries)
+    }
+}
+
+/// Whether an entry is of this member, or of any where no member is named.
+fn is_of<I: OfMember>(member: Option<u32>, entry: &Entry<I>) -> bool
+    ensures { result ≡ is_of I.member_of member entry.now }
+{
+    match member {
+        Some(member) => entry.item.member() == member,
+        None => true,
+    }
+}
