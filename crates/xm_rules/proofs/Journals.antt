@@ -1,9 +1,10 @@
 -- What a replay by one command more is, and what a lawful journal keeps.
-use Rattle.std.proofs.Common.{◌≡◌, ◌+◌, true, List, [], ◌∷◌, ◌++◌, length, None, is_none, refl, arith}
+use Rattle.std.proofs.Common.{◌≡◌, ◌+◌, true, List, [], ◌∷◌, ◌++◌, drop, length, None, is_none, refl, arith}
 use Rattle.std.proofs.lemmas.Bool.{and_parts}
 use Rattle.xm_rules.specs.Refusals.{refusal_of}
 use Rattle.xm_rules.specs.State.{State, opening}
-use Rattle.xm_rules.specs.Step.{Journal, step, replay, replay_from, is_lawful, is_lawful_from}
+use Rattle.xm_rules.specs.Step.{Journal, step, replay, replay_from, is_lawful, is_lawful_from, reply}
+use Rattle.xm_rules.specs.Sums.{total_money, total_quantity}
 use Rattle.xm_rules.specs.declared.commands.Command.{Command}
 use Rattle.xm_rules.specs.declared.settings.DeskSettings.{DeskSettings}
 
@@ -45,3 +46,9 @@ step-accepted s c = refl
 pub replay_from-accepted : (s : State) (cs : List Command) → (replay_from s cs).accepted ≡ s.accepted + length cs
 replay_from-accepted s [] = omega arith
 replay_from-accepted s (c ∷ cs) = omega (arith, step-accepted s c, replay_from-accepted (step s c) cs)
+
+-- the parts of a reply
+pub reply-parts : (s t : State)
+    → reply s t ≡ (let trades = drop (length s.trades) t.trades in record { version = t.accepted; first_trade = length s.trades; trades = length trades; quantity = total_quantity trades; money = total_money trades; phase = t.phase })
+unfolding reply
+reply-parts s t = refl

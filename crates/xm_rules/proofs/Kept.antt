@@ -32,7 +32,7 @@ either : (s a b : State) (t : Bool) → Keeps s a → Keeps s b → Keeps s (if 
 either s a b true h i = h
 either s a b false h i = i
 
-come-keeps : (s : State) (o : Order) → Keeps s (come s o)
+pub come-keeps : (s : State) (o : Order) → Keeps s (come s o)
 come-keeps s o =
     either s _ (joined s o) (is_continuous s.phase && is_free o.restriction)
     (either s (swept s o) _ (rest_after (sweep_of s o) == 0) (record { settings = refl; accepted = refl }) (record { settings = refl; accepted = refl }))

@@ -8,6 +8,7 @@ pub mod Checks
 pub mod Choices
 pub mod ComingIn
 pub mod DayLimits
+pub mod Following
 pub mod InHand
 pub mod Moments
 pub mod OneName
@@ -23,7 +24,6 @@ pub mod Queues
 pub mod ReachedStops
 pub mod Remaining
 pub mod Replays
-pub mod Served
 pub mod SettledSums
 pub mod Sums
 pub mod SweepSizes

@@ -82,7 +82,7 @@ module _ (member reference : ℕ) where
   at_most a b n true h i = h
   at_most a b n false h i = i
 
-  come-uses : (s : State) (o : Order) → uses (come s o) ≤ uses s + named o
+  pub come-uses : (s : State) (o : Order) → uses (come s o) ≤ uses s + named o
   come-uses s o =
       let w = sweep_of s o in
       let rest : Order = record o { rest = rest_after w } in
@@ -165,7 +165,7 @@ module _ (member reference : ℕ) where
   free-name : (s : State) → has_order s member reference ≡ false → has_stop s member reference ≡ false → uses s ≡ 0
   free-name s e f = omega (arith, count-none (is_named member reference) s.orders e, count-none (is_stop_named member reference) s.stops f)
 
-  act-uses : (s : State) (c : Command) → refusal_of s c ≡ None → uses s ≤ 1 → uses (act s c) ≤ 1
+  pub act-uses : (s : State) (c : Command) → refusal_of s c ≡ None → uses s ≤ 1 → uses (act s c) ≤ 1
   act-uses s (Enter m r side kind quantity validity restriction condition) accepted l =
       let o = entered_order m r side kind quantity validity restriction in
       let passes = entry-accepted s m r side kind quantity validity restriction condition accepted in

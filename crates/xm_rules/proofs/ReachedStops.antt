@@ -1,5 +1,5 @@
 -- Settling leaves no stop that is reached, and as many turns as there are stops suffice for it.
-use Rattle.std.proofs.Common.{◌≡◌, ℕ, zero, suc, ◌+◌, ◌≤◌, ◌==◌, Bool, true, false, ◌&&◌, not, if◌then◌else◌, List, [], ◌∷◌, ◌++◌, length, length-append, All, refl, sym, ap, arith}
+use Rattle.std.proofs.Common.{◌≡◌, ℕ, zero, suc, ◌+◌, ◌≤◌, ◌==◌, Bool, true, false, ◌&&◌, not, if◌then◌else◌, List, [], ◌∷◌, ◌++◌, length, length-append, All, refl, sym, ap, ◌∙◌, arith}
 use Rattle.std.proofs.lemmas.List.Elements.{All-nil, All-weaker, filter_passes}
 use Rattle.std.proofs.lemmas.List.Filters.{length-filter_both}
 use Rattle.xm_rules.specs.Settling.{come, is_continuous, is_free, is_reached, joined, order_of_stop, reached, released, settle, settle_in, sweep_of, swept, take_pending}
@@ -28,7 +28,7 @@ was_false true e = absurd (cc)
 was_false false e = refl
 
 -- the stops that are left, held and released ones, are as many as before
-as_many : (s : State) (pending : List Stop) → length (released s).stops + length (pending ++ reached s) ≡ length s.stops + length pending
+pub as_many : (s : State) (pending : List Stop) → length (released s).stops + length (pending ++ reached s) ≡ length s.stops + length pending
 as_many s pending = omega (arith, length-append pending (reached s), length-filter_both (is_reached (ref1 s)) (λ (stop : Stop). not (is_reached (ref1 s) stop)) (λ stop. refl) s.stops)
 
 released-none : (s : State) → NoneReached (released s)
@@ -85,3 +85,31 @@ enough (suc turns) (suc more) s pending few rest =
 
 pub more_turns : (s : State) (pending : List Stop) (more : ℕ) → settle_in (length s.stops + length pending + more) s pending ≡ settle s pending
 more_turns s pending more = enough (length s.stops + length pending + more) (length s.stops + length pending) s pending (omega arith) (omega arith)
+
+-- ---- one turn
+
+nothing_released : (s : State) (held : List Stop) → s.stops ≡ held → length held ≤ 0 → s ≡ released s
+nothing_released s [] e few = rw e refl
+nothing_released s (stop ∷ stops) e few = absurd (omega (arith, few))
+
+settled_with : (n : ℕ) (s : State) (pending : List Stop) → length s.stops + length pending ≡ n → pending ++ reached s ≡ [] → settle_in n s pending ≡ released s
+settled_with zero s pending e none = nothing_released s s.stops refl (omega (arith, e))
+settled_with (suc n) s pending e none = ap (λ (stops : List Stop). take_pending (settle_in n) (released s) stops) none
+
+-- where no stop is reached or pending, nothing comes in
+pub settle-none : (s : State) (pending : List Stop) → pending ++ reached s ≡ [] → settle s pending ≡ released s
+settle-none s pending none = settled_with (length s.stops + length pending) s pending refl none
+
+turned : (n : ℕ) (s : State) (pending : List Stop) (stop : Stop) (rest : List Stop) → length s.stops + length pending ≡ n → pending ++ reached s ≡ stop ∷ rest
+    → settle_in n s pending ≡ settle (come (released s) (order_of_stop stop)) rest
+turned zero s pending stop rest e next = absurd (omega (arith, e, as_many s pending, ap (λ (stops : List Stop). length stops) next))
+turned (suc n) s pending stop rest e next =
+    let t = come (released s) (order_of_stop stop) in
+    let kept = ap (λ (stops : List Stop). length stops) (come-stops (released s) (order_of_stop stop)) in
+    let left : n ≡ length t.stops + length rest = omega (arith, e, as_many s pending, ap (λ (stops : List Stop). length stops) next, kept) in
+    ap (λ (stops : List Stop). take_pending (settle_in n) (released s) stops) next ∙ ap (λ (turns : ℕ). settle_in turns t rest) left
+
+-- else the first of them comes in, and settling goes on from there
+pub settle-turn : (s : State) (pending : List Stop) (stop : Stop) (rest : List Stop) → pending ++ reached s ≡ stop ∷ rest
+    → settle s pending ≡ settle (come (released s) (order_of_stop stop)) rest
+settle-turn s pending stop rest next = turned (length s.stops + length pending) s pending stop rest refl next

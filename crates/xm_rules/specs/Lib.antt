@@ -9,7 +9,6 @@ pub mod Orders
 pub mod Priority
 pub mod Quote
 pub mod Refusals
-pub mod Served
 pub mod Settling
 pub mod Sides
 pub mod State

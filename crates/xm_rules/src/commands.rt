@@ -2,7 +2,6 @@
 ghost use Rattle.std.specs.Prelude.{◌≡◌, IsTrue};
 ghost use Rattle.xm_rules.specs.Commands.{has_prices_in_range, is_bad_combination, is_immediate, is_in_range, is_stop, member_of, order_kind, trigger_of};
 ghost use Rattle.xm_rules.specs.Refusals.{is_allowed, is_given_in_range};
-ghost use Rattle.xm_rules.specs.Served.{is_served};
 
 use crate::orders::{OrderKind, Restriction, Side, Validity};
 use crate::phases::Phase;
@@ -192,16 +191,6 @@ impl Command {
             Command::Uncross => matches!(phase, Phase::Call(_, _)),
             Command::EndDay => phase == Phase::PostTrading,
             _ => false,
-        }
-    }
-
-    /// Whether a desk serves the command. Today it serves all but the entries of stops.
-    pub fn is_served(&self) -> bool
-        ensures { result ≡ is_served self.now }
-    {
-        match self {
-            Command::Enter { kind, .. } => !kind.is_stop(),
-            _ => true,
         }
     }
 }
