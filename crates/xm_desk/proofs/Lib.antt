@@ -1,8 +1,12 @@
 mod CallsEnd
+mod Frames
 mod Changing
 mod Entering
-mod Hands
+mod Shorter
+mod Leaving
+mod Making
 mod Named
 mod Stepping
 mod Sweeping
 mod Tapes
+mod Turning

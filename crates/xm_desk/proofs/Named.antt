@@ -15,14 +15,15 @@ pub find-passes : (p : Order → Bool) (os : List Order) (x : Order) → find p 
 find-passes p [] x h = cc
 find-passes p (o ∷ os) x h = found_if p o x os (p o) refl (find-passes p os x) h
 
-found-any_if : (o : Order) (os : List Order) (b any : Bool) (found : Option Order) → any ≡ is_some found → (b || any) ≡ is_some (cond b (Some o) found)
-found-any_if o os true any found e = refl
-found-any_if o os false any found e = e
+module _ {X : Type 0} (p : X → Bool) where
+  found-any_if : (x : X) (b any : Bool) (found : Option X) → any ≡ is_some found → (b || any) ≡ is_some (cond b (Some x) found)
+  found-any_if x true any found e = refl
+  found-any_if x false any found e = e
 
--- a test passes where an order is found
-pub any-find : (p : Order → Bool) (os : List Order) → list_any p os ≡ is_some (find p os)
-any-find p [] = refl
-any-find p (o ∷ os) = found-any_if o os (p o) (list_any p os) (find p os) (any-find p os)
+  -- a test passes where something is found
+  pub any-find : (xs : List X) → list_any p xs ≡ is_some (find p xs)
+  any-find [] = refl
+  any-find (x ∷ xs) = found-any_if x (p x) (list_any p xs) (find p xs) (any-find xs)
 
 left_out_if : (p : Order → Bool) (o : Order) (os : List Order) (b : Bool) → p o ≡ b → list_any p os ≡ false → list_any p (cond (not b) (o ∷ os) os) ≡ false
 left_out_if p o os true e h = h

@@ -1,100 +1,124 @@
 -- A command is taken by what it does, by settling, and by counting it.
-use Rattle.std.proofs.Common.{◌≡◌, ◌∙◌, ℕ, ◌+◌, ◌<◌, ◌≤◌, List, [], None, true, All, drop, length, ap, sym, subst, arith}
+use Rattle.std.proofs.Common.{◌≡◌, ◌∙◌, ℕ, ◌+◌, ◌<◌, ◌≤◌, List, [], ◌++◌, None, true, All, length, count_by, refl, ap, sym, subst, arith}
 use Rattle.std.proofs.lemmas.List.{length-append}
-use Rattle.std.proofs.lemmas.List.Sums.{sum_by-append}
-use Rattle.std.proofs.lemmas.List.Elements.{All-append}
-use Rattle.xm_desk.specs.Made.{AreFew, AreSized, IsCounted}
+use Rattle.std.proofs.lemmas.List.Elements.{All-append, All-nil}
+use Rattle.xm_book.specs.TimeList.{TimeList}
+use Rattle.xm_desk.proofs.Making.{new-made}
+use Rattle.xm_desk.specs.Frame.{IsFramed}
+use Rattle.xm_desk.specs.Made.{AreFew, AreSized, CanSettle, IsCounted, Makes}
+use Rattle.xm_desk.specs.Settled.{Unsettled, joined_in, places_in, played, possible_trades, trades_in}
+use Rattle.xm_desk.specs.declared.unsettled.Hand.{Hand}
+use Rattle.xm_desk.specs.declared.unsettled.Hand.TheVariants.{Empty, Held, Kept, Played, Spare}
 use Rattle.xm_rules.proofs.Accepted.{accepted-below}
-use Rattle.xm_rules.proofs.Served.{act-follows, act-trades, reply-parts, step-counted}
-use Rattle.xm_rules.specs.Refusals.{refusal_of}
-use Rattle.xm_rules.specs.Served.{HoldsNoStops, is_served}
+use Rattle.xm_rules.proofs.Following.{act-follows}
+use Rattle.xm_rules.proofs.Kept.{act-keeps, step-counts}
+use Rattle.xm_rules.proofs.OneName.{act-uses}
 use Rattle.xm_rules.proofs.TradeSizes.{money_within, quantity_within}
-use Rattle.xm_rules.specs.declared.orders.Trade.{Trade}
-use Rattle.xm_rules.specs.declared.settings.DeskSettings.{DeskSettings}
-use Rattle.xm_ticks.specs.declared.numbers.TheConstants.{MAX_PRICE, MAX_QUANTITY}
-use Rattle.xm_desk.specs.Settled.{Unsettled, played}
-use Rattle.xm_rules.proofs.Kept.{act-keeps, settle-keeps, step-counts}
+use Rattle.xm_rules.specs.Commands.{is_in_range}
+use Rattle.xm_rules.specs.Orders.{is_stop_named}
+use Rattle.xm_rules.specs.Refusals.{refusal_of}
 use Rattle.xm_rules.specs.Settling.{settle}
 use Rattle.xm_rules.specs.State.{State}
-use Rattle.xm_rules.specs.Step.{act, new_trades, reply, step}
+use Rattle.xm_rules.specs.Step.{act, new_trades, step}
 use Rattle.xm_rules.specs.Sums.{total_money, total_quantity}
-use Rattle.xm_rules.specs.declared.replies.Reply.{Reply}
-use Rattle.xm_desk.specs.declared.unsettled.Hand.TheVariants.{Empty}
 use Rattle.xm_rules.specs.declared.commands.Command.{Command}
+use Rattle.xm_rules.specs.declared.orders.Order.{Order}
 use Rattle.xm_rules.specs.declared.orders.Stop.{Stop}
+use Rattle.xm_rules.specs.declared.orders.Trade.{Trade}
+use Rattle.xm_rules.specs.declared.settings.DeskSettings.{DeskSettings}
+use Rattle.xm_stops.specs.HeldStops.{HeldStops, PendingStops}
+use Rattle.xm_ticks.specs.declared.numbers.TheConstants.{MAX_PRICE, MAX_QUANTITY}
 
--- the state after settling, where none was pending before
-pub settled-state : (u a t : Unsettled) (command : Command) → u.pending ≡ [] → a ≡ record u { state = act u.state command; hand = played u.hand; room = a.room }
-    → t ≡ record a { state = settle a.state a.pending; pending = [] } → t.state ≡ settle (act u.state command) []
-settled-state u a t command none acted settled =
-    ap (λ (w : Unsettled). w.state) settled
-    ∙ ap (λ (w : Unsettled). settle w.state w.pending) acted
-    ∙ ap (λ (pending : List Stop). settle (act u.state command) pending) none
+played-none : (hand : Hand) → places_in (played hand) ≡ []
+played-none Empty = refl
+played-none Spare = refl
+played-none (Kept place) = refl
+played-none (Held stop) = refl
+played-none Played = refl
 
-pub settled-accepted : (s : State) (command : Command) → (settle (act s command) []).accepted ≡ s.accepted
-settled-accepted s command = (settle-keeps (act s command) []).accepted ∙ (act-keeps s command).accepted
+module _ (u : Unsettled) (command : Command) (settled : u.pending ≡ []) (lawful : refusal_of u.state command ≡ None) (counted : IsCounted u.state) where
+  abbrev acted : Unsettled
+  acted = record u { state = act u.state command; hand = played u.hand }
 
-pub settled-settings : (s : State) (command : Command) → (settle (act s command) []).settings ≡ s.settings
-settled-settings s command = (settle-keeps (act s command) []).settings ∙ (act-keeps s command).settings
+  none : length u.pending ≡ 0
+  none = ap (λ (stops : List Stop). length stops) settled
 
--- ---- with no stop held
+  -- what it reaches can be settled
+  acted-standing : CanSettle acted
+  acted-standing =
+      let s = u.state in
+      let keeps = act-keeps s command in
+      let follows = act-follows s command lawful in
+      record {
+        hand = played-none u.hand;
+        accepted = omega (arith, accepted-below s command lawful, keeps.accepted, ap (λ (x : DeskSettings). x.limit) keeps.settings);
+        sweeps = omega (arith, follows.numbers, counted.sweeps, keeps.accepted, none);
+        names = λ m r. (let before = counted.names m r in
+            let l = act-uses m r s command lawful (omega (arith, before)) in
+            omega (arith, l, ap (λ (stops : List Stop). count_by (is_stop_named m r) stops) settled));
+        units = follows.units counted.units;
+        pending_units = subst (λ (stops : List Stop). All (λ (stop : Stop). is_in_range stop.quantity ≡ true) stops) (sym settled) (All-nil (λ (stop : Stop). is_in_range stop.quantity ≡ true));
+      }
 
-pub step-trades : (s : State) (command : Command) → is_served command ≡ true → HoldsNoStops s → (step s command).trades ≡ (act s command).trades
-step-trades s command served none = ap (λ (t : State). t.trades) (step-counted s command ((act-follows s command served).stops none))
+  pub can-settle : (a : Unsettled) → a ≡ acted → CanSettle a
+  can-settle a is = subst CanSettle (sym is) acted-standing
 
-pub step-is-counted : (s : State) (command : Command) → is_served command ≡ true → refusal_of s command ≡ None → HoldsNoStops s → IsCounted s
-    → AreFew (new_trades s (act s command)) → IsCounted (step s command)
-step-is-counted s command served lawful none counted few =
-    let follows = act-follows s command served in
-    let trades = act-trades s command in
-    let made = new_trades s (act s command) in
-    subst IsCounted (sym (step-counted s command (follows.stops none))) (record {
-      accepted = omega (arith, accepted-below s command lawful, ap (λ (x : DeskSettings). x.limit) (act-keeps s command).settings);
-      sweeps = omega (arith, follows.sweeps, counted.sweeps);
-      number = omega (arith, ap (λ (ts : List Trade). length ts) trades, length-append s.trades made, few.number, counted.number);
-      sized = subst AreSized (sym trades) (All-append (λ (t : Trade). t.quantity ≤ MAX_QUANTITY) s.trades made counted.sized few.sized);
-    })
+  -- and it is counted
+  pub stepped : (a t n : Unsettled) → a ≡ acted → t ≡ record a { state = settle a.state a.pending; pending = []; hand = t.hand }
+      → n ≡ record t { state = record t.state { accepted = t.state.accepted + 1 }; hand = Empty } → n ≡ record u { state = step u.state command; hand = Empty }
+  stepped a t n is settles counts =
+      let one_more : State → State = λ s. record s { accepted = s.accepted + 1 } in
+      counts
+      ∙ ap (λ (w : Unsettled). let x : Unsettled = record w { state = one_more w.state; hand = Empty } in x) settles
+      ∙ ap (λ (w : Unsettled). let x : Unsettled = record { state = one_more (settle w.state w.pending); pending = []; hand = Empty } in x) is
+      ∙ ap (λ (stops : List Stop). let x : Unsettled = record { state = one_more (settle (act u.state command) stops); pending = []; hand = Empty } in x) settled
+      ∙ ap (λ (s : State). let x : Unsettled = record { state = s; pending = []; hand = Empty } in x) (sym (step-counts u.state command))
+      ∙ ap (λ (stops : List Stop). let x : Unsettled = record { state = step u.state command; pending = stops; hand = Empty } in x) (sym settled)
 
--- what is known after a command was counted
-pub record Steps (s : State) (command : Command) (n : State) (first : ℕ) : Type 0 where
-  pub after : n ≡ step s command
-  pub within : first ≤ length n.trades
-  pub few : AreFew (drop first n.trades)
-  pub traded : total_quantity n.trades ≡ total_quantity s.trades + total_quantity (drop first n.trades)
-  pub counted : IsCounted n
-  pub replied :
-      (let trades = drop first n.trades in
-      let r : Reply = record { version = n.accepted; first_trade = first; trades = length trades; quantity = total_quantity trades; money = total_money trades; phase = n.phase } in
-      r) ≡ reply s (step s command)
+-- ---- what it trades
 
-pub steps : (u a t n : Unsettled) (s : State) (command : Command) (first : ℕ) → u.state ≡ s → u.pending ≡ [] → a ≡ record u { state = act u.state command; hand = played u.hand; room = a.room }
-    → t ≡ record a { state = settle a.state a.pending; pending = [] } → n ≡ record t { state = record t.state { accepted = t.state.accepted + 1 }; hand = Empty }
-    → HoldsNoStops s → IsCounted u.state → is_served command ≡ true → refusal_of s command ≡ None → AreFew (new_trades u.state a.state) → first ≡ length u.state.trades
-    → Steps s command n.state first
-steps u a t n s command first before none acted settled counted no_stops was served lawful few first_is =
-    let counts : State → State = λ x. record x { accepted = x.accepted + 1 } in
-    let after : n.state ≡ step s command =
-    ap (λ (v : Unsettled). v.state) counted ∙ ap counts (settled-state u a t command none acted settled ∙ ap (λ (x : State). settle (act x command) []) before) ∙ sym (step-counts s command) in
-    let is_acted : a.state ≡ act s command = ap (λ (v : Unsettled). v.state) acted ∙ ap (λ (x : State). act x command) before in
-    let made = new_trades s (act s command) in
-    let few_made : AreFew made = subst AreFew (ap (λ (x : State). new_trades x a.state) before ∙ ap (λ (x : State). new_trades s x) is_acted) few in
-    let first_here : first ≡ length s.trades = first_is ∙ ap (λ (x : State). length x.trades) before in
-    let trades : n.state.trades ≡ (act s command).trades = ap (λ (x : State). x.trades) after ∙ step-trades s command served no_stops in
-    let follow = act-trades s command in
-    let new_here : drop first n.state.trades ≡ made = ap (λ (k : ℕ). drop k n.state.trades) first_here ∙ ap (λ (ts : List Trade). drop (length s.trades) ts) trades in
-    let replied : State → ℕ → Reply = λ x k. (let ts = drop k x.trades in
-    let r : Reply = record { version = x.accepted; first_trade = k; trades = length ts; quantity = total_quantity ts; money = total_money ts; phase = x.phase } in
-    r) in
-    record {
-      after = after;
-      within = omega (arith, first_here, ap (λ (ts : List Trade). length ts) trades, ap (λ (ts : List Trade). length ts) follow, length-append s.trades made);
-      few = subst AreFew (sym new_here) few_made;
-      traded =
-          ap total_quantity (trades ∙ follow) ∙ sum_by-append (λ (t : Trade). t.quantity) s.trades made
-          ∙ ap (λ (ts : List Trade). total_quantity s.trades + total_quantity ts) (sym new_here);
-      counted = subst IsCounted (sym after) (step-is-counted s command served lawful no_stops (subst IsCounted before was) few_made);
-      replied = ap (λ (x : State). replied x first) after ∙ ap (replied (step s command)) first_here ∙ sym (reply-parts s (step s command));
-    }
+in_hand_once : (hand : Hand) → joined_in hand + trades_in hand ≤ 1
+in_hand_once Empty = omega arith
+in_hand_once Spare = omega arith
+in_hand_once (Kept place) = omega arith
+in_hand_once (Held stop) = omega arith
+in_hand_once Played = omega arith
+
+-- no more trades are possible than a book has orders
+pub few-possible : (u : Unsettled) (accepted limit room : ℕ) (book : TimeList) (held : HeldStops) (pending : PendingStops) (hand : Hand) → IsFramed accepted book held pending room hand
+    → u.state.orders ≡ book.orders → u.state.stops ≡ held.stops → u.pending ≡ pending.stops → u.hand ≡ hand → accepted ≤ limit + 64 → limit ≤ 1000000 → possible_trades u ≤ 2000000
+few-possible u accepted limit room book held pending hand f orders stops waiting in_hand below few =
+    omega (
+      arith,
+      f.orders,
+      in_hand_once hand,
+      ap (λ (os : List Order). length os) orders,
+      ap (λ (ss : List Stop). length ss) stops,
+      ap (λ (ss : List Stop). length ss) waiting,
+      ap trades_in in_hand,
+      below,
+      few,
+    )
+
+module _ (u n : Unsettled) (m : Makes u n) (few : possible_trades u ≤ 2000000) where
+  pub few-made : AreFew (new_trades u.state n.state)
+  few-made = subst AreFew (sym (new-made u n m)) (record { number = omega (arith, m.fewer, few); sized = m.sized })
+
+  -- the state that it leads to is counted
+  pub counted-after : (t : Unsettled) → n ≡ record t { state = record t.state { accepted = t.state.accepted + 1 }; hand = Empty } → t.pending ≡ [] → CanSettle t → IsCounted u.state
+      → t.state.accepted ≡ u.state.accepted → IsCounted n.state
+  counted-after t counts settled can was same =
+      let none = ap (λ (stops : List Stop). length stops) settled in
+      let s : State = record t.state { accepted = t.state.accepted + 1 } in
+      let trades : t.state.trades ≡ u.state.trades ++ m.trades = sym (ap (λ (w : Unsettled). w.state.trades) counts) ∙ m.appended in
+      subst IsCounted (sym (ap (λ (w : Unsettled). w.state) counts)) (record {
+        accepted = omega (arith, can.accepted);
+        sweeps = omega (arith, can.sweeps, none);
+        number = omega (arith, ap (λ (ts : List Trade). length ts) trades, length-append u.state.trades m.trades, m.fewer, few, was.number, same);
+        sized = subst AreSized (sym trades) (All-append (λ (t : Trade). t.quantity ≤ MAX_QUANTITY) u.state.trades m.trades was.sized m.sized);
+        names = λ member reference. (let l = can.names member reference in omega (arith, l));
+        units = can.units;
+      })
 
 -- ---- what few trades come to
 

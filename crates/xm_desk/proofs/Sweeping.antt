@@ -1,12 +1,14 @@
 -- What a sweep leaves of a desk, and what it trades.
-use Rattle.std.proofs.Common.{◌≡◌, ℕ, ◌+◌, ◌-◌, ◌≤◌, Bool, true, false, ◌||◌, cond, List, [], ◌∷◌, All, filter, map, length, get_or, refl, ap, ◌∙◌, arith}
+use Rattle.std.proofs.Common.{◌≡◌, ℕ, ◌+◌, ◌-◌, ◌<◌, ◌≤◌, ◌==◌, if◌then◌else◌, Bool, true, false, ◌||◌, cond, List, [], ◌∷◌, All, filter, map, get_or, refl, ap, ◌∙◌, arith}
 use Rattle.std.specs.List.{list_any}
 use Rattle.std.specs.Prelude.{nat_lt}
 use Rattle.std.proofs.lemmas.Bool.Decides.{nat_tests}
 use Rattle.std.proofs.lemmas.List.Elements.{All-weaker}
 use Rattle.xm_desk.proofs.CallsEnd.{in_range}
 use Rattle.xm_desk.specs.Incoming.{CanJoin}
-use Rattle.xm_desk.specs.Made.{AreFew}
+use Rattle.xm_book.specs.Places.{place_of}
+use Rattle.xm_desk.specs.Made.{AreSized}
+use Rattle.xm_desk.specs.declared.unsettled.Hand.TheVariants.{Kept, Played}
 use Rattle.xm_desk.specs.Settled.{Unsettled}
 use Rattle.xm_rules.specs.Refusals.{has_order}
 use Rattle.xm_rules.specs.Settling as settling
@@ -64,26 +66,28 @@ pub same-sweep : (t : TapeView) (last last_auction : ℕ) (orders : List Order) 
     → sweep_of orders incoming last last_auction widths ≡ swept_by t orders incoming widths
 same-sweep t last last_auction orders incoming widths e f = rw (e, f) refl
 
--- few trades
-pub few-swept : (number room left : ℕ) (w : Sweep) → left + length (sweep_trades number w) ≡ room → room ≤ 2000000 → is_in_range w.incoming.rest ≡ true → AreFew (sweep_trades number w)
-few-swept number room left w made few rest =
+-- no trade is larger than the incoming order
+pub sized-swept : (number : ℕ) (w : Sweep) → is_in_range w.incoming.rest ≡ true → AreSized (sweep_trades number w)
+sized-swept number w rest =
     let small = in_range w.incoming.rest rest in
-    record {
-      number = omega (arith, made, few);
-      sized = All-weaker (λ (t : Trade). t.quantity ≤ w.incoming.rest) (λ (t : Trade). t.quantity ≤ MAX_QUANTITY) (λ t h. omega (arith, h, small)) (sweep_trades number w) (sweep_trades_sized number w);
-    }
+    All-weaker (λ (t : Trade). t.quantity ≤ w.incoming.rest) (λ (t : Trade). t.quantity ≤ MAX_QUANTITY) (λ t h. omega (arith, h, small)) (sweep_trades number w) (sweep_trades_sized number w)
 
-some_left : (rest left : ℕ) → (left ≡ 0 → ⊥) → left ≤ rest → is_in_range rest ≡ true → is_in_range left ≡ true
+some_left : (rest left : ℕ) → 0 < left → left ≤ rest → is_in_range rest ≡ true → is_in_range left ≡ true
 some_left rest left some within h = grind (arith, nat_tests)
 
+not_zero : (n : ℕ) → 0 < n → (n == 0) ≡ false
+not_zero n some = grind (arith, nat_tests)
+
 -- what rests of an order after its sweep can join, where it has units
-pub rest-can-join : (u t : Unsettled) (o : Order) (left : ℕ) → t ≡ record u { state = swept u.state o; room = t.room } → CanJoin u o → left ≡ rest_after (settling.sweep_of u.state o) → (left ≡ 0 → ⊥)
-    → CanJoin t (record o { rest = left })
+pub rest-can-join : (u t : Unsettled) (o : Order) (left : ℕ)
+    → t ≡ record u { state = swept u.state o; hand = if rest_after (settling.sweep_of u.state o) == 0 then Played else Kept (place_of o) } → CanJoin u o
+    → left ≡ rest_after (settling.sweep_of u.state o) → 0 < left → CanJoin t (record o { rest = left })
 rest-can-join u t o left after can is some =
     let w = settling.sweep_of u.state o in
     let within : rest_after w ≤ o.rest = omega arith in
+    let kept = ap (λ (b : Bool). if b then Played else Kept (place_of o)) (not_zero (rest_after w) (omega (arith, is, some))) in
     record {
-      hand = ap (λ (v : Unsettled). v.hand) after ∙ can.hand;
+      hand = ap (λ (v : Unsettled). v.hand) after ∙ kept;
       name = ap (λ (v : Unsettled). has_order v.state o.member o.reference) after ∙ unnamed-after o.member o.reference (fill w) u.state.orders can.name;
       rest = some_left o.rest left some (omega (arith, is, within)) can.rest;
       accepted = omega (arith, ap (λ (v : Unsettled). v.state.accepted) after, ap (λ (v : Unsettled). v.state.settings.limit) after, can.accepted);

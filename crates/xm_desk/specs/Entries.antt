@@ -1,10 +1,13 @@
 -- The entry that a command is.
-use Rattle.std.specs.Prelude.{Option, Some, None}
+use Rattle.std.specs.Prelude.{ℕ, Option, Some, None}
+use Rattle.std.specs.Option.{option_map}
 use Rattle.xm_desk.specs.declared.entries.Entry.{Entry}
-use Rattle.xm_rules.specs.Step.{entered_order}
+use Rattle.xm_rules.specs.Commands.{trigger_of}
+use Rattle.xm_rules.specs.Step.{entered_order, stop_of}
 use Rattle.xm_rules.specs.declared.commands.Command.{Command}
 use Rattle.xm_rules.specs.declared.commands.Command.TheVariants.{Enter}
 use Rattle.xm_rules.specs.declared.orders.Order.{Order}
+use Rattle.xm_rules.specs.declared.orders.Stop.{Stop}
 
 -- the entry of an order or of a stop, where the command is one
 abbrev pub entry_in : Command → Option Entry
@@ -18,3 +21,7 @@ command_of e = Enter e.member e.reference e.side e.kind e.quantity e.validity e.
 -- the order of an entry, or the one that its stop becomes
 abbrev pub order_in : Entry → Order
 order_in e = entered_order e.member e.reference e.side e.kind e.quantity e.validity e.restriction
+
+-- the stop of an entry, where it is one
+abbrev pub stop_in : Entry → Option Stop
+stop_in e = option_map (λ (trigger : ℕ). stop_of trigger (order_in e)) (trigger_of e.kind)

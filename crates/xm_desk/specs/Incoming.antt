@@ -1,12 +1,10 @@
 -- What an order relies on that comes in.
 use Rattle.std.specs.Prelude.{◌≡◌, ◌+◌, ◌<◌, false, IsTrue}
 use Rattle.xm_book.specs.Places.{place_of}
-use Rattle.xm_desk.specs.Growth.{FitsTrades}
 use Rattle.xm_desk.specs.Settled.{Unsettled}
 use Rattle.xm_desk.specs.declared.unsettled.Hand.TheVariants.{Kept}
 use Rattle.xm_rules.specs.Commands.{is_in_range}
 use Rattle.xm_rules.specs.Refusals.{has_order}
-use Rattle.xm_rules.specs.Settling.{is_continuous}
 use Rattle.xm_rules.specs.declared.orders.Order.{Order}
 use Rattle.xm_rules.specs.declared.settings.TheConstants.{PHASE_COMMANDS_MORE}
 
@@ -17,8 +15,7 @@ pub record CanJoin (u : Unsettled) (o : Order) : Type 0 where
   pub rest : IsTrue (is_in_range o.rest)
   pub accepted : u.state.accepted < u.state.settings.limit + PHASE_COMMANDS_MORE
 
--- and where it may be executed there is a number for its sweep, and room for its trades
+-- and there is a number for its sweep
 pub record CanComeIn (u : Unsettled) (o : Order) : Type 0 where
   pub joins : CanJoin u o
-  pub room : IsTrue (is_continuous u.state.phase) → FitsTrades u.state u.room
   pub sweeps : u.state.sweeps < u.state.settings.limit + PHASE_COMMANDS_MORE

@@ -1,5 +1,6 @@
 pub mod Calls
 pub mod Entries
+pub mod Frame
 pub mod Growth
 pub mod Incoming
 pub mod Made

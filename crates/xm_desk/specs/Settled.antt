@@ -1,39 +1,56 @@
 -- What is seen of a security between commands, and in the middle of one.
-use Rattle.std.specs.Prelude.{ℕ, List, [], ◌∷◌}
+use Rattle.std.specs.Prelude.{ℕ, ◌+◌, List, [], ◌∷◌, length}
+use Rattle.xm_book.specs.Places.{place_of}
 use Rattle.xm_book.specs.declared.places.Place.{Place}
 use Rattle.xm_desk.specs.declared.unsettled.Hand.{Hand}
-use Rattle.xm_desk.specs.declared.unsettled.Hand.TheVariants.{Empty, Kept, Played}
+use Rattle.xm_desk.specs.declared.unsettled.Hand.TheVariants.{Empty, Spare, Kept, Held, Played}
+use Rattle.xm_rules.specs.Settling.{order_of_stop}
 use Rattle.xm_rules.specs.State.{State}
 use Rattle.xm_rules.specs.declared.orders.Stop.{Stop}
 
--- settled up to the pending stops: a state, the stops that are pending, the order in hand, and for how many trades there is
--- room
+-- settled up to the pending stops: a state, the stops that are pending, and what the command has at hand
 pub record Unsettled : Type 0 where
   pub state : State
   pub pending : List Stop
   pub hand : Hand
-  pub room : ℕ
 
 -- no stop is pending
 pub record Settled : Type 0 where
   pub state : State
   pub hand : Hand
-  pub room : ℕ
 
--- the places that are reserved for the order in hand
+-- the place in the book of the order that a stop becomes
+abbrev pub place_of_stop : Stop → Place
+place_of_stop stop = place_of (order_of_stop stop)
+
+-- the places in the book that are kept for the order in hand
 abbrev pub places_in : Hand → List Place
-places_in Empty = []
 places_in (Kept place) = place ∷ []
-places_in Played = []
+places_in (Held stop) = place_of_stop stop ∷ []
+places_in _ = []
 
--- how many orders the command may have added to the book
+-- how many orders or stops the command may have added
 abbrev pub joined_in : Hand → ℕ
-joined_in Empty = 0
-joined_in (Kept place) = 0
 joined_in Played = 1
+joined_in _ = 0
 
--- the order in hand has come in
+-- how many stops are to join the held ones
+abbrev pub stops_in : Hand → ℕ
+stops_in (Held stop) = 1
+stops_in _ = 0
+
+-- for how many trades there is room, beside one for each order and stop
+abbrev pub trades_in : Hand → ℕ
+trades_in Spare = 1
+trades_in (Kept place) = 1
+trades_in (Held stop) = 1
+trades_in _ = 0
+
+-- what was at hand is used
 abbrev pub played : Hand → Hand
 played Empty = Empty
-played (Kept place) = Played
-played Played = Played
+played _ = Played
+
+-- how many trades may still be made: each but the last of a sweep or of a call uses up an order
+abbrev pub possible_trades : Unsettled → ℕ
+possible_trades u = length u.state.orders + length u.state.stops + length u.pending + trades_in u.hand

@@ -1,19 +1,20 @@
 //! Calls, and the end of the day.
-ghost use Rattle.std.specs.Prelude.{◌≡◌, ◌+◌, ◌<◌, Some};
+ghost use Rattle.std.specs.Prelude.{◌≡◌, ◌+◌, ◌<◌, [], IsTrue, Some, drop, false, length};
 ghost use Rattle.xm_auction.specs.Allotment.{uncrossing_of};
 ghost use Rattle.xm_desk.specs.Calls.{stage_after};
-ghost use Rattle.xm_desk.specs.Growth.{FitsTrades};
-ghost use Rattle.xm_desk.specs.Made.{AreFew};
+ghost use Rattle.xm_desk.specs.Made.{Makes};
+ghost use Rattle.xm_desk.specs.declared.unsettled.Hand.TheVariants.{Played, Spare};
 ghost use Rattle.xm_rules.specs.Auction.{auction_price};
 ghost use Rattle.xm_rules.specs.State.{ranges, ref1};
-ghost use Rattle.xm_rules.specs.Step.{day_ended, new_trades, traded, uncrossed, uncrossed_at};
+ghost use Rattle.xm_rules.specs.Step.{day_ended, traded, uncrossed, uncrossed_at};
 ghost use Rattle.xm_rules.specs.declared.phases.CallStage.TheVariants.{Ordinary};
 ghost use Rattle.xm_rules.specs.declared.phases.Phase.TheVariants.{Call};
 ghost use Rattle.xm_rules.specs.declared.settings.TheConstants.{PHASE_COMMANDS_MORE};
 
-use crate::unsettled::Unsettled;
+use crate::unsettled::{Hand, Unsettled};
 use std::alloc::Allocator;
 use xm_auction::auction_price;
+use xm_book::Place;
 use xm_rules::{Auction, CallStage, Phase};
 use xm_ticks::Price;
 
@@ -28,32 +29,46 @@ impl<A: Allocator + Copy> Unsettled<A> {
     /// The call ends: it trades at its price, where it has one that its stage lets it trade at. Outside a call nothing
     /// changes.
     pub fn uncross(&mut self)
-        requires room { FitsTrades self.old.state self.old.room }
+        requires hand { self.old.hand ≡ Spare }
         requires sweeps { self.old.state.sweeps < self.old.state.settings.limit + PHASE_COMMANDS_MORE }
-        ensures uncrossed { self.new ≡ record self.old { state = uncrossed self.old.state self.old.state.phase; room = self.new.room } }
-        ensures few { AreFew (new_trades self.old.state self.new.state) }
+        ensures uncrossed { self.new ≡ record self.old { state = uncrossed self.old.state self.old.state.phase; hand = Played } }
+        ensures made { Makes self.old self.new }
     {
-        if let Phase::Call(auction, stage) = self.phase {
-            self.end_call(auction, stage);
+        match self.phase {
+            Phase::Call(auction, stage) => self.end_call(auction, stage),
+            phase => self.go_on_in(phase),
         }
     }
 
     /// The call of an auction ends in this stage.
     fn end_call(&mut self, auction: Auction, stage: CallStage)
         requires phase { self.old.state.phase ≡ Call auction stage }
-        requires room { FitsTrades self.old.state self.old.room }
+        requires hand { self.old.hand ≡ Spare }
         requires sweeps { self.old.state.sweeps < self.old.state.settings.limit + PHASE_COMMANDS_MORE }
-        ensures uncrossed { self.new ≡ record self.old { state = uncrossed_at self.old.state auction stage (auction_price (Call auction stage) self.old.state.orders (ref1 self.old.state)); room = self.new.room } }
-        ensures few { AreFew (new_trades self.old.state self.new.state) }
+        ensures uncrossed { self.new ≡ record self.old {
+          state = uncrossed_at self.old.state auction stage (auction_price (Call auction stage) self.old.state.orders (ref1 self.old.state));
+          hand = Played;
+        } }
+        ensures made { Makes self.old self.new }
     {
         let last = self.tape.last_price();
         match auction_price(&self.book, Phase::Call(auction, stage), last) {
-            None => self.phase = auction.next_phase(),
+            None => self.go_on_in(auction.next_phase()),
             Some((price, volume)) => match self.stage_after(stage, price) {
                 None => self.trade(auction, stage, price, volume),
-                Some(next) => self.phase = Phase::Call(auction, next),
+                Some(next) => self.go_on_in(Phase::Call(auction, next)),
             },
         }
+    }
+
+    /// The security goes on in a phase without a trade.
+    fn go_on_in(&mut self, phase: Phase)
+        requires { self.old.hand ≡ Spare }
+        ensures phase { self.new ≡ record self.old { state = record self.old.state { phase = phase }; hand = Played } }
+        ensures made { Makes self.old self.new }
+    {
+        self.phase = phase;
+        self.hand = Hand::Played;
     }
 
     /// The stage that a call goes on in, where its price is outside a range that this stage asks.
@@ -85,13 +100,13 @@ impl<A: Allocator + Copy> Unsettled<A> {
     /// A call trades its volume at its price, and ends.
     fn trade(&mut self, auction: Auction, stage: CallStage, price: Price, volume: u64)
         requires price { auction_price (Call auction stage) self.old.state.orders (ref1 self.old.state) ≡ Some (price, volume) }
-        requires room { FitsTrades self.old.state self.old.room }
+        requires hand { self.old.hand ≡ Spare }
         requires sweeps { self.old.state.sweeps < self.old.state.settings.limit + PHASE_COMMANDS_MORE }
         ensures traded { self.new ≡ record self.old {
           state = traded self.old.state (uncrossing_of auction stage self.old.state.orders price volume);
-          room = self.new.room;
+          hand = Played;
         } }
-        ensures few { AreFew (new_trades self.old.state self.new.state) }
+        ensures made { Makes self.old self.new }
     {
         // What every book keeps, and the ranges of these numbers, are known where they are asked for.
         let _ = (self.book.len(), self.settings.limit.get(), price.get());
@@ -99,13 +114,31 @@ impl<A: Allocator + Copy> Unsettled<A> {
         self.tape
             .allot(&mut self.book, auction, stage, self.sweeps, price, volume);
         self.phase = auction.next_phase();
+        self.hand = Hand::Played;
     }
 
-    /// The day ends: orders that aren't valid beyond it are deleted.
+    /// The day ends: orders and stops that aren't valid beyond it are deleted.
     pub fn end_day(&mut self)
+        requires { self.old.pending ≡ [] }
         ensures { self.new ≡ record self.old { state = day_ended self.old.state } }
     {
-        self.book.remove_expired(self.settings.today);
+        let today = self.settings.today;
+        self.book.remove_expired(today);
+        self.stops.take_expired(today, &mut self.pending);
         self.phase = Phase::Ended;
+        while self.delete_pending() {}
+    }
+
+    /// The first pending stop is deleted, and its place in the book is given up. Answers `false` where none is pending.
+    fn delete_pending(&mut self) -> bool
+        ensures deleted { self.new ≡ record self.old { pending = drop 1 self.old.pending } }
+        ensures none { result ≡ false → self.old.pending ≡ [] }
+        ensures some { IsTrue result → length self.new.pending < length self.old.pending }
+    {
+        let Some(stop) = self.pending.pop() else {
+            return false;
+        };
+        self.book.release(&Place::of(&stop.order_of_stop()));
+        true
     }
 }

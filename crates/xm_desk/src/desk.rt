@@ -4,7 +4,6 @@ ghost use Rattle.xm_desk.specs.Opening.{open_fault};
 ghost use Rattle.xm_desk.specs.declared.tape.TheConstants.{MAX_TRADES};
 ghost use Rattle.xm_rules.specs.Refusals.{refusal_of};
 ghost use Rattle.xm_rules.specs.Quote.{best_limit, indicative, quote};
-ghost use Rattle.xm_rules.specs.Served.{HoldsNoStops, is_served};
 ghost use Rattle.xm_rules.specs.State.{ref1, ref2};
 ghost use Rattle.xm_rules.specs.Step.{is_lawful, replay, reply};
 ghost use Rattle.xm_ticks.specs.declared.numbers.TheConstants.{MAX_QUANTITY};
@@ -15,7 +14,7 @@ use std::alloc::Allocator;
 use std::marker::Model;
 use xm_names::Seed;
 use xm_rules::{
-    Command, DeskSettings, Order, OutOfMemory, Phase, Quote, Refusal, Reply, Side, Trade,
+    Command, DeskSettings, Order, OutOfMemory, Phase, Quote, Refusal, Reply, Side, Stop, Trade,
 };
 use xm_ticks::Price;
 
@@ -30,7 +29,6 @@ pub struct Desk<A: Allocator + Copy> {
 impl<A: Allocator + Copy> Model for Desk<A> {
     ghost use Rattle.std.specs.Prelude.{◌≡◌, true};
     ghost use Rattle.xm_desk.specs.declared.unsettled.Hand.TheVariants.{Empty};
-    ghost use Rattle.xm_rules.specs.Served.{HoldsNoStops};
     ghost use Rattle.xm_rules.specs.Step.{Journal, is_lawful, replay};
 
     ghost Value = { Journal };
@@ -41,7 +39,6 @@ impl<A: Allocator + Copy> Model for Desk<A> {
       replayed : d.market.state ≡ replay (record { settings = d.market.state.settings; commands = d.journal.items });
       lawful : is_lawful (record { settings = d.market.state.settings; commands = d.journal.items }) ≡ true;
       hand : d.market.hand ≡ Empty;
-      no_stops : HoldsNoStops d.market.state;
     } };
 }
 
@@ -73,6 +70,13 @@ impl<A: Allocator + Copy> Desk<A> {
         self.market.orders()
     }
 
+    /// The held stops in order of entry, or `OutOfMemory` where the growth of their list was refused.
+    pub fn stops(&self) -> Result<Vec<Stop, A>, OutOfMemory>
+        ensures { IfOk result (λ stops. stops.items ≡ (replay self.now).stops) }
+    {
+        self.market.stops()
+    }
+
     /// The trades, the first one first.
     pub fn trades(&self) -> &[Trade]
         ensures trades { result.now ≡ (replay self.now).trades }
@@ -84,10 +88,8 @@ impl<A: Allocator + Copy> Desk<A> {
 
     /// Takes a command into the journal and answers its reply. A refused one changes nothing.
     ///
-    /// The command must be served, see `Command::is_served`. The refusal is that of `refusal_of`, or `OutOfMemory` where a
-    /// growth was refused.
+    /// The refusal is that of `refusal_of`, or `OutOfMemory` where a growth was refused.
     pub fn apply(&mut self, command: Command) -> Result<Reply, Refusal>
-        requires { IsTrue (is_served command) }
         ensures accepted { OnOk result (refusal_of (replay self.old) command ≡ None) }
         ensures journal { OnOk result (self.new ≡ record self.old { commands = self.old.commands ++ command ∷ [] }) }
         ensures reply { IfOk result (λ answer. answer ≡ reply (replay self.old) (replay self.new)) }
@@ -113,10 +115,9 @@ impl<A: Allocator + Copy> Desk<A> {
         self.market.settings()
     }
 
-    /// The phase of the security. No command that is served today holds a stop.
+    /// The phase of the security.
     pub fn phase(&self) -> Phase
-        ensures phase { result ≡ (replay self.now).phase }
-        ensures no_stops { HoldsNoStops (replay self.now) }
+        ensures { result ≡ (replay self.now).phase }
     {
         self.market.phase()
     }

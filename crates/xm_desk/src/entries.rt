@@ -1,9 +1,9 @@
 //! Entries of orders and stops.
 ghost use Rattle.std.specs.Prelude.{◌≡◌, IsTrue};
-ghost use Rattle.xm_desk.specs.Entries.{entry_in, order_in};
+ghost use Rattle.xm_desk.specs.Entries.{entry_in, order_in, stop_in};
 ghost use Rattle.xm_rules.specs.Commands.{has_prices_in_range};
 
-use xm_rules::{Command, Condition, Kind, Order, Restriction, Side, Validity};
+use xm_rules::{Command, Condition, Kind, Order, Restriction, Side, Stop, Validity};
 
 /// The entry of an order or of a stop.
 #[derive(Clone, Copy)]
@@ -61,5 +61,22 @@ impl Entry {
             validity: self.validity,
             restriction: self.restriction,
         }
+    }
+
+    /// The stop that is entered, if it is one. The prices are in range.
+    pub fn stop(&self) -> Option<Stop>
+        requires { IsTrue (has_prices_in_range self.now.kind) }
+        ensures { result ≡ stop_in self.now }
+    {
+        let trigger = self.kind.trigger_of()?;
+        Some(Stop {
+            member: self.member,
+            reference: self.reference,
+            side: self.side,
+            trigger,
+            becomes: self.kind.order_kind(),
+            quantity: self.quantity,
+            validity: self.validity,
+        })
     }
 }

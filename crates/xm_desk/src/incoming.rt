@@ -1,15 +1,15 @@
-//! Orders that come in.
-ghost use Rattle.std.specs.Prelude.{◌≡◌, if◌then◌else◌, IsTrue, None};
+//! Orders that come in, and stops that are entered.
+ghost use Rattle.std.specs.Prelude.{◌≡◌, ◌==◌, ◌++◌, ◌∷◌, [], false, true, if◌then◌else◌, IsTrue, None};
 ghost use Rattle.xm_book.specs.Places.{place_of};
 ghost use Rattle.xm_desk.specs.Entries.{command_of, order_in};
-ghost use Rattle.xm_desk.specs.Growth.{HasRoom};
+ghost use Rattle.xm_desk.specs.Growth.{hand_of_entry};
 ghost use Rattle.xm_desk.specs.Incoming.{CanComeIn, CanJoin};
-ghost use Rattle.xm_desk.specs.Made.{AreFew, IsCounted};
-ghost use Rattle.xm_desk.specs.declared.unsettled.Hand.TheVariants.{Kept, Played};
-ghost use Rattle.xm_rules.specs.Refusals.{refusal_of};
-ghost use Rattle.xm_rules.specs.Served.{is_served};
+ghost use Rattle.xm_desk.specs.Made.{IsCounted, Makes};
+ghost use Rattle.xm_desk.specs.declared.unsettled.Hand.TheVariants.{Held, Kept, Played};
+ghost use Rattle.xm_rules.specs.Commands.{trigger_of};
+ghost use Rattle.xm_rules.specs.Refusals.{has_stop, refusal_of};
 ghost use Rattle.xm_rules.specs.Settling.{come, is_continuous, joined, sweep_of, swept};
-ghost use Rattle.xm_rules.specs.Step.{act, come_under, new_trades};
+ghost use Rattle.xm_rules.specs.Step.{act, come_under};
 ghost use Rattle.xm_rules.specs.Sweep.{is_fillable, rest_after};
 ghost use Rattle.xm_rules.specs.declared.commands.Condition.TheVariants.{Fok, Ioc};
 ghost use Rattle.xm_rules.specs.declared.phases.Auction.TheVariants.{Interruption};
@@ -21,41 +21,60 @@ use crate::unsettled::{Hand, Unsettled};
 use std::alloc::Allocator;
 use xm_book::Place;
 use xm_match::fillable;
-use xm_rules::{Auction, CallStage, Condition, Order, Phase};
+use xm_rules::{Auction, CallStage, Condition, Order, Phase, Stop};
 
 impl<A: Allocator + Copy> Unsettled<A> {
-    /// The order of an entry comes in, on its condition.
+    /// The stop of an entry is held, or its order comes in.
     pub fn enter(&mut self, entry: &Entry)
-        requires hand { self.old.hand ≡ Kept (place_of (order_in entry.now)) }
-        requires served { IsTrue (is_served (command_of entry.now)) }
+        requires hand { self.old.hand ≡ hand_of_entry (trigger_of entry.now.kind) (order_in entry.now) }
         requires lawful { refusal_of self.old.state (command_of entry.now) ≡ None }
-        requires room { HasRoom self.old.state (command_of entry.now) self.old.room }
         requires counted { IsCounted self.old.state }
-        ensures acted { self.new ≡ record self.old { state = act self.old.state (command_of entry.now); hand = Played; room = self.new.room } }
-        ensures few { AreFew (new_trades self.old.state self.new.state) }
+        ensures acted { self.new ≡ record self.old { state = act self.old.state (command_of entry.now); hand = Played } }
+        ensures made { Makes self.old self.new }
     {
-        let order = entry.order();
-        match entry.condition {
-            Condition::Plain => self.come(&order),
-            Condition::Ioc => self.execute_or_kill(&order),
-            Condition::Fok => self.fill_or_kill(&order),
+        match entry.stop() {
+            None => self.come_under(entry.condition, &entry.order()),
+            Some(stop) => self.hold(stop),
         }
+    }
+
+    /// An order comes in, on its condition.
+    fn come_under(&mut self, condition: Condition, order: &Order)
+        requires can { CanComeIn self.old order.now }
+        requires immediate { condition ≡ Ioc → is_continuous self.old.state.phase ≡ true }
+        ensures come { self.new ≡ record self.old { state = come_under condition self.old.state order.now; hand = Played } }
+        ensures made { Makes self.old self.new }
+    {
+        match condition {
+            Condition::Plain => self.come(order),
+            Condition::Ioc => self.execute_or_kill(order),
+            Condition::Fok => self.fill_or_kill(order),
+        }
+    }
+
+    /// A stop joins the held ones last.
+    fn hold(&mut self, stop: Stop)
+        requires hand { self.old.hand ≡ Held stop }
+        requires name { has_stop self.old.state stop.member stop.reference ≡ false }
+        ensures held { self.new ≡ record self.old { state = record self.old.state { stops = self.old.state.stops ++ stop ∷ [] }; hand = Played } }
+        ensures made { Makes self.old self.new }
+    {
+        self.stops.add(stop);
+        self.hand = Hand::Played;
     }
 
     /// An order comes in. In continuous trading a free one is executed, and its rest joins the book last; any other order
     /// joins last.
     pub fn come(&mut self, order: &Order)
         requires { CanComeIn self.old order.now }
-        ensures come { self.new ≡ record self.old { state = come self.old.state order.now; hand = Played; room = self.new.room } }
-        ensures few { AreFew (new_trades self.old.state self.new.state) }
+        ensures come { self.new ≡ record self.old { state = come self.old.state order.now; hand = Played } }
+        ensures made { Makes self.old self.new }
     {
         if !(self.phase.is_continuous() && order.restriction.is_free()) {
             return self.join(*order);
         }
         let rest = self.execute(order);
-        if rest == 0 {
-            self.give_up_place(Place::of(order));
-        } else {
+        if rest > 0 {
             self.join(Order { rest, ..*order });
         }
     }
@@ -64,18 +83,19 @@ impl<A: Allocator + Copy> Unsettled<A> {
     fn execute_or_kill(&mut self, order: &Order)
         requires can { CanComeIn self.old order.now }
         requires continuous { IsTrue (is_continuous self.old.state.phase) }
-        ensures come { self.new ≡ record self.old { state = come_under Ioc self.old.state order.now; hand = Played; room = self.new.room } }
-        ensures few { AreFew (new_trades self.old.state self.new.state) }
+        ensures come { self.new ≡ record self.old { state = come_under Ioc self.old.state order.now; hand = Played } }
+        ensures made { Makes self.old self.new }
     {
-        self.execute(order);
-        self.give_up_place(Place::of(order));
+        if self.execute(order) > 0 {
+            self.give_up_place(Place::of(order));
+        }
     }
 
     /// A fill-or-kill order comes in where it can be executed whole, and else is deleted.
     fn fill_or_kill(&mut self, order: &Order)
         requires { CanComeIn self.old order.now }
-        ensures come { self.new ≡ record self.old { state = come_under Fok self.old.state order.now; hand = Played; room = self.new.room } }
-        ensures few { AreFew (new_trades self.old.state self.new.state) }
+        ensures come { self.new ≡ record self.old { state = come_under Fok self.old.state order.now; hand = Played } }
+        ensures made { Makes self.old self.new }
     {
         if self.is_fillable(order) {
             self.come(order);
@@ -94,13 +114,16 @@ impl<A: Allocator + Copy> Unsettled<A> {
     }
 
     /// An order is executed against the other side of the book. Where the next one is met outside a range, trading is
-    /// interrupted. Answers the units of the order that are left.
+    /// interrupted. Answers the units of the order that are left; its place is kept for them, and given up where there are none.
     fn execute(&mut self, order: &Order) -> u32
         requires can { CanComeIn self.old order.now }
         requires continuous { IsTrue (is_continuous self.old.state.phase) }
-        ensures swept { self.new ≡ record self.old { state = swept self.old.state order.now; room = self.new.room } }
+        ensures swept { self.new ≡ record self.old {
+          state = swept self.old.state order.now;
+          hand = if rest_after (sweep_of self.old.state order.now) == 0 then Played else Kept (place_of order.now);
+        } }
         ensures rest { result ≡ rest_after (sweep_of self.old.state order.now) }
-        ensures few { AreFew (new_trades self.old.state self.new.state) }
+        ensures made { Makes self.old self.new }
     {
         // What every book keeps, and the range of the limit, are known where they are asked for.
         let _ = (self.book.len(), self.settings.limit.get());
@@ -108,13 +131,18 @@ impl<A: Allocator + Copy> Unsettled<A> {
         let widths = self.settings.widths;
         let swept = self.tape.sweep(&mut self.book, order, self.sweeps, &widths);
         self.phase = phase_after(self.phase, swept.interrupted);
+        if swept.rest == 0 {
+            self.book.release(&Place::of(order));
+            self.hand = Hand::Played;
+        }
         swept.rest
     }
 
     /// An order joins the book last, in the place that is kept for it.
     fn join(&mut self, order: Order)
         requires { CanJoin self.old order }
-        ensures { self.new ≡ record self.old { state = joined self.old.state order; hand = Played } }
+        ensures joined { self.new ≡ record self.old { state = joined self.old.state order; hand = Played } }
+        ensures made { Makes self.old self.new }
     {
         self.book.add(order);
         self.hand = Hand::Played;
@@ -123,7 +151,8 @@ impl<A: Allocator + Copy> Unsettled<A> {
     /// Gives up the place that is kept for an order of which nothing is left.
     fn give_up_place(&mut self, place: Place)
         requires { self.old.hand ≡ Kept place }
-        ensures { self.new ≡ record self.old { hand = Played } }
+        ensures given_up { self.new ≡ record self.old { hand = Played } }
+        ensures made { Makes self.old self.new }
     {
         self.book.release(&place);
         self.hand = Hand::Played;

@@ -1,16 +1,15 @@
 //! A security between commands.
-ghost use Rattle.std.specs.Prelude.{◌≡◌, ◌+◌, ◌<◌, ◌≤◌, [], IsTrue, None, OnErr, OnOk, IfOk, drop, length, true};
-ghost use Rattle.xm_desk.specs.Growth.{HasRoom, hand_for};
-ghost use Rattle.xm_desk.specs.Made.{AreFew, AreSized};
+ghost use Rattle.std.specs.Prelude.{◌≡◌, ◌+◌, ◌<◌, ◌≤◌, [], None, OnErr, OnOk, IfOk, drop, length, true};
+ghost use Rattle.xm_desk.specs.Growth.{hand_for};
+ghost use Rattle.xm_desk.specs.Made.{AreFew, AreSized, IsCounted, Makes};
 ghost use Rattle.xm_desk.specs.Opening.{are_widths};
 ghost use Rattle.xm_desk.specs.Settled.{places_in};
 ghost use Rattle.xm_desk.specs.declared.tape.TheConstants.{MAX_TRADES};
 ghost use Rattle.xm_desk.specs.declared.unsettled.Hand.TheVariants.{Empty};
 ghost use Rattle.xm_rules.specs.Quote.{best_limit, indicative, quote};
 ghost use Rattle.xm_rules.specs.Refusals.{refusal_of};
-ghost use Rattle.xm_rules.specs.Served.{is_served};
 ghost use Rattle.xm_rules.specs.State.{opening, ref1, ref2};
-ghost use Rattle.xm_rules.specs.Step.{reply, step};
+ghost use Rattle.xm_rules.specs.Step.{new_trades, reply, step};
 ghost use Rattle.xm_rules.specs.Sums.{total_money, total_quantity};
 ghost use Rattle.xm_rules.specs.declared.settings.TheConstants.{PHASE_COMMANDS_MORE};
 
@@ -22,9 +21,10 @@ use xm_auction::auction_price;
 use xm_book::Book;
 use xm_names::Seed;
 use xm_rules::{
-    Command, DeskSettings, Order, OutOfMemory, Phase, Quote, Refusal, Reply, Side, Trade,
+    Command, DeskSettings, Order, OutOfMemory, Phase, Quote, Refusal, Reply, Side, Stop, Trade,
     total_money, total_quantity,
 };
+use xm_stops::{Pending, Stops};
 use xm_ticks::Price;
 
 /// A security after the commands that it accepted. No stop is pending.
@@ -43,7 +43,7 @@ impl<A: Allocator + Copy> Model for Market<A> {
 
     ghost Value = { Settled };
 
-    ghost view = { λ m. record { state = m.inside.state; hand = m.inside.hand; room = m.inside.room } };
+    ghost view = { λ m. record { state = m.inside.state; hand = m.inside.hand } };
 
     ghost invariant = { λ m. record {
       pending : m.inside.pending ≡ [];
@@ -56,7 +56,7 @@ impl<A: Allocator + Copy> Market<A> {
     /// A security before the day.
     pub fn new(alloc: A, seed: Seed, settings: DeskSettings) -> Market<A>
         requires { are_widths settings.widths ≡ true }
-        ensures { result ≡ record { state = opening settings; hand = Empty; room = 0 } }
+        ensures { result ≡ record { state = opening settings; hand = Empty } }
     {
         Market {
             inside: Unsettled {
@@ -64,6 +64,8 @@ impl<A: Allocator + Copy> Market<A> {
                 accepted: 0,
                 phase: Phase::PreTrading,
                 book: Book::new(alloc, seed),
+                stops: Stops::new(alloc, seed),
+                pending: Pending::new(alloc),
                 tape: Tape::new(alloc, settings.reference),
                 sweeps: 0,
                 hand: Hand::Empty,
@@ -79,6 +81,13 @@ impl<A: Allocator + Copy> Market<A> {
         self.inside.book.orders()
     }
 
+    /// The held stops in order of entry, or `OutOfMemory` where the growth of their list was refused.
+    pub fn stops(&self) -> Result<Vec<Stop, A>, OutOfMemory>
+        ensures { IfOk result (λ stops. stops.items ≡ self.now.state.stops) }
+    {
+        self.inside.stops.list()
+    }
+
     /// Why a command is refused, memory aside.
     pub fn refusal_of(&self, command: &Command) -> Option<Refusal>
         ensures { result ≡ refusal_of self.now.state command.now }
@@ -91,9 +100,8 @@ impl<A: Allocator + Copy> Market<A> {
     pub fn reserve_for(&mut self, command: &Command) -> Result<(), OutOfMemory>
         requires hand { self.old.hand ≡ Empty }
         requires lawful { refusal_of self.old.state command.now ≡ None }
-        ensures ok { OnOk result (self.new ≡ record self.old { hand = hand_for self.old.state command.now; room = self.new.room }) }
-        ensures room { OnOk result (HasRoom self.old.state command.now self.new.room) }
-        ensures err { OnErr result (self.new ≡ record self.old { room = self.new.room }) }
+        ensures ok { OnOk result (self.new ≡ record self.old { hand = hand_for self.old.state command.now }) }
+        ensures err { OnErr result (self.new ≡ self.old) }
     {
         self.inside.reserve_for(command)
     }
@@ -101,17 +109,13 @@ impl<A: Allocator + Copy> Market<A> {
     /// The step by an accepted command, with its reply.
     pub fn step(&mut self, command: &Command) -> Reply
         requires hand { self.old.hand ≡ hand_for self.old.state command.now }
-        requires served { IsTrue (is_served command.now) }
         requires lawful { refusal_of self.old.state command.now ≡ None }
-        requires room { HasRoom self.old.state command.now self.old.room }
-        ensures state { self.new ≡ record { state = step self.old.state command.now; hand = Empty; room = self.new.room } }
+        ensures state { self.new ≡ record { state = step self.old.state command.now; hand = Empty } }
         ensures reply { result ≡ reply self.old.state (step self.old.state command.now) }
     {
         let _ = self.inside.settings.limit.get(); // The range of the limit is known where it is asked for.
         let first_trade = self.inside.tape.len();
-        self.inside.act(command);
-        self.inside.settle();
-        self.inside.count();
+        self.inside.step(command);
         let reply = self.inside.reply(first_trade);
         self.quantity += reply.quantity;
         reply
@@ -215,7 +219,24 @@ impl<A: Allocator + Copy> Unsettled<A> {
         }
     }
 
-    /// Counts a command, whose order, if it has one, came in.
+    /// The step by an accepted command: what it does, settled and counted.
+    fn step(&mut self, command: &Command)
+        requires hand { self.old.hand ≡ hand_for self.old.state command.now }
+        requires settled { self.old.pending ≡ [] }
+        requires lawful { refusal_of self.old.state command.now ≡ None }
+        requires counted { IsCounted self.old.state }
+        ensures stepped { self.new ≡ record self.old { state = step self.old.state command.now; hand = Empty } }
+        ensures counted { IsCounted self.new.state }
+        ensures made { Makes self.old self.new }
+        ensures few { AreFew (new_trades self.old.state self.new.state) }
+    {
+        let _ = self.settings.limit.get(); // The range of the limit is known where it is asked for.
+        self.act(command);
+        self.settle();
+        self.count();
+    }
+
+    /// Counts a command, for which nothing is kept any more.
     fn count(&mut self)
         requires hand { places_in self.old.hand ≡ [] }
         requires room { self.old.state.accepted < self.old.state.settings.limit + PHASE_COMMANDS_MORE }

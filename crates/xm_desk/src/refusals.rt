@@ -1,7 +1,7 @@
 //! Why a command is refused. Nothing here changes anything.
 ghost use Rattle.std.specs.Prelude.{◌≡◌, None, Some, if◌then◌else◌};
 ghost use Rattle.xm_desk.specs.Entries.{command_of};
-ghost use Rattle.xm_rules.specs.Refusals.{first_failing, has_order, has_reached, is_full, is_limit_for_market, is_unknown_member, own_checks, refusal_of};
+ghost use Rattle.xm_rules.specs.Refusals.{first_failing, has_reached, has_stop, is_full, is_limit_for_market, is_unknown_member, is_unknown_order, own_checks, refusal_of};
 ghost use Rattle.xm_rules.specs.declared.commands.Command.TheVariants.{Change};
 
 use crate::entries::Entry;
@@ -48,7 +48,10 @@ impl<A: Allocator + Copy> Unsettled<A> {
                 limit,
             } => self.refusal_of_change(*member, *reference, *quantity, *limit),
             Command::Cancel { member, reference } => {
-                refusal_where(!self.has_order(*member, *reference), Refusal::UnknownOrder)
+                refusal_where(
+                    self.is_unknown_order(*member, *reference),
+                    Refusal::UnknownOrder,
+                )
             }
             Command::CancelAll { member: _ } => None,
             _ => refusal_where(!command.is_allowed(self.phase), Refusal::WrongPhase),
@@ -70,7 +73,7 @@ impl<A: Allocator + Copy> Unsettled<A> {
             Some(Refusal::BadCombination)
         } else if condition.is_immediate() && !self.phase.is_continuous() {
             Some(Refusal::WrongPhase)
-        } else if self.has_order(entry.member, entry.reference) {
+        } else if !self.is_unknown_order(entry.member, entry.reference) {
             Some(Refusal::DuplicateReference)
         } else {
             let trigger = entry.kind.trigger_of();
@@ -92,6 +95,9 @@ impl<A: Allocator + Copy> Unsettled<A> {
     ) -> Option<Refusal>
         ensures { result ≡ first_failing (own_checks self.now.state (Change member reference quantity limit)) }
     {
+        if self.has_stop(member, reference) {
+            return Some(Refusal::NotChangeable);
+        }
         match self.book.find(member, reference) {
             None => Some(Refusal::UnknownOrder),
             Some(order) => {
@@ -106,11 +112,18 @@ impl<A: Allocator + Copy> Unsettled<A> {
         }
     }
 
-    /// Whether the member has a live order with this reference.
-    fn has_order(&self, member: u32, reference: u32) -> bool
-        ensures { result ≡ has_order self.now.state member reference }
+    /// Whether the member has neither a live order nor a held stop with this reference.
+    fn is_unknown_order(&self, member: u32, reference: u32) -> bool
+        ensures { result ≡ is_unknown_order self.now.state member reference }
     {
-        self.book.find(member, reference).is_some()
+        self.book.find(member, reference).is_none() && !self.has_stop(member, reference)
+    }
+
+    /// Whether the member has a held stop with this reference.
+    fn has_stop(&self, member: u32, reference: u32) -> bool
+        ensures { result ≡ has_stop self.now.state member reference }
+    {
+        self.stops.find(member, reference).is_some()
     }
 
     /// Whether the last price has reached this trigger.

@@ -1,6 +1,7 @@
 //! The trades of a security, with the reference prices that they make.
 ghost use Rattle.std.specs.Prelude.{◌≡◌, ◌+◌, ◌<◌, ◌≤◌, ◌++◌, [], All, drop, length, OnErr, OnOk};
-ghost use Rattle.xm_auction.specs.Allotment.{uncrossing_of};
+ghost use Rattle.xm_auction.specs.Allotment.{UsesUpOrders, uncrossing_of};
+ghost use Rattle.xm_match.specs.Meeting.{EachUsesUp};
 ghost use Rattle.xm_rules.specs.Allotment.{auction_trades, orders_after_call};
 ghost use Rattle.xm_rules.specs.Auction.{volume as executable};
 ghost use Rattle.xm_desk.specs.Tape.{swept_by};
@@ -119,7 +120,8 @@ impl<A: Allocator> Tape<A> {
         requires room { length book.old.orders ≤ self.old.room }
         ensures orders { book.new ≡ record book.old { orders = orders_after_call (uncrossing_of auction stage book.old.orders price volume) } }
         ensures trades { self.new ≡ record self.old { trades = self.old.trades ++ auction_trades sweep (uncrossing_of auction stage book.old.orders price volume); room = self.new.room } }
-        ensures number { length (auction_trades sweep (uncrossing_of auction stage book.old.orders price volume)) ≤ self.old.room }
+        ensures room { self.new.room + length (auction_trades sweep (uncrossing_of auction stage book.old.orders price volume)) ≡ self.old.room }
+        ensures used { UsesUpOrders sweep (uncrossing_of auction stage book.old.orders price volume) }
     {
         allocate(book, auction, stage, sweep, price, volume, &mut self.trades);
         self.last = price;
@@ -144,6 +146,7 @@ impl<A: Allocator> Tape<A> {
         ensures filled { result.filled ≡ filled (swept_by self.old book.old.orders incoming.now widths.now) }
         ensures rest { result.rest ≡ rest_after (swept_by self.old book.old.orders incoming.now widths.now) }
         ensures interrupted { result.interrupted ≡ is_interrupted (swept_by self.old book.old.orders incoming.now widths.now) }
+        ensures used_up { EachUsesUp number (swept_by self.old book.old.orders incoming.now widths.now) }
     {
         let swept = sweep(
             book,

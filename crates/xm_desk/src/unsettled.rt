@@ -1,40 +1,46 @@
 //! A security in the middle of a command: settled up to the pending stops.
-ghost use Rattle.std.specs.Prelude.{◌≡◌, ◌≤◌, IsTrue, None};
-ghost use Rattle.xm_desk.specs.Growth.{HasRoom, hand_for};
-ghost use Rattle.xm_desk.specs.Made.{AreFew, IsCounted};
+ghost use Rattle.std.specs.Prelude.{◌≡◌, [], None};
+ghost use Rattle.xm_desk.specs.Growth.{hand_for};
+ghost use Rattle.xm_desk.specs.Made.{IsCounted, Makes};
 ghost use Rattle.xm_desk.specs.Settled.{played};
 ghost use Rattle.xm_rules.specs.Refusals.{refusal_of};
-ghost use Rattle.xm_rules.specs.Served.{is_served};
 ghost use Rattle.xm_rules.specs.State.{ref1, ref2};
-ghost use Rattle.xm_rules.specs.Step.{act, new_trades};
+ghost use Rattle.xm_rules.specs.Step.{act};
 
 use crate::entries::Entry;
 use crate::tape::Tape;
 use std::alloc::Allocator;
 use std::marker::Model;
 use xm_book::{Book, Place};
-use xm_rules::{Auction, Command, DeskSettings, Phase};
+use xm_rules::{Auction, Command, DeskSettings, Phase, Stop};
+use xm_stops::{Pending, Stops};
 use xm_ticks::Price;
 
-/// The order of the command that is taken.
+/// What is kept ready for a command.
 #[derive(Clone, Copy)]
 pub enum Hand {
-    /// No place in the book is kept for one.
+    /// Nothing.
     Empty,
-    /// This place is kept for it.
+    /// Room for one trade more than there are orders and stops.
+    Spare,
+    /// This place in the book, for an order.
     Kept(Place),
-    /// It came in: it joined the book, or left nothing that could.
+    /// Room among the held stops for this one, and a place in the book for its order.
+    Held(Stop),
+    /// It was used: an order or a stop joined, or nothing was left that could.
     Played,
 }
 
-/// All that changes orders, trades and stops stands on this. A clause sees a state of the model,
-/// the pending stops, and the order in hand. No stop is held or pending yet.
+/// All that changes orders, trades and stops stands on this. A clause sees a state of the model, the pending stops, and what is
+/// kept ready for the command.
 #[derive(Drop)]
 pub struct Unsettled<A: Allocator + Copy> {
     pub settings: DeskSettings,
     pub accepted: u64,
     pub phase: Phase,
     pub book: Book<A>,
+    pub stops: Stops<A>,
+    pub pending: Pending<A>,
     pub tape: Tape<A>,
     // The number of sweeps, and of calls that traded.
     pub sweeps: u64,
@@ -42,10 +48,10 @@ pub struct Unsettled<A: Allocator + Copy> {
 }
 
 impl<A: Allocator + Copy> Model for Unsettled<A> {
-    ghost use Rattle.std.specs.Prelude.{◌≡◌, ◌+◌, ◌≤◌, [], length, true};
-    ghost use Rattle.xm_book.specs.Places.{SamePlaces};
+    ghost use Rattle.std.specs.Prelude.{◌≡◌, true};
+    ghost use Rattle.xm_desk.specs.Frame.{IsFramed};
     ghost use Rattle.xm_desk.specs.Opening.{are_widths};
-    ghost use Rattle.xm_desk.specs.Settled.{Unsettled, joined_in, places_in};
+    ghost use Rattle.xm_desk.specs.Settled.{Unsettled};
 
     ghost Value = { Unsettled };
 
@@ -55,22 +61,18 @@ impl<A: Allocator + Copy> Model for Unsettled<A> {
         accepted = u.accepted;
         phase = u.phase;
         orders = u.book.orders;
-        stops = [];
+        stops = u.stops.stops;
         trades = u.tape.trades;
         sweeps = u.sweeps;
       };
-      pending = [];
+      pending = u.pending.stops;
       hand = u.hand;
-      room = u.tape.room;
     } };
 
-    // Each add is of a command that was accepted, or of the one in hand.
     ghost invariant = { λ u. record {
       opening : u.tape.opening ≡ u.settings.reference;
       widths : are_widths u.settings.widths ≡ true;
-      reserved : SamePlaces u.book.reserved (places_in u.hand);
-      adds : u.book.adds ≤ u.accepted + joined_in u.hand;
-      few : length u.book.orders ≤ u.accepted + joined_in u.hand;
+      frame : IsFramed u.accepted u.book u.stops u.pending u.tape.room u.hand;
     } };
 }
 
@@ -92,12 +94,11 @@ impl<A: Allocator + Copy> Unsettled<A> {
     /// What an accepted command does, before the stops that it reached are settled.
     pub fn act(&mut self, command: &Command)
         requires hand { self.old.hand ≡ hand_for self.old.state command.now }
-        requires served { IsTrue (is_served command.now) }
+        requires settled { self.old.pending ≡ [] }
         requires lawful { refusal_of self.old.state command.now ≡ None }
-        requires room { HasRoom self.old.state command.now self.old.room }
         requires counted { IsCounted self.old.state }
-        ensures acted { self.new ≡ record self.old { state = act self.old.state command.now; hand = played self.old.hand; room = self.new.room } }
-        ensures few { AreFew (new_trades self.old.state self.new.state) }
+        ensures acted { self.new ≡ record self.old { state = act self.old.state command.now; hand = played self.old.hand } }
+        ensures made { Makes self.old self.new }
     {
         if let Some(entry) = Entry::of(command) {
             return self.enter(&entry);

@@ -2,9 +2,7 @@ use Rattle.std.proofs.Common.{◌≡◌, ◌∙◌, List, Some, None, [], ◌∷
 use Rattle.xm_rules.proofs.Journals.{is_lawful-push, journal_of, replay-push}
 use Rattle.xm_rules.proofs.Kept.{step-settings}
 use Rattle.xm_rules.proofs.Memory.{refusal-not_memory}
-use Rattle.xm_rules.proofs.Served.{step-no_stops}
 use Rattle.xm_rules.specs.Refusals.{refusal_of}
-use Rattle.xm_rules.specs.Served.{is_served}
 use Rattle.xm_rules.specs.State.{State}
 use Rattle.xm_rules.specs.Step.{Journal, is_lawful, replay, reply, step}
 use Rattle.xm_rules.specs.declared.commands.Command.{Command}
@@ -29,14 +27,12 @@ invariant_of-self-2 g c =
     let took : c.step-reply.new.self.state ≡ step s command = search rules in
     let items : c.push_reserved.new.self.items ≡ more = cc in
     let passed : refusal_of s command ≡ None = search rules in
-    let served : is_served command ≡ true = search rules in
     let same : c.step-reply.new.self.state.settings ≡ s.settings = ap (λ (t : State). t.settings) took ∙ step-settings s command in
     let journal = ap (λ (settings : DeskSettings). journal_of settings more) (sym same) ∙ ap (λ (cs : List Command). journal_of c.step-reply.new.self.state.settings cs) (sym items) in
     record {
       replayed = took ∙ ap (λ (t : State). step t command) i.replayed ∙ sym (replay-push j command) ∙ ap replay journal;
       lawful = subst (λ (k : Journal). is_lawful k ≡ true) journal (is_lawful-push j command i.lawful (subst (λ (t : State). refusal_of t command ≡ None) i.replayed passed));
       hand = search rules;
-      no_stops = ap (λ (t : State). t.stops) took ∙ step-no_stops s command served i.no_stops;
     }
 
 pub returns-clause-journal : goal.returns-clause-journal

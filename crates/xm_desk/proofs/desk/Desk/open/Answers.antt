@@ -13,5 +13,4 @@ invariant_of-result g c =
       replayed = ap (λ (m : Settled). m.state) fresh ∙ sym (replay-opening settings) ∙ ap replay (sym journal);
       lawful = ap is_lawful journal ∙ is_lawful-opening settings;
       hand = ap (λ (m : Settled). m.hand) fresh;
-      no_stops = ap (λ (m : Settled). m.state.stops) fresh;
     }

@@ -1,15 +1,13 @@
-use Rattle.std.proofs.Common.{◌≡◌, ◌∙◌, true, false, List, [], Some, find, rules, ap, sym, arith, drop, length, not, subst, ℕ}
+use Rattle.std.proofs.Common.{◌≡◌, ◌∙◌, true, false, List, Some, find, rules, ap, arith, length, not}
 use Rattle.std.specs.Prelude.{nat_le}
 use Rattle.std.proofs.lemmas.Bool.{and_parts}
 use Rattle.std.proofs.lemmas.Bool.Decides.{nat_tests}
 use Rattle.xm_book.specs.TimeList.{TimeList}
-use Rattle.xm_desk.proofs.Changing.{change-finds, copied-some, kept-change, replaced-can-come, replaced-change}
-use Rattle.xm_desk.proofs.Hands.{filter-shorter}
-use Rattle.xm_desk.proofs.CallsEnd.{untraded-few}
-use Rattle.xm_desk.specs.Made.{AreFew}
-use Rattle.xm_desk.specs.Settled.{Unsettled, played}
-use Rattle.xm_rules.specs.Step.{changed}
-use Rattle.xm_rules.specs.declared.orders.Trade.{Trade}
+use Rattle.xm_desk.proofs.Changing.{change-finds, copied-some, kept-change, replaced-can-come, replaced-change, without}
+use Rattle.xm_desk.proofs.Frames.{fewer}
+use Rattle.xm_desk.proofs.Shorter.{filter-shorter}
+use Rattle.xm_desk.proofs.Making.{makes-both, makes-none}
+use Rattle.xm_desk.specs.Settled.{Unsettled, possible_trades}
 use Rattle.xm_desk.specs.declared.unsettled.Hand.TheVariants.{Played}
 use Rattle.xm_rules.proofs.Accepted.{change-accepted}
 use Rattle.xm_rules.specs.Orders.{is_named, removed, with_rest}
@@ -38,13 +36,14 @@ pub invariant_of-self-else-keeps_priority : goal.invariant_of-self-else-keeps_pr
 invariant_of-self-else-keeps_priority g c =
     let u = c.self.inside in
     let left = c.remove.ensures.left in
-    let fewer = filter-shorter (λ (o : Order). not (is_named c.args.member c.args.reference o)) u.book.orders in
+    let orders = ap (λ (l : TimeList). length l.orders) left in
+    let few = filter-shorter (λ (o : Order). not (is_named c.args.member c.args.reference o)) u.book.orders in
     record {
       opening = c.self.invariant.opening;
       widths = c.self.invariant.widths;
-      reserved = rw (ap (λ (l : TimeList). l.reserved) left) c.self.invariant.reserved;
-      adds = omega (arith, ap (λ (l : TimeList). l.adds) left, c.self.invariant.adds);
-      few = omega (arith, ap (λ (l : TimeList). length l.orders) left, fewer, c.self.invariant.few);
+      frame =
+          fewer u.accepted u.stops u.pending u.book c.remove.new.self u.tape.room u.tape.room u.hand c.self.invariant.frame
+          (ap (λ (l : TimeList). l.reserved) left) (ap (λ (l : TimeList). l.adds) left) (omega (arith, orders, few)) (omega (arith, orders, few));
     }
 
 pub come-requires : goal.come-requires
@@ -55,66 +54,61 @@ come-requires g c =
     let found : find (is_named c.args.member c.args.reference) v.state.orders ≡ Some o = search rules in
     let joins : keeps_priority c.args.quantity c.args.limit o ≡ false = search rules in
     let view : List Order → Unsettled = λ orders. record {
-      state = record { settings = u.settings; accepted = u.accepted; phase = u.phase; orders = orders; stops = []; trades = u.tape.trades; sweeps = u.sweeps };
-      pending = [];
+      state = record { settings = u.settings; accepted = u.accepted; phase = u.phase; orders = orders; stops = u.stops.stops; trades = u.tape.trades; sweeps = u.sweeps };
+      pending = u.pending.stops;
       hand = u.hand;
-      room = u.tape.room;
     } in
-    replaced-can-come v c.args.member c.args.reference c.args.quantity c.args.limit o found joins c.requires.hand c.requires.lawful c.requires.room c.requires.counted
+    replaced-can-come v c.args.member c.args.reference c.args.quantity c.args.limit o found joins c.requires.hand c.requires.lawful c.requires.counted
     (view c.remove.new.self.orders) c.changed_order.result
-    (ap (λ (l : TimeList). view l.orders) c.remove.ensures.left
-    ∙ ap (λ (w : Unsettled). record w { state = record w.state { orders = removed c.args.member c.args.reference w.state.orders } }) c.self.view_is)
+    (ap (λ (l : TimeList). view l.orders) c.remove.ensures.left ∙ ap (without c.args.member c.args.reference) c.self.view_is)
     c.changed_order.ensures
 
-pub returns-then-keeps_priority : goal.returns-then-keeps_priority
-returns-then-keeps_priority g c =
+pub returns-then-keeps_priority-clause-changed : goal.returns-then-keeps_priority-clause-changed
+returns-then-keeps_priority-clause-changed g c =
     let v = c.args.self.now in
     let u = c.self.inside in
     let o = c.unwrap.result.now in
     let found : find (is_named c.args.member c.args.reference) v.state.orders ≡ Some o = search rules in
     let keeps : keeps_priority c.args.quantity c.args.limit o ≡ true = search rules in
     let reduced : Unsettled → Unsettled = λ w. record w { state = record w.state { orders = with_rest c.args.member c.args.reference c.args.quantity w.state.orders } } in
-    record {
-      changed =
-          ap (λ (l : TimeList). let w : Unsettled = record {
-            state = record { settings = u.settings; accepted = u.accepted; phase = u.phase; orders = l.orders; stops = []; trades = u.tape.trades; sweeps = u.sweeps };
-            pending = [];
-            hand = u.hand;
-            room = u.tape.room;
-          } in w) c.reduce.ensures.reduced
-          ∙ ap reduced c.self.view_is
-          ∙ kept-change v c.args.member c.args.reference c.args.quantity c.args.limit o found keeps c.requires.hand
-          ∙ ap (λ (room : ℕ). let w : Unsettled = record v {
-            state = changed v.state c.args.quantity c.args.limit (find (is_named c.args.member c.args.reference) v.state.orders);
-            hand = played v.hand;
-            room = room;
-          } in w) (sym (ap (λ (w : Unsettled). w.room) c.self.view_is));
-      few = untraded-few v.state.trades u.tape.trades (ap (λ (w : Unsettled). w.state.trades) c.self.view_is);
-    }
+    ap (λ (l : TimeList). let w : Unsettled = record {
+      state = record { settings = u.settings; accepted = u.accepted; phase = u.phase; orders = l.orders; stops = u.stops.stops; trades = u.tape.trades; sweeps = u.sweeps };
+      pending = u.pending.stops;
+      hand = u.hand;
+    } in w) c.reduce.ensures.reduced
+    ∙ ap reduced c.self.view_is
+    ∙ kept-change v c.args.member c.args.reference c.args.quantity c.args.limit o found keeps c.requires.hand
 
-pub returns-else-keeps_priority : goal.returns-else-keeps_priority
-returns-else-keeps_priority g c =
+pub returns-else-keeps_priority-clause-changed : goal.returns-else-keeps_priority-clause-changed
+returns-else-keeps_priority-clause-changed g c =
     let v = c.args.self.now in
     let u = c.self.inside in
     let o = c.unwrap.result.now in
     let found : find (is_named c.args.member c.args.reference) v.state.orders ≡ Some o = search rules in
     let joins : keeps_priority c.args.quantity c.args.limit o ≡ false = search rules in
     let again : c.changed_order.result ≡ changed_order c.args.quantity c.args.limit o = search rules in
-    let none = sym (ap (λ (w : Unsettled). w.state.stops) c.self.view_is) in
-    let room = c.come.new.self.room in
     let comes : List Order → Order → Unsettled = λ orders x. record {
-      state = come (record { settings = u.settings; accepted = u.accepted; phase = u.phase; orders = orders; stops = []; trades = u.tape.trades; sweeps = u.sweeps }) x;
-      pending = [];
+      state = come (record { settings = u.settings; accepted = u.accepted; phase = u.phase; orders = orders; stops = u.stops.stops; trades = u.tape.trades; sweeps = u.sweeps }) x;
+      pending = u.pending.stops;
       hand = Played;
-      room = room;
     } in
-    let replaces : Unsettled → Unsettled = λ w. record w { state = come (record w.state { orders = removed c.args.member c.args.reference w.state.orders }) (changed_order c.args.quantity c.args.limit o); hand = Played; room = room } in
-    record {
-      changed =
-          c.come.ensures.come
-          ∙ ap (λ (l : TimeList). comes l.orders c.changed_order.result) c.remove.ensures.left
-          ∙ ap (λ (x : Order). comes (removed c.args.member c.args.reference u.book.orders) x) again
-          ∙ ap replaces c.self.view_is
-          ∙ ap (λ (w : Unsettled). record w { room = room }) (replaced-change v c.args.member c.args.reference c.args.quantity c.args.limit o found joins c.requires.hand none);
-      few = subst (λ (ts : List Trade). AreFew (drop (length ts) c.come.new.self.state.trades)) (ap (λ (w : Unsettled). w.state.trades) c.self.view_is) c.come.ensures.few;
-    }
+    let replaces : Unsettled → Unsettled = λ w. record w { state = come (record w.state { orders = removed c.args.member c.args.reference w.state.orders }) (changed_order c.args.quantity c.args.limit o); hand = Played } in
+    c.come.ensures.come
+    ∙ ap (λ (l : TimeList). comes l.orders c.changed_order.result) c.remove.ensures.left
+    ∙ ap (λ (x : Order). comes (removed c.args.member c.args.reference u.book.orders) x) again
+    ∙ ap replaces c.self.view_is
+    ∙ replaced-change v c.args.member c.args.reference c.args.quantity c.args.limit o found joins c.requires.hand (c.requires.counted.names c.args.member c.args.reference)
+
+pub returns-else-keeps_priority-clause-made : goal.returns-else-keeps_priority-clause-made
+returns-else-keeps_priority-clause-made g c =
+    let v = c.args.self.now in
+    let u = c.self.inside in
+    let view : List Order → Unsettled = λ orders. record {
+      state = record { settings = u.settings; accepted = u.accepted; phase = u.phase; orders = orders; stops = u.stops.stops; trades = u.tape.trades; sweeps = u.sweeps };
+      pending = u.pending.stops;
+      hand = u.hand;
+    } in
+    let w = view c.remove.new.self.orders in
+    let few = filter-shorter (λ (o : Order). not (is_named c.args.member c.args.reference o)) u.book.orders in
+    let orders = ap (λ (l : TimeList). length l.orders) c.remove.ensures.left in
+    makes-both v w c.come.new.self (makes-none v w (ap (λ (x : Unsettled). x.state.trades) c.self.view_is) (omega (arith, orders, few, ap possible_trades c.self.view_is))) c.come.ensures.made

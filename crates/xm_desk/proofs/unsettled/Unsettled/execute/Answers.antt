@@ -1,35 +1,73 @@
-use Rattle.std.proofs.Common.{◌≡◌, ◌+◌, ◌++◌, ap, length, arith, ◌∙◌, List}
+use Rattle.std.proofs.Common.{◌≡◌, ◌∙◌, ◌<◌, ◌+◌, ◌++◌, ◌∷◌, true, List, length, sym, ap, subst, arith}
+use Rattle.std.specs.List.{list_any}
+use Rattle.xm_book.specs.Places.{SamePlaces, same_place}
 use Rattle.xm_book.specs.TimeList.{TimeList}
-use Rattle.xm_desk.proofs.CallsEnd.{more-few}
-use Rattle.xm_desk.proofs.Sweeping.{few-swept}
-use Rattle.xm_desk.specs.Settled.{Unsettled}
+use Rattle.xm_book.specs.declared.places.Place.{Place}
+use Rattle.xm_desk.proofs.Frames.{gives-up, kept-there}
+use Rattle.xm_desk.proofs.Sweeping.{sized-swept}
+use Rattle.xm_desk.specs.Frame.{IsFramed}
+use Rattle.xm_desk.specs.Settled.{Unsettled, possible_trades, trades_in}
 use Rattle.xm_desk.specs.Tape.{TapeView, swept_by}
+use Rattle.xm_desk.specs.declared.unsettled.Hand.{Hand}
+use Rattle.xm_desk.specs.declared.unsettled.Hand.TheVariants.{Kept}
 use Rattle.xm_rules.proofs.SweepSizes.{sweep_leaves_no_more}
-use Rattle.xm_rules.specs.Sweep.{Sweep, sweep_trades}
-use Rattle.xm_rules.specs.declared.orders.Trade.{Trade}
+use Rattle.xm_rules.specs.Sweep.{Sweep, rest_after, sweep_trades}
 use Rattle.xm_desk.proofs.unsettled.Unsettled.execute.Goals as goal
+
+pub release-requires : goal.release-requires
+release-requires g c =
+    let u = c.self.inside in
+    let place = c.of.result in
+    let hand : u.hand ≡ Kept place = ap (λ (v : Unsettled). v.hand) c.self.view_is ∙ c.requires.can.joins.hand ∙ ap Kept (sym c.of.ensures) in
+    let framed = subst (λ (h : Hand). IsFramed u.accepted u.book u.stops u.pending u.tape.room h) hand c.self.invariant.frame in
+    let same = ap (λ (l : TimeList). l.reserved) c.sweep-swept.ensures.orders in
+    subst (λ (ps : List Place). list_any (same_place place) ps ≡ true) (sym same) (kept-there u.book.reserved u.stops.stops u.pending.stops place framed.reserved)
 
 pub invariant_of-self : goal.invariant_of-self
 invariant_of-self g c =
     let u = c.self.inside in
-    let left = c.sweep-swept.ensures.orders in
+    let place = c.of.result in
+    let hand : u.hand ≡ Kept place = ap (λ (v : Unsettled). v.hand) c.self.view_is ∙ c.requires.can.joins.hand ∙ ap Kept (sym c.of.ensures) in
     let w : Sweep = swept_by u.tape u.book.orders c.args.order.now u.settings.widths in
+    let swept = c.sweep-swept.ensures.orders in
+    let released = c.release.ensures.rest in
+    let orders = ap (λ (l : TimeList). length l.orders) swept in
+    let left = ap (λ (l : TimeList). length l.orders) released in
     record {
       opening = ap (λ (t : TapeView). t.opening) c.sweep-swept.ensures.trades ∙ c.self.invariant.opening;
       widths = c.self.invariant.widths;
-      reserved = rw (ap (λ (l : TimeList). l.reserved) left) c.self.invariant.reserved;
-      adds = omega (arith, ap (λ (l : TimeList). l.adds) left, c.self.invariant.adds);
-      few = omega (arith, ap (λ (l : TimeList). length l.orders) left, sweep_leaves_no_more w, c.self.invariant.few);
+      frame =
+          gives-up u.accepted u.stops u.pending u.book c.release.new.self u.tape.room c.sweep-swept.new.self.room u.hand place hand c.self.invariant.frame
+          (subst (λ (ps : List Place). SamePlaces ps (place ∷ c.release.new.self.reserved)) (ap (λ (l : TimeList). l.reserved) swept) c.release.ensures.places)
+          (sym (ap (λ (l : TimeList). l.adds) released) ∙ ap (λ (l : TimeList). l.adds) swept)
+          (omega (arith, orders, left, c.sweep-swept.ensures.used_up.at_most, c.sweep-swept.ensures.room)) (omega (arith, orders, left, sweep_leaves_no_more w));
     }
 
-pub returns-clause-few : goal.returns-clause-few
-returns-clause-few g c =
+pub returns-then-swept-eq0-clause-made : goal.returns-then-swept-eq0-clause-made
+returns-then-swept-eq0-clause-made g c =
     let u = c.self.inside in
-    let s = c.args.self.now.state in
+    let v = c.args.self.now in
     let w : Sweep = swept_by u.tape u.book.orders c.args.order.now u.settings.widths in
     let made = sweep_trades (u.sweeps + 1) w in
-    let trades : u.tape.trades ≡ s.trades = ap (λ (v : Unsettled). v.state.trades) c.self.view_is in
-    let room : u.tape.room ≡ c.args.self.now.room = ap (λ (v : Unsettled). v.room) c.self.view_is in
-    let fits = c.requires.can.room c.requires.continuous in
-    more-few s.trades c.sweep-swept.new.self.trades made (ap (λ (t : TapeView). t.trades) c.sweep-swept.ensures.trades ∙ ap (λ (ts : List Trade). ts ++ made) trades)
-    (few-swept (u.sweeps + 1) u.tape.room c.sweep-swept.new.self.room w c.sweep-swept.ensures.room (omega (arith, room, fits.few)) c.requires.can.joins.rest)
+    let orders = ap (λ (l : TimeList). length l.orders) c.sweep-swept.ensures.orders in
+    let left = ap (λ (l : TimeList). length l.orders) c.release.ensures.rest in
+    record {
+      trades = made;
+      appended = ap (λ (t : TapeView). t.trades) c.sweep-swept.ensures.trades ∙ ap (λ (x : Unsettled). x.state.trades ++ made) c.self.view_is;
+      sized = sized-swept (u.sweeps + 1) w c.requires.can.joins.rest;
+      fewer = omega (arith, orders, left, c.sweep-swept.ensures.used_up.at_most, ap possible_trades c.self.view_is, ap trades_in c.requires.can.joins.hand, ap (λ (x : Unsettled). trades_in x.hand) c.self.view_is);
+    }
+
+pub returns-else-swept-eq0-clause-made : goal.returns-else-swept-eq0-clause-made
+returns-else-swept-eq0-clause-made g c =
+    let u = c.self.inside in
+    let w : Sweep = swept_by u.tape u.book.orders c.args.order.now u.settings.widths in
+    let made = sweep_trades (u.sweeps + 1) w in
+    let orders = ap (λ (l : TimeList). length l.orders) c.sweep-swept.ensures.orders in
+    let some : 0 < rest_after w = grind (arith, c.if-swept-eq0.false, c.sweep-swept.ensures.rest) in
+    record {
+      trades = made;
+      appended = ap (λ (t : TapeView). t.trades) c.sweep-swept.ensures.trades ∙ ap (λ (x : Unsettled). x.state.trades ++ made) c.self.view_is;
+      sized = sized-swept (u.sweeps + 1) w c.requires.can.joins.rest;
+      fewer = omega (arith, orders, c.sweep-swept.ensures.used_up.units_left some, ap possible_trades c.self.view_is);
+    }

@@ -1,5 +1,11 @@
-use Rattle.std.proofs.Common.{refl}
+use Rattle.std.proofs.Common.{◌∙◌}
+use Rattle.xm_desk.proofs.Making.{makes-both}
 use Rattle.xm_desk.proofs.unsettled.Unsettled.settle.Goals as goal
 
-pub returns : goal.returns
-returns g c = rw (← c.self.view_is) refl
+pub loop-preserved : goal.loop-preserved
+loop-preserved g c =
+    record {
+      same = c.settle_next.ensures.same c.loop-test.true ∙ c.loop.invariant.same;
+      standing = c.settle_next.ensures.standing;
+      made = makes-both c.args.self.now c.loop.self c.settle_next.new.self c.loop.invariant.made c.settle_next.ensures.made;
+    }

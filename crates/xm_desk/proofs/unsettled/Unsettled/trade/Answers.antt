@@ -1,14 +1,14 @@
-use Rattle.std.proofs.Common.{◌≡◌, ◌+◌, ◌++◌, ap, length, arith, ◌∙◌, List}
-use Rattle.xm_desk.specs.Settled.{Unsettled}
-use Rattle.xm_rules.specs.State.{ref1}
-use Rattle.xm_rules.specs.declared.phases.Phase.TheVariants.{Call}
+use Rattle.std.proofs.Common.{◌+◌, ◌++◌, ◌∙◌, length, ap, arith}
 use Rattle.xm_auction.specs.Allotment.{uncrossing_of}
 use Rattle.xm_book.specs.TimeList.{TimeList}
-use Rattle.xm_desk.proofs.CallsEnd.{few-trades, fewer-orders, more-few}
+use Rattle.xm_desk.proofs.CallsEnd.{fewer-orders, sized-trades}
+use Rattle.xm_desk.proofs.Frames.{ends_call}
+use Rattle.xm_desk.specs.Settled.{Unsettled, possible_trades, trades_in}
 use Rattle.xm_desk.specs.Tape.{TapeView}
 use Rattle.xm_rules.proofs.Prices.{some_volume}
 use Rattle.xm_rules.specs.Allotment.{Uncrossing, auction_trades}
-use Rattle.xm_rules.specs.declared.orders.Trade.{Trade}
+use Rattle.xm_rules.specs.State.{ref1}
+use Rattle.xm_rules.specs.declared.phases.Phase.TheVariants.{Call}
 use Rattle.xm_desk.proofs.unsettled.Unsettled.trade.Goals as goal
 
 pub allot-requires-clause-some : goal.allot-requires-clause-some
@@ -21,23 +21,24 @@ invariant_of-self g c =
     let b = c.self.inside in
     let left = c.allot.ensures.orders in
     let u : Uncrossing = uncrossing_of c.args.auction c.args.stage b.book.orders c.args.price c.args.volume in
+    let orders = ap (λ (l : TimeList). length l.orders) left in
     record {
       opening = ap (λ (t : TapeView). t.opening) c.allot.ensures.trades ∙ c.self.invariant.opening;
       widths = c.self.invariant.widths;
-      reserved = rw (ap (λ (l : TimeList). l.reserved) left) c.self.invariant.reserved;
-      adds = omega (arith, ap (λ (l : TimeList). l.adds) left, c.self.invariant.adds);
-      few = omega (arith, ap (λ (l : TimeList). length l.orders) left, fewer-orders u, c.self.invariant.few);
+      frame =
+          ends_call b.accepted b.stops b.pending b.book c.allot.new.book b.tape.room c.allot.new.self.room b.hand (ap (λ (v : Unsettled). v.hand) c.self.view_is ∙ c.requires.hand) c.self.invariant.frame
+          (ap (λ (l : TimeList). l.reserved) left) (ap (λ (l : TimeList). l.adds) left) (omega (arith, orders, c.allot.ensures.used, c.allot.ensures.room)) (omega (arith, orders, fewer-orders u));
     }
 
-pub returns-clause-few : goal.returns-clause-few
-returns-clause-few g c =
-    let s = c.args.self.now.state in
+pub returns-clause-made : goal.returns-clause-made
+returns-clause-made g c =
     let b = c.self.inside in
     let u : Uncrossing = uncrossing_of c.args.auction c.args.stage b.book.orders c.args.price c.args.volume in
     let made = auction_trades (b.sweeps + 1) u in
-    let orders : b.book.orders ≡ s.orders = ap (λ (v : Unsettled). v.state.orders) c.self.view_is in
-    let trades : b.tape.trades ≡ s.trades = ap (λ (v : Unsettled). v.state.trades) c.self.view_is in
-    let room : b.tape.room ≡ c.args.self.now.room = ap (λ (v : Unsettled). v.room) c.self.view_is in
-    let book = c.len.ensures.book in
-    more-few s.trades c.allot.new.self.trades made (ap (λ (t : TapeView). t.trades) c.allot.ensures.trades ∙ ap (λ (ts : List Trade). ts ++ made) trades)
-    (few-trades u (b.sweeps + 1) b.tape.room book.rests (omega (arith, room, c.requires.room.few)) c.allot.ensures.number)
+    let orders = ap (λ (l : TimeList). length l.orders) c.allot.ensures.orders in
+    record {
+      trades = made;
+      appended = ap (λ (t : TapeView). t.trades) c.allot.ensures.trades ∙ ap (λ (x : Unsettled). x.state.trades ++ made) c.self.view_is;
+      sized = sized-trades u (b.sweeps + 1) c.len.ensures.book.rests;
+      fewer = omega (arith, orders, c.allot.ensures.used, ap possible_trades c.self.view_is, ap trades_in c.requires.hand, ap (λ (x : Unsettled). trades_in x.hand) c.self.view_is);
+    }

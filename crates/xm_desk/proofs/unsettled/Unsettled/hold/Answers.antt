@@ -1,0 +1,17 @@
+use Rattle.std.proofs.Common.{◌∙◌, ap}
+use Rattle.xm_desk.proofs.Frames.{holds}
+use Rattle.xm_desk.specs.Settled.{Unsettled}
+use Rattle.xm_desk.proofs.unsettled.Unsettled.hold.Goals as goal
+
+pub add-requires-clause-room : goal.add-requires-clause-room
+add-requires-clause-room g c =
+    c.self.invariant.frame.ready c.args.stop (ap (λ (v : Unsettled). v.hand) c.self.view_is ∙ c.requires.hand)
+
+pub invariant_of-self : goal.invariant_of-self
+invariant_of-self g c =
+    let u = c.self.inside in
+    record {
+      opening = c.self.invariant.opening;
+      widths = c.self.invariant.widths;
+      frame = holds u.accepted u.book u.stops c.add.new.self u.pending u.tape.room u.hand c.args.stop (ap (λ (v : Unsettled). v.hand) c.self.view_is ∙ c.requires.hand) c.self.invariant.frame c.add.ensures;
+    }

@@ -1,0 +1,50 @@
+use Rattle.std.proofs.Common.{◌∙◌, ◌≤◌, ap, sym, arith}
+use Rattle.xm_desk.proofs.Making.{makes-both, makes-none}
+use Rattle.xm_desk.proofs.Stepping.{can-settle, counted-after, few-made, few-possible, stepped}
+use Rattle.xm_desk.specs.Settled.{Unsettled, possible_trades}
+use Rattle.xm_rules.proofs.Kept.{act-keeps, settle-keeps}
+use Rattle.xm_desk.proofs.unsettled.Unsettled.step.Given.{Over}
+use Rattle.xm_desk.proofs.unsettled.Unsettled.step.Goals as goal
+
+pub settle-requires : goal.settle-requires
+settle-requires g c = can-settle c.args.self.now c.args.command.now c.requires.settled c.requires.lawful c.requires.counted c.act.new.self c.act.ensures.acted
+
+pub count-requires-clause-hand : goal.count-requires-clause-hand
+count-requires-clause-hand g c = c.settle.ensures.standing.hand
+
+pub count-requires-clause-room : goal.count-requires-clause-room
+count-requires-clause-room g c = c.settle.ensures.standing.accepted
+
+pub returns-clause-stepped : goal.returns-clause-stepped
+returns-clause-stepped g c =
+    stepped c.args.self.now c.args.command.now c.requires.settled c.requires.lawful c.requires.counted c.act.new.self c.settle.new.self c.count.new.self c.act.ensures.acted c.settle.ensures.settled c.count.ensures
+
+pub returns-clause-made : goal.returns-clause-made
+returns-clause-made g c =
+    let t = c.settle.new.self in
+    let n = c.count.new.self in
+    makes-both c.args.self.now t n (makes-both c.args.self.now c.act.new.self t c.act.ensures.made c.settle.ensures.made)
+    (makes-none t n (ap (λ (w : Unsettled). w.state.trades) c.count.ensures) (omega (arith, ap possible_trades c.count.ensures)))
+
+-- no more trades are possible than a book has orders
+few : (g : Over) (c : goal.After-count g) → possible_trades c.args.self.now ≤ 2000000
+few g c =
+    let u = c.self.inside in
+    let v = c.args.self.now in
+    let is = c.self.view_is in
+    few-possible v u.accepted v.state.settings.limit u.tape.room u.book u.stops u.pending u.hand c.self.invariant.frame (sym (ap (λ (w : Unsettled). w.state.orders) is))
+    (sym (ap (λ (w : Unsettled). w.state.stops) is)) (sym (ap (λ (w : Unsettled). w.pending) is)) (sym (ap (λ (w : Unsettled). w.hand) is))
+    (omega (arith, c.requires.counted.accepted, ap (λ (w : Unsettled). w.state.accepted) is)) (omega (arith, c.get.ensures.value, c.get.ensures.high, ap (λ (w : Unsettled). w.state.settings.limit) is))
+
+pub returns-clause-few : goal.returns-clause-few
+returns-clause-few g c = few-made c.args.self.now c.count.new.self (returns-clause-made g c) (few g c)
+
+pub returns-clause-counted : goal.returns-clause-counted
+returns-clause-counted g c =
+    let u = c.args.self.now in
+    let a = c.act.new.self in
+    let t = c.settle.new.self in
+    let accepted =
+    ap (λ (w : Unsettled). w.state.accepted) c.settle.ensures.settled ∙ (settle-keeps a.state a.pending).accepted ∙ ap (λ (w : Unsettled). w.state.accepted) c.act.ensures.acted
+    ∙ (act-keeps u.state c.args.command.now).accepted in
+    counted-after u c.count.new.self (returns-clause-made g c) (few g c) t c.count.ensures (ap (λ (w : Unsettled). w.pending) c.settle.ensures.settled) c.settle.ensures.standing c.requires.counted accepted

@@ -1,0 +1,26 @@
+-- What is kept ready for the orders and stops of a security, so that nothing that they do can fail.
+use Rattle.std.specs.Prelude.{◌≡◌, ◌≤◌, ℕ, ◌+◌, List, ◌++◌, length, map, Some}
+use Rattle.xm_book.specs.Places.{SamePlaces}
+use Rattle.xm_book.specs.TimeList.{TimeList}
+use Rattle.xm_book.specs.declared.places.Place.{Place}
+use Rattle.xm_desk.specs.Settled.{joined_in, place_of_stop, places_in, stops_in, trades_in}
+use Rattle.xm_desk.specs.declared.unsettled.Hand.{Hand}
+use Rattle.xm_desk.specs.declared.unsettled.Hand.TheVariants.{Held}
+use Rattle.xm_rules.specs.declared.orders.Stop.{Stop}
+use Rattle.xm_stops.specs.HeldStops.{HeldStops, PendingStops}
+
+abbrev pub places_of_stops : List Stop → List Place
+places_of_stops stops = map place_of_stop stops
+
+pub record IsFramed (accepted : ℕ) (book : TimeList) (held : HeldStops) (pending : PendingStops) (room : ℕ) (hand : Hand) : Type 0 where
+  -- the reserved places are those of held and pending stops and of the order in hand
+  pub reserved : SamePlaces book.reserved (places_of_stops held.stops ++ places_of_stops pending.stops ++ places_in hand)
+  -- each add and each stop is of a command that was accepted, or of the one in hand
+  pub adds : book.adds + length held.stops + length pending.stops ≤ accepted + joined_in hand
+  pub orders : length book.orders + length held.stops + length pending.stops ≤ accepted + joined_in hand
+  -- there is room for a trade of each order and each stop
+  pub trades : length book.orders + length held.stops + length pending.stops + trades_in hand ≤ room
+  -- all held stops can become pending
+  pub waiting : length held.stops + stops_in hand ≤ pending.room
+  -- a stop in hand can join the held ones
+  pub ready : (stop : Stop) → hand ≡ Held stop → held.ready ≡ Some stop
