@@ -1,0 +1,14 @@
+mod Known
+mod NameFacts
+mod Values
+mod Distinct
+mod Documents
+mod Takes
+mod Unread
+mod PlainFields
+mod CsvFields
+mod LineRecords
+mod Progress
+pub mod PassedErrors
+mod ReadOrders
+mod Timetables

@@ -1,0 +1,155 @@
+-- What CSV makes of fields that are written without quotes.
+use Rattle.std.proofs.Common.{◌≡◌, ℕ, zero, suc, ◌+◌, ◌-◌, ◌<◌, ◌≤◌, Bool, true, false, not, ◌||◌, ◌==◌, List, [], ◌∷◌, ◌++◌, take, drop, get_or, get_or-drop, length, length-drop, take-append-drop, Some, refl, sym, ap, ◌∙◌, append_assoc, arith}
+use Rattle.std.proofs.Math.Seq.{drop-cons, drop-nil, take-length}
+use Rattle.std.proofs.lemmas.Bool.{and_parts}
+use Rattle.std.proofs.lemmas.List.{append-nil, take_more}
+use Rattle.std.proofs.lemmas.List.Folds.{list_all-append}
+use Rattle.csv.specs.Machine.{next_record, step}
+use Rattle.csv.specs.Reading.{default_config}
+use Rattle.csv.specs.declared.parser.Action.TheVariants as act
+use Rattle.csv.specs.declared.parser.State.{State}
+use Rattle.csv.specs.declared.parser.State.TheVariants as st
+use Rattle.xm_files.specs.Plain.{EndsAt, EndsLine, ReadsLine, is_mark, is_plain}
+
+none-of : (a b c d : Bool) → not (a || (b || (c || d))) ≡ true → (a ≡ false) × (b ≡ false) × (c ≡ false) × (d ≡ false)
+none-of false false false false h = (refl, refl, refl, refl)
+none-of true b c d h = cc
+none-of false true c d h = cc
+none-of false false true d h = cc
+none-of false false false true h = cc
+
+no-mark : (byte : ℕ) → not (is_mark byte) ≡ true → ((byte == 10) ≡ false) × ((byte == 13) ≡ false) × ((byte == 34) ≡ false) × ((byte == 44) ≡ false)
+no-mark byte h = none-of (byte == 10) (byte == 13) (byte == 34) (byte == 44) h
+
+-- a byte that is no mark joins the field at hand
+joins-first : (byte : ℕ) → not (is_mark byte) ≡ true → step default_config st.StartRecord byte ≡ (st.InField, act.Copy)
+joins-first byte h = let m = no-mark byte h in rw (m.0, m.1, m.2, m.3) refl
+
+joins-next : (byte : ℕ) → not (is_mark byte) ≡ true → step default_config st.StartField byte ≡ (st.InField, act.Copy)
+joins-next byte h = let m = no-mark byte h in rw (m.0, m.1, m.2, m.3) refl
+
+joins-more : (byte : ℕ) → not (is_mark byte) ≡ true → step default_config st.InField byte ≡ (st.InField, act.Copy)
+joins-more byte h = let m = no-mark byte h in rw (m.0, m.1, m.3) refl
+
+copied : (s : State) (byte : ℕ) (fields : List (List ℕ)) (field rest : List ℕ) → step default_config s byte ≡ (st.InField, act.Copy)
+    → next_record default_config s fields field (byte ∷ rest) ≡ next_record default_config st.InField fields (field ++ byte ∷ []) rest
+unfolding next_record
+copied s byte fields field rest e = rw e refl
+
+-- up to a comma
+to-comma : (fields : List (List ℕ)) (begun field rest : List ℕ) → is_plain field ≡ true
+    → next_record default_config st.InField fields begun (field ++ 44 ∷ rest) ≡ next_record default_config st.StartField (fields ++ (begun ++ field) ∷ []) [] rest
+unfolding next_record
+to-comma fields begun [] rest plain = ap (λ (f : List ℕ). next_record default_config st.StartField (fields ++ f ∷ []) [] rest) (sym (append-nil begun))
+to-comma fields begun (byte ∷ field) rest plain =
+    let parts = and_parts (not (is_mark byte)) (is_plain field) plain in
+    copied st.InField byte fields begun (field ++ 44 ∷ rest) (joins-more byte parts.0)
+    ∙ to-comma fields (begun ++ byte ∷ []) field rest parts.1
+    ∙ ap (λ (f : List ℕ). next_record default_config st.StartField (fields ++ f ∷ []) [] rest) (append_assoc begun (byte ∷ []) field)
+
+-- the first field of a record
+pub first-field : (field rest : List ℕ) → is_plain field ≡ true → next_record default_config st.StartRecord [] [] (field ++ 44 ∷ rest) ≡ next_record default_config st.StartField (field ∷ []) [] rest
+unfolding next_record
+first-field [] rest plain = refl
+first-field (byte ∷ field) rest plain =
+    let parts = and_parts (not (is_mark byte)) (is_plain field) plain in
+    copied st.StartRecord byte [] [] (field ++ 44 ∷ rest) (joins-first byte parts.0) ∙ to-comma [] (byte ∷ []) field rest parts.1
+
+-- one more field
+pub next-field : (fields : List (List ℕ)) (field rest : List ℕ) → is_plain field ≡ true
+    → next_record default_config st.StartField fields [] (field ++ 44 ∷ rest) ≡ next_record default_config st.StartField (fields ++ field ∷ []) [] rest
+unfolding next_record
+next-field fields [] rest plain = refl
+next-field fields (byte ∷ field) rest plain =
+    let parts = and_parts (not (is_mark byte)) (is_plain field) plain in
+    copied st.StartField byte fields [] (field ++ 44 ∷ rest) (joins-next byte parts.0) ∙ to-comma fields (byte ∷ []) field rest parts.1
+
+-- up to the end of the line
+to-line : (fields : List (List ℕ)) (begun field more : List ℕ) → is_plain field ≡ true
+    → next_record default_config st.InField fields begun (field ++ 10 ∷ more) ≡ Some (fields ++ (begun ++ field) ∷ [], st.StartRecord, more)
+unfolding next_record
+to-line fields begun [] more plain = ap (λ (f : List ℕ). Some (fields ++ f ∷ [], st.StartRecord, more)) (sym (append-nil begun))
+to-line fields begun (byte ∷ field) more plain =
+    let parts = and_parts (not (is_mark byte)) (is_plain field) plain in
+    copied st.InField byte fields begun (field ++ 10 ∷ more) (joins-more byte parts.0)
+    ∙ to-line fields (begun ++ byte ∷ []) field more parts.1
+    ∙ ap (λ (f : List ℕ). Some (fields ++ f ∷ [], st.StartRecord, more)) (append_assoc begun (byte ∷ []) field)
+
+-- the last field of a line
+pub last-field : (fields : List (List ℕ)) (field more : List ℕ) → is_plain field ≡ true → next_record default_config st.StartField fields [] (field ++ 10 ∷ more) ≡ Some (fields ++ field ∷ [], st.StartRecord, more)
+unfolding next_record
+last-field fields [] more plain = refl
+last-field fields (byte ∷ field) more plain =
+    let parts = and_parts (not (is_mark byte)) (is_plain field) plain in
+    copied st.StartField byte fields [] (field ++ 10 ∷ more) (joins-next byte parts.0) ∙ to-line fields (byte ∷ []) field more parts.1
+
+first-of : (text field rest : List ℕ) → EndsAt 44 text field rest → next_record default_config st.StartRecord [] [] text ≡ next_record default_config st.StartField (field ∷ []) [] rest
+first-of text field rest ends = ap (next_record default_config st.StartRecord [] []) ends.0 ∙ first-field field rest ends.1
+
+next-of : (fields : List (List ℕ)) (text field rest : List ℕ) → EndsAt 44 text field rest → next_record default_config st.StartField fields [] text ≡ next_record default_config st.StartField (fields ++ field ∷ []) [] rest
+next-of fields text field rest ends = ap (next_record default_config st.StartField fields []) ends.0 ∙ next-field fields field rest ends.1
+
+last-of : (fields : List (List ℕ)) (text field rest : List ℕ) → (ends : EndsLine text field rest) → next_record default_config st.StartField fields [] text ≡ Some (fields ++ field ∷ [], st.StartRecord, ends.0)
+last-of fields text field rest ends =
+    ap (next_record default_config st.StartField fields []) (ends.2 ∙ ap (λ (r : List ℕ). field ++ r) ends.1) ∙ last-field fields field ends.0 ends.3
+
+-- a line of twelve fields
+pub line-read : (a b c d e f g h i j k l : List ℕ) (t0 t1 t2 t3 t4 t5 t6 t7 t8 t9 t10 t11 rest : List ℕ)
+    → EndsAt 44 t0 a t1 → EndsAt 44 t1 b t2 → EndsAt 44 t2 c t3 → EndsAt 44 t3 d t4 → EndsAt 44 t4 e t5 → EndsAt 44 t5 f t6 → EndsAt 44 t6 g t7 → EndsAt 44 t7 h t8 → EndsAt 44 t8 i t9 → EndsAt 44 t9 j t10 → EndsAt 44 t10 k t11
+    → EndsLine t11 l rest → ReadsLine t0 (a ∷ b ∷ c ∷ d ∷ e ∷ f ∷ g ∷ h ∷ i ∷ j ∷ k ∷ l ∷ []) rest
+line-read a b c d e f g h i j k l t0 t1 t2 t3 t4 t5 t6 t7 t8 t9 t10 t11 rest e0 e1 e2 e3 e4 e5 e6 e7 e8 e9 e10 e11 = (
+  e11.0,
+  e11.1,
+  first-of t0 a t1 e0
+      ∙ next-of (a ∷ []) t1 b t2 e1
+      ∙ next-of (a ∷ b ∷ []) t2 c t3 e2
+      ∙ next-of (a ∷ b ∷ c ∷ []) t3 d t4 e3
+      ∙ next-of (a ∷ b ∷ c ∷ d ∷ []) t4 e t5 e4
+      ∙ next-of (a ∷ b ∷ c ∷ d ∷ e ∷ []) t5 f t6 e5
+      ∙ next-of (a ∷ b ∷ c ∷ d ∷ e ∷ f ∷ []) t6 g t7 e6
+      ∙ next-of (a ∷ b ∷ c ∷ d ∷ e ∷ f ∷ g ∷ []) t7 h t8 e7
+      ∙ next-of (a ∷ b ∷ c ∷ d ∷ e ∷ f ∷ g ∷ h ∷ []) t8 i t9 e8
+      ∙ next-of (a ∷ b ∷ c ∷ d ∷ e ∷ f ∷ g ∷ h ∷ i ∷ []) t9 j t10 e9
+      ∙ next-of (a ∷ b ∷ c ∷ d ∷ e ∷ f ∷ g ∷ h ∷ i ∷ j ∷ []) t10 k t11 e10
+      ∙ last-of (a ∷ b ∷ c ∷ d ∷ e ∷ f ∷ g ∷ h ∷ i ∷ j ∷ k ∷ []) t11 l rest e11,
+)
+
+from-mark : (text : List ℕ) (n d mark : ℕ) → n < length text → get_or text n d ≡ mark → drop n text ≡ mark ∷ drop (n + 1) text
+from-mark text n d mark within is =
+    let next : suc n ≡ n + 1 = omega arith in
+    drop-cons text n d within ∙ ap (λ (byte : ℕ). byte ∷ drop (suc n) text) is ∙ ap (λ (k : ℕ). mark ∷ drop k text) next
+
+drop-again : (n m : ℕ) (text : List ℕ) → drop m (drop n text) ≡ drop (n + m) text
+drop-again zero m text =
+    let same : 0 + m ≡ m = omega arith in
+    ap (λ (k : ℕ). drop k text) (sym same)
+drop-again (suc n) m [] = drop-nil m ∙ sym (drop-nil (suc n + m))
+drop-again (suc n) m (byte ∷ text) =
+    let same : suc n + m ≡ suc (n + m) = omega arith in
+    drop-again n m text ∙ ap (λ (k : ℕ). drop k (byte ∷ text)) (sym same)
+
+between : (text : List ℕ) (from at : ℕ) → from ≤ at → drop (at - from) (drop from text) ≡ drop at text
+between text from at below = drop-again from (at - from) text ∙ (let sum : from + (at - from) ≡ at = omega arith in ap (λ (k : ℕ). drop k text) sum)
+
+-- a text from a place on, up to a line feed
+pub line-from : (text : List ℕ) (from at d : ℕ) → from ≤ at → at < length text → get_or text at d ≡ 10 → (drop at text ≡ 10 ∷ drop (at + 1) text) × (drop from text ≡ take (at - from) (drop from text) ++ drop at text)
+line-from text from at d below within is =
+    (from-mark text at d 10 within is, sym (ap (λ (rest : List ℕ). take (at - from) (drop from text) ++ rest) (sym (between text from at below)) ∙ take-append-drop (at - from) (drop from text)))
+
+-- what is lent from a place on
+pub lent-from : (text : List ℕ) (n : ℕ) → take (length text - n) (drop n text) ≡ drop n text
+lent-from text n = ap (λ (k : ℕ). take k (drop n text)) (sym (length-drop n text)) ∙ take-length (drop n text)
+
+-- a text that begins with a line feed
+pub fed-text : (text : List ℕ) (d : ℕ) → 0 < length text → get_or text 0 d ≡ 10 → text ≡ 10 ∷ drop 1 text
+fed-text text d some is = from-mark text 0 d 10 some is
+
+-- one more byte that is no mark
+pub plain-more : (text : List ℕ) (from at d : ℕ) → from ≤ at → at < length text → is_mark (get_or text at d) ≡ false → is_plain (take (at - from) (drop from text)) ≡ true → is_plain (take (at + 1 - from) (drop from text)) ≡ true
+plain-more text from at d below within no_mark before =
+    let step : at + 1 - from ≡ at - from + 1 = omega arith in
+    let size = length-drop from text in
+    let inside : at - from < length (drop from text) = omega (arith, size, within, below) in
+    let same : get_or (drop from text) (at - from) d ≡ get_or text at d = get_or-drop from text (at - from) d ∙ (let sum : from + (at - from) ≡ at = omega arith in ap (λ (k : ℕ). get_or text k d) sum) in
+    let more = take_more (drop from text) (at - from) d inside ∙ ap (λ (byte : ℕ). take (at - from) (drop from text) ++ byte ∷ []) same in
+    rw (step, more, list_all-append (λ (byte : ℕ). not (is_mark byte)) (take (at - from) (drop from text)) (get_or text at d ∷ []), before, no_mark) refl

@@ -1,0 +1,30 @@
+use Rattle.std.proofs.Common.{rules, ◌≡◌, map, false, string_bytes, refl, sym, ap, ◌∙◌}
+use Rattle.std.specs.List.{list_any}
+use Rattle.std.specs.Str.{bytes_eq}
+use Rattle.xm_files.proofs.Distinct.{distinct-push}
+use Rattle.xm_files.proofs.NameFacts.{list_any-map, bytes-insert_key}
+use Rattle.xm_files.specs.Names.{is_among}
+use Rattle.xm_files.proofs.names.NameList.add.Goals as goal
+
+pub returns-then-contains-clause-causes : goal.returns-then-contains-clause-causes
+returns-then-contains-clause-causes c = λ _.
+    (refl, rw (← c.self.view_is) (list_any-map (bytes_eq c.args.name.now) string_bytes c.self.inside.names.keys ∙ sym c.contains.ensures ∙ c.if-contains.true))
+
+pub returns-clause-fresh : goal.returns-clause-fresh
+returns-clause-fresh c =
+    rw (← c.self.view_is) (list_any-map (bytes_eq c.args.name.now) string_bytes c.self.inside.names.keys ∙ sym c.contains.ensures ∙ c.if-contains.false)
+
+pub returns-clause-added : goal.returns-clause-added
+returns-clause-added c =
+    let none : list_any (λ key. bytes_eq c.args.name.now (string_bytes key)) c.self.inside.names.keys ≡ false = sym c.contains.ensures ∙ c.if-contains.false in
+    rw (← c.self.view_is) (ap (map string_bytes) c.in_ok-insert.ensures.keys ∙ bytes-insert_key c.self.inside.names.keys c.in_ok-name.name c.args.name.now c.in_ok-name.ensures.ok none)
+
+pub invariant_of-self-2 : goal.invariant_of-self-2
+invariant_of-self-2 c =
+    let old = map string_bytes c.self.inside.names.keys in
+    let none : list_any (λ key. bytes_eq c.args.name.now (string_bytes key)) c.self.inside.names.keys ≡ false = sym c.contains.ensures ∙ c.if-contains.false in
+    let fresh : is_among c.args.name.now old ≡ false = list_any-map (bytes_eq c.args.name.now) string_bytes c.self.inside.names.keys ∙ none in
+    record {
+      few = search rules;
+      distinct = rw (ap (map string_bytes) c.in_ok-insert.ensures.keys ∙ bytes-insert_key c.self.inside.names.keys c.in_ok-name.name c.args.name.now c.in_ok-name.ensures.ok none) (distinct-push old c.args.name.now c.self.invariant.distinct fresh);
+    }

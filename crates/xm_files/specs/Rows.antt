@@ -1,0 +1,264 @@
+-- The rows of one record of an order file.
+use Rattle.std.specs.Prelude.{ℕ, Bool, ◌&&◌, ◌||◌, if◌then◌else◌, nat_le, ◌==◌, List, [], ◌∷◌, length, map, Option, Some, None, option_map, option_and_then, get_or, slice_get, Result, Ok, Err, codes}
+use Rattle.std.specs.List.{list_all, position_or_len, range_with_len}
+use Rattle.std.specs.Option.{option_map_or}
+use Rattle.std.specs.Str.{bytes_eq}
+use Rattle.xm_rules.specs.declared.commands.Command.{Command}
+use Rattle.xm_rules.specs.declared.commands.Command.TheVariants as command
+use Rattle.xm_rules.specs.declared.commands.Condition.{Condition}
+use Rattle.xm_rules.specs.declared.commands.Condition.TheVariants.{Plain, Ioc, Fok}
+use Rattle.xm_rules.specs.declared.commands.Kind.{Kind}
+use Rattle.xm_rules.specs.declared.commands.Kind.TheVariants as kind
+use Rattle.xm_rules.specs.declared.orders.Restriction.{Restriction}
+use Rattle.xm_rules.specs.declared.orders.Restriction.TheVariants.{Free, OpeningOnly, AuctionsOnly, ClosingOnly}
+use Rattle.xm_rules.specs.declared.orders.Side.{Side}
+use Rattle.xm_rules.specs.declared.orders.Side.TheVariants.{Buy, Sell}
+use Rattle.xm_rules.specs.declared.orders.Validity.{Validity}
+use Rattle.xm_rules.specs.declared.orders.Validity.TheVariants.{Day, TillDate, TillCancelled}
+use Rattle.xm_ticks.specs.Reading.{number_of, price_of}
+use Rattle.xm_ticks.specs.declared.reading.PriceFault.{PriceFault}
+use Rattle.xm_ticks.specs.declared.reading.PriceFault.TheVariants.{NotANumber}
+use Rattle.xm_files.specs.Names.{NameLists}
+use Rattle.xm_files.specs.declared.columns.Column.{Column}
+use Rattle.xm_files.specs.declared.columns.Column.TheVariants as column
+use Rattle.xm_segment.specs.declared.config.SecurityConfig.{SecurityConfig}
+use Rattle.xm_segment.specs.declared.config.SegmentConfig.{SegmentConfig}
+use Rattle.xm_files.specs.declared.entries.Entry.{Entry}
+use Rattle.xm_files.specs.declared.entries.Entry.TheVariants.{One, Each}
+use Rattle.xm_files.specs.declared.entries.Word.{Word}
+use Rattle.xm_files.specs.declared.entries.Word.TheVariants as word
+use Rattle.xm_files.specs.declared.records.Fields.{Fields}
+use Rattle.xm_segment.specs.declared.rows.Row.{Row}
+
+-- a step that asks for the value of the step before
+infixl 10 ◌>>=◌
+abbrev ◌>>=◌ : {A B : Type 0} → Option A → (A → Option B) → Option B
+value >>= next = option_and_then next value
+
+-- the columns, in their order
+abbrev pub columns : List Column
+columns = column.Command ∷ column.Member ∷ column.Reference ∷ column.Security ∷ column.Side ∷ column.Kind ∷ column.Limit ∷ column.Trigger ∷ column.Quantity ∷ column.Validity ∷ column.Restriction ∷ column.Condition ∷ []
+
+-- where a column stands
+abbrev pub column_index : Column → ℕ
+column_index column.Command = 0
+column_index column.Member = 1
+column_index column.Reference = 2
+column_index column.Security = 3
+column_index column.Side = 4
+column_index column.Kind = 5
+column_index column.Limit = 6
+column_index column.Trigger = 7
+column_index column.Quantity = 8
+column_index column.Validity = 9
+column_index column.Restriction = 10
+column_index column.Condition = 11
+
+-- what the header says of a column
+abbrev pub title_of : Column → List ℕ
+title_of column.Command = codes "command"
+title_of column.Member = codes "member"
+title_of column.Reference = codes "reference"
+title_of column.Security = codes "security"
+title_of column.Side = codes "side"
+title_of column.Kind = codes "kind"
+title_of column.Limit = codes "limit"
+title_of column.Trigger = codes "trigger"
+title_of column.Quantity = codes "quantity"
+title_of column.Validity = codes "validity"
+title_of column.Restriction = codes "restriction"
+title_of column.Condition = codes "condition"
+
+-- the fields of a record, in their order
+abbrev pub texts_of : Fields → List (List ℕ)
+texts_of f =
+    f.command.now ∷ f.member.now ∷ f.reference.now ∷ f.security.now ∷ f.side.now ∷ f.kind.now ∷ f.limit.now ∷ f.trigger.now ∷ f.quantity.now ∷ f.validity.now ∷ f.restriction.now
+    ∷ f.condition.now ∷ []
+
+-- the field of a record in a column
+abbrev pub field : Column → List (List ℕ) → List ℕ
+field column fields = get_or fields (column_index column) []
+
+-- the header has a field for each column, which is the column's title
+abbrev pub is_header : List (List ℕ) → Bool
+is_header fields = (length fields == 12) && list_all (λ column. bytes_eq (field column fields) (title_of column)) columns
+
+-- the fields in these columns are empty
+abbrev pub are_empty : List Column → List (List ℕ) → Bool
+are_empty blank fields = list_all (λ column. length (field column fields) == 0) blank
+
+-- a number of one to ten digits that 32 bits hold
+abbrev pub whole_of : List ℕ → Option ℕ
+whole_of text = if nat_le (length text) 10 then number_of text >>= (λ n. if nat_le n 4294967295 then Some n else None) else None
+
+-- the index of a name, which must not be empty; what is no name has the number of names as its index
+abbrev pub name_index : List (List ℕ) → List ℕ → Option ℕ
+name_index names text = if length text == 0 then None else Some (position_or_len (bytes_eq text) names)
+
+abbrev pub side_of : List ℕ → Option Side
+side_of text = if bytes_eq text (codes "buy") then Some Buy else (if bytes_eq text (codes "sell") then Some Sell else None)
+
+-- the raw price of a text that is a number; it is 0, which is refused later, where the number is no price
+abbrev pub raw_price : Result ℕ PriceFault → Option ℕ
+raw_price (Ok price) = Some price
+raw_price (Err NotANumber) = None
+raw_price (Err fault) = Some 0
+
+-- the tick of a security, and the finest one where the security is unknown
+abbrev pub tick_of : List SecurityConfig → ℕ → ℕ
+tick_of securities index = option_map_or (λ security. security.tick) (slice_get securities index) 1
+
+-- a market order has neither limit nor trigger, a limit order a limit and no trigger
+abbrev pub market_in : List (List ℕ) → Option Kind
+market_in fields = if are_empty (column.Limit ∷ column.Trigger ∷ []) fields then Some kind.Market else None
+
+abbrev pub limit_in : ℕ → List (List ℕ) → Option Kind
+limit_in tick fields = if are_empty (column.Trigger ∷ []) fields then option_map kind.Limit (raw_price (price_of (field column.Limit fields) tick)) else None
+
+-- a stop that becomes a market order has a trigger and no limit, one that becomes a limit order both
+abbrev pub stop_market_in : ℕ → List (List ℕ) → Option Kind
+stop_market_in tick fields = if are_empty (column.Limit ∷ []) fields then option_map kind.StopMarket (raw_price (price_of (field column.Trigger fields) tick)) else None
+
+abbrev pub stop_limit_in : ℕ → List (List ℕ) → Option Kind
+stop_limit_in tick fields =
+    raw_price (price_of (field column.Limit fields) tick) >>= (λ limit.
+    raw_price (price_of (field column.Trigger fields) tick) >>= (λ trigger.
+    Some (kind.StopLimit trigger limit)))
+
+abbrev pub kind_in_record : ℕ → List (List ℕ) → Option Kind
+kind_in_record tick fields =
+    if bytes_eq (field column.Kind fields) (codes "market") then market_in fields
+    else (if bytes_eq (field column.Kind fields) (codes "limit") then limit_in tick fields
+    else (if bytes_eq (field column.Kind fields) (codes "stop-market") then stop_market_in tick fields
+    else (if bytes_eq (field column.Kind fields) (codes "stop-limit") then stop_limit_in tick fields else None)))
+
+-- a date has exactly eight digits
+abbrev pub date_of : List ℕ → Option ℕ
+date_of text = if length text == 8 then whole_of text else None
+
+-- an empty field is the plain case
+abbrev pub validity_of : List ℕ → Option Validity
+validity_of text =
+    if (length text == 0) || bytes_eq text (codes "day") then Some Day
+    else (if bytes_eq text (codes "gtc") then Some TillCancelled else option_map TillDate (date_of text))
+
+abbrev pub restriction_of : List ℕ → Option Restriction
+restriction_of text =
+    if (length text == 0) || bytes_eq text (codes "free") then Some Free
+    else (if bytes_eq text (codes "opening") then Some OpeningOnly
+    else (if bytes_eq text (codes "auctions") then Some AuctionsOnly
+    else (if bytes_eq text (codes "closing") then Some ClosingOnly else None)))
+
+abbrev pub condition_of : List ℕ → Option Condition
+condition_of text =
+    if (length text == 0) || bytes_eq text (codes "plain") then Some Plain
+    else (if bytes_eq text (codes "ioc") then Some Ioc
+    else (if bytes_eq text (codes "fok") then Some Fok else None))
+
+-- the order that a member enters in a security with this tick
+abbrev pub order_command : ℕ → ℕ → List (List ℕ) → Option Command
+order_command tick member fields =
+    whole_of (field column.Reference fields) >>= (λ reference.
+    side_of (field column.Side fields) >>= (λ side.
+    kind_in_record tick fields >>= (λ kind.
+    whole_of (field column.Quantity fields) >>= (λ quantity.
+    validity_of (field column.Validity fields) >>= (λ validity.
+    restriction_of (field column.Restriction fields) >>= (λ restriction.
+    condition_of (field column.Condition fields) >>= (λ condition.
+    Some (command.Enter member reference side kind quantity validity restriction condition))))))))
+
+-- a member's row, whose command the member's and the security's index make
+abbrev pub member_row : NameLists → List (List ℕ) → (ℕ → ℕ → Option Command) → Option Entry
+member_row names fields make =
+    name_index names.members (field column.Member fields) >>= (λ member.
+    name_index names.securities (field column.Security fields) >>= (λ security.
+    make member security >>= (λ made.
+    Some (One (record { security = security; command = made })))))
+
+abbrev pub enter_entry : NameLists → List SecurityConfig → List (List ℕ) → Option Entry
+enter_entry names securities fields = member_row names fields (λ member security. order_command (tick_of securities security) member fields)
+
+-- the limit that a change gives, where it gives one
+abbrev pub given_limit : ℕ → List ℕ → Option (Option ℕ)
+given_limit tick text = if length text == 0 then Some None else option_map Some (raw_price (price_of text tick))
+
+abbrev pub change_command : ℕ → ℕ → List (List ℕ) → Option Command
+change_command tick member fields =
+    whole_of (field column.Reference fields) >>= (λ reference.
+    whole_of (field column.Quantity fields) >>= (λ quantity.
+    given_limit tick (field column.Limit fields) >>= (λ limit.
+    Some (command.Change member reference quantity limit))))
+
+-- a change has a member, a reference, a security, a quantity, and a limit where it gives one
+abbrev pub change_blank : List Column
+change_blank = column.Side ∷ column.Kind ∷ column.Trigger ∷ column.Validity ∷ column.Restriction ∷ column.Condition ∷ []
+
+abbrev pub change_entry : NameLists → List SecurityConfig → List (List ℕ) → Option Entry
+change_entry names securities fields =
+    if are_empty change_blank fields then member_row names fields (λ member security. change_command (tick_of securities security) member fields) else None
+
+-- a cancellation has a member, a reference and a security, and nothing else
+abbrev pub cancel_blank : List Column
+cancel_blank = column.Side ∷ column.Kind ∷ column.Limit ∷ column.Trigger ∷ column.Quantity ∷ column.Validity ∷ column.Restriction ∷ column.Condition ∷ []
+
+abbrev pub cancel_entry : NameLists → List (List ℕ) → Option Entry
+cancel_entry names fields =
+    if are_empty cancel_blank fields
+    then member_row names fields (λ member security. option_map (command.Cancel member) (whole_of (field column.Reference fields))) else None
+
+-- that of all orders of a member has no reference
+abbrev pub cancel_all_blank : List Column
+cancel_all_blank = column.Reference ∷ cancel_blank
+
+abbrev pub cancel_all_entry : NameLists → List (List ℕ) → Option Entry
+cancel_all_entry names fields =
+    if are_empty cancel_all_blank fields then member_row names fields (λ member security. Some (command.CancelAll member)) else None
+
+-- a phase row has a security and nothing else; `*` is each security
+abbrev pub phase_blank : List Column
+phase_blank = column.Member ∷ cancel_all_blank
+
+abbrev pub phase_entry : Command → NameLists → List (List ℕ) → Option Entry
+phase_entry phase names fields =
+    if are_empty phase_blank fields
+    then (if bytes_eq (field column.Security fields) (codes "*") then Some (Each phase)
+    else option_map (λ security. One (record { security = security; command = phase })) (name_index names.securities (field column.Security fields)))
+    else None
+
+-- the command words
+abbrev pub word_of : List ℕ → Option Word
+word_of text =
+    if bytes_eq text (codes "enter") then Some word.Enter
+    else (if bytes_eq text (codes "change") then Some word.Change
+    else (if bytes_eq text (codes "cancel") then Some word.Cancel
+    else (if bytes_eq text (codes "cancel-all") then Some word.CancelAll
+    else (if bytes_eq text (codes "open") then Some word.Open
+    else (if bytes_eq text (codes "intraday") then Some word.Intraday
+    else (if bytes_eq text (codes "close") then Some word.Close
+    else (if bytes_eq text (codes "uncross") then Some word.Uncross
+    else (if bytes_eq text (codes "end") then Some word.End else None))))))))
+
+-- what a record with this command word says, if each of its fields is lawful
+abbrev pub entry_with : Option Word → NameLists → List SecurityConfig → List (List ℕ) → Option Entry
+entry_with None names securities fields = None
+entry_with (Some word.Enter) names securities fields = enter_entry names securities fields
+entry_with (Some word.Change) names securities fields = change_entry names securities fields
+entry_with (Some word.Cancel) names securities fields = cancel_entry names fields
+entry_with (Some word.CancelAll) names securities fields = cancel_all_entry names fields
+entry_with (Some word.Open) names securities fields = phase_entry command.StartOpening names fields
+entry_with (Some word.Intraday) names securities fields = phase_entry command.StartIntraday names fields
+entry_with (Some word.Close) names securities fields = phase_entry command.StartClosing names fields
+entry_with (Some word.Uncross) names securities fields = phase_entry command.Uncross names fields
+entry_with (Some word.End) names securities fields = phase_entry command.EndDay names fields
+
+abbrev pub record_entry : NameLists → List SecurityConfig → List (List ℕ) → Option Entry
+record_entry names securities fields = entry_with (word_of (field column.Command fields)) names securities fields
+
+-- the rows of an entry in a segment of so many securities: one, or one per security in index order
+abbrev pub rows_of_entry : ℕ → Entry → List Row
+rows_of_entry count (One row) = row ∷ []
+rows_of_entry count (Each phase) = map (λ security. record { security = security; command = phase }) (range_with_len 0 count)
+
+-- the rows of a record, if it is lawful
+abbrev pub rows_of_record : NameLists → SegmentConfig → List (List ℕ) → Option (List Row)
+rows_of_record names config fields = option_map (rows_of_entry (length names.securities)) (record_entry names config.securities fields)

@@ -1,0 +1,306 @@
+//! What one record of the order file says.
+ghost use Rattle.std.specs.Prelude.{◌≡◌};
+ghost use Rattle.xm_files.specs.declared.columns.Column.TheVariants as column;
+ghost use Rattle.xm_files.specs.Rows.{cancel_all_entry, cancel_entry, change_command, change_entry, enter_entry, record_entry, field, given_limit, limit_in, market_in, name_index, kind_in_record, order_command, phase_entry, stop_limit_in, stop_market_in, texts_of, tick_of, word_of};
+
+use crate::columns::Column;
+use crate::fields::{condition, is_word, price, restriction, side, validity, whole};
+use crate::names::Names;
+use crate::records::Fields;
+use xm_rules::{Command, Kind};
+use xm_segment::{Row, SecurityConfig, SegmentConfig};
+use xm_ticks::TickSize;
+
+/// What a record says: one row, or a command for each security.
+#[derive(Clone, Copy, PartialEq, Eq, Debug)]
+pub(crate) enum Entry {
+    One(Row),
+    Each(Command),
+}
+
+/// The command words.
+#[derive(Clone, Copy, PartialEq, Eq, Debug)]
+enum Word {
+    Enter,
+    Change,
+    Cancel,
+    CancelAll,
+    Open,
+    Intraday,
+    Close,
+    Uncross,
+    End,
+}
+
+/// What a record says, if each of its fields is lawful.
+pub(crate) fn parse_entry(fields: &Fields, names: &Names, config: &SegmentConfig) -> Option<Entry>
+    ensures { result ≡ record_entry names.now config.now.securities (texts_of fields.now) }
+{
+    match parse_word(fields.text(Column::Command))? {
+        Word::Enter => enter(fields, names, config.securities.as_slice()),
+        Word::Change => change(fields, names, config.securities.as_slice()),
+        Word::Cancel => cancel(fields, names),
+        Word::CancelAll => cancel_all(fields, names),
+        Word::Open => phase(fields, names, Command::StartOpening),
+        Word::Intraday => phase(fields, names, Command::StartIntraday),
+        Word::Close => phase(fields, names, Command::StartClosing),
+        Word::Uncross => phase(fields, names, Command::Uncross),
+        Word::End => phase(fields, names, Command::EndDay),
+    }
+}
+
+/// The command word of a text.
+fn parse_word(text: &[u8]) -> Option<Word>
+    ensures { result ≡ word_of text.now }
+{
+    if is_word(text, "enter") {
+        Some(Word::Enter)
+    } else if is_word(text, "change") {
+        Some(Word::Change)
+    } else if is_word(text, "cancel") {
+        Some(Word::Cancel)
+    } else if is_word(text, "cancel-all") {
+        Some(Word::CancelAll)
+    } else if is_word(text, "open") {
+        Some(Word::Open)
+    } else if is_word(text, "intraday") {
+        Some(Word::Intraday)
+    } else if is_word(text, "close") {
+        Some(Word::Close)
+    } else if is_word(text, "uncross") {
+        Some(Word::Uncross)
+    } else if is_word(text, "end") {
+        Some(Word::End)
+    } else {
+        None
+    }
+}
+
+/// The index of the member in a record; an unknown name has the number of names as its index.
+fn member(fields: &Fields, names: &Names) -> Option<u32>
+    ensures { result ≡ name_index names.now.members (field column.Member (texts_of fields.now)) }
+{
+    let name = fields.text(Column::Member);
+    if name.is_empty() {
+        None
+    } else {
+        Some(names.member_index(name))
+    }
+}
+
+/// The index of the security in a record; an unknown name has the number of names as its index.
+fn security(fields: &Fields, names: &Names) -> Option<u32>
+    ensures { result ≡ name_index names.now.securities (field column.Security (texts_of fields.now)) }
+{
+    let name = fields.text(Column::Security);
+    if name.is_empty() {
+        None
+    } else {
+        Some(names.security_index(name))
+    }
+}
+
+/// The order that a record enters.
+fn enter(fields: &Fields, names: &Names, securities: &[SecurityConfig]) -> Option<Entry>
+    ensures { result ≡ enter_entry names.now securities.now (texts_of fields.now) }
+{
+    let member = member(fields, names)?;
+    let security = security(fields, names)?;
+    let command = order(fields, member, tick(securities, security))?;
+    Some(Entry::One(Row { security, command }))
+}
+
+/// The tick of a security, and the finest one where the security is unknown.
+fn tick(securities: &[SecurityConfig], security: u32) -> TickSize
+    ensures { result ≡ tick_of securities.now security }
+{
+    match securities.get(security as usize) {
+        Some(settings) => settings.tick,
+        None => TickSize::FINEST,
+    }
+}
+
+/// The order that a member enters in a security with this tick.
+fn order(fields: &Fields, member: u32, tick: TickSize) -> Option<Command>
+    ensures { result ≡ order_command tick member (texts_of fields.now) }
+{
+    let reference = whole(fields.text(Column::Reference))?;
+    let side = side(fields.text(Column::Side))?;
+    let kind = kind(fields, tick)?;
+    let quantity = whole(fields.text(Column::Quantity))?;
+    let validity = validity(fields.text(Column::Validity))?;
+    let restriction = restriction(fields.text(Column::Restriction))?;
+    let condition = condition(fields.text(Column::Condition))?;
+    Some(Command::Enter {
+        member,
+        reference,
+        side,
+        kind,
+        quantity,
+        validity,
+        restriction,
+        condition,
+    })
+}
+
+/// The kind of an order or a stop with its prices.
+fn kind(fields: &Fields, tick: TickSize) -> Option<Kind>
+    ensures { result ≡ kind_in_record tick (texts_of fields.now) }
+{
+    let word = fields.text(Column::Kind);
+    if is_word(word, "market") {
+        market(fields)
+    } else if is_word(word, "limit") {
+        limit(fields, tick)
+    } else if is_word(word, "stop-market") {
+        stop_market(fields, tick)
+    } else if is_word(word, "stop-limit") {
+        stop_limit(fields, tick)
+    } else {
+        None
+    }
+}
+
+/// The kind of a stop that becomes a market order.
+fn stop_market(fields: &Fields, tick: TickSize) -> Option<Kind>
+    ensures { result ≡ stop_market_in tick (texts_of fields.now) }
+{
+    if !fields.are_empty(&[Column::Limit]) {
+        return None;
+    }
+    price(fields.text(Column::Trigger), tick).map(Kind::StopMarket)
+}
+
+/// The kind of a stop that becomes a limit order.
+fn stop_limit(fields: &Fields, tick: TickSize) -> Option<Kind>
+    ensures { result ≡ stop_limit_in tick (texts_of fields.now) }
+{
+    let limit = price(fields.text(Column::Limit), tick)?;
+    let trigger = price(fields.text(Column::Trigger), tick)?;
+    Some(Kind::StopLimit { trigger, limit })
+}
+
+/// The kind of a market order.
+fn market(fields: &Fields) -> Option<Kind>
+    ensures { result ≡ market_in (texts_of fields.now) }
+{
+    if fields.are_empty(&[Column::Limit, Column::Trigger]) {
+        Some(Kind::Market)
+    } else {
+        None
+    }
+}
+
+/// The kind of a limit order.
+fn limit(fields: &Fields, tick: TickSize) -> Option<Kind>
+    ensures { result ≡ limit_in tick (texts_of fields.now) }
+{
+    if !fields.are_empty(&[Column::Trigger]) {
+        return None;
+    }
+    price(fields.text(Column::Limit), tick).map(Kind::Limit)
+}
+
+/// The change of an order that a record is.
+fn change(fields: &Fields, names: &Names, securities: &[SecurityConfig]) -> Option<Entry>
+    ensures { result ≡ change_entry names.now securities.now (texts_of fields.now) }
+{
+    let blank = [
+        Column::Side,
+        Column::Kind,
+        Column::Trigger,
+        Column::Validity,
+        Column::Restriction,
+        Column::Condition,
+    ];
+    if !fields.are_empty(&blank) {
+        return None;
+    }
+    let member = member(fields, names)?;
+    let security = security(fields, names)?;
+    let command = changed(fields, member, tick(securities, security))?;
+    Some(Entry::One(Row { security, command }))
+}
+
+/// The change that a member makes in a security with this tick.
+fn changed(fields: &Fields, member: u32, tick: TickSize) -> Option<Command>
+    ensures { result ≡ change_command tick member (texts_of fields.now) }
+{
+    let reference = whole(fields.text(Column::Reference))?;
+    let quantity = whole(fields.text(Column::Quantity))?;
+    let limit = given_limit(fields.text(Column::Limit), tick)?;
+    Some(Command::Change {
+        member,
+        reference,
+        quantity,
+        limit,
+    })
+}
+
+/// The limit that a change gives, where it gives one.
+fn given_limit(text: &[u8], tick: TickSize) -> Option<Option<u32>>
+    ensures { result ≡ given_limit tick text.now }
+{
+    if text.is_empty() {
+        Some(None)
+    } else {
+        price(text, tick).map(Some)
+    }
+}
+
+/// The columns that a cancellation leaves empty.
+const CANCEL_BLANK: [Column; 8] = [
+    Column::Side,
+    Column::Kind,
+    Column::Limit,
+    Column::Trigger,
+    Column::Quantity,
+    Column::Validity,
+    Column::Restriction,
+    Column::Condition,
+];
+
+/// The cancellation that a record is.
+fn cancel(fields: &Fields, names: &Names) -> Option<Entry>
+    ensures { result ≡ cancel_entry names.now (texts_of fields.now) }
+{
+    if !fields.are_empty(&CANCEL_BLANK) {
+        return None;
+    }
+    let member = member(fields, names)?;
+    let security = security(fields, names)?;
+    let reference = whole(fields.text(Column::Reference))?;
+    Some(Entry::One(Row {
+        security,
+        command: Command::Cancel { member, reference },
+    }))
+}
+
+/// The cancellation of all orders of a member that a record is.
+fn cancel_all(fields: &Fields, names: &Names) -> Option<Entry>
+    ensures { result ≡ cancel_all_entry names.now (texts_of fields.now) }
+{
+    if !fields.are_empty(&[Column::Reference]) || !fields.are_empty(&CANCEL_BLANK) {
+        return None;
+    }
+    let member = member(fields, names)?;
+    let security = security(fields, names)?;
+    Some(Entry::One(Row {
+        security,
+        command: Command::CancelAll { member },
+    }))
+}
+
+/// The phase command that a record gives to one security, or by `*` to each.
+fn phase(fields: &Fields, names: &Names, command: Command) -> Option<Entry>
+    ensures { result ≡ phase_entry command names.now (texts_of fields.now) }
+{
+    if !fields.are_empty(&[Column::Member, Column::Reference]) || !fields.are_empty(&CANCEL_BLANK) {
+        return None;
+    }
+    if is_word(fields.text(Column::Security), "*") {
+        return Some(Entry::Each(command));
+    }
+    let security = security(fields, names)?;
+    Some(Entry::One(Row { security, command }))
+}

@@ -1,0 +1,22 @@
+//! The files that a day is read from: what the bytes of a segment file and of an order file give.
+#![tactic(auto)]
+
+mod bytes;
+mod columns;
+mod entries;
+mod fields;
+mod file_faults;
+mod names;
+mod orders;
+mod plain;
+mod records;
+mod segment;
+mod tables;
+mod timetable;
+
+pub use crate::bytes::MAX_BYTES;
+pub use crate::file_faults::{FileCause, FileFault};
+pub use crate::names::Names;
+pub use crate::orders::{MAX_ROWS, read_rows};
+pub use crate::segment::read_segment;
+pub use crate::timetable::{Round, rounds, share};

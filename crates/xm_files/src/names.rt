@@ -1,0 +1,212 @@
+//! The names of a segment.
+ghost use Rattle.std.specs.Prelude.{◌≡◌, ◌≢◌, ◌<◌, ◌≤◌, [], ◌∷◌, ◌++◌, length, true, false, slice_get, position, option_map, OnOk, OnErr, IfErr, IfSome};
+ghost use Rattle.std.specs.List.{position_or_len};
+ghost use Rattle.std.specs.Str.{bytes_eq};
+ghost use Rattle.xm_files.specs.Names.{is_among};
+
+use crate::bytes::MAX_BYTES;
+use crate::file_faults::FileCause;
+use indexmap::IndexSet;
+use std::alloc::Global;
+use std::hash::{BuildHasherDefault, FoldHasher};
+use std::marker::Model;
+
+/// The most names of a kind, which is more than a file has room for.
+const MOST_NAMES: usize = MAX_BYTES;
+
+/// How many places there are for hints.
+const HINTS: usize = 2048;
+
+/// Distinct names in index order, at most `MOST_NAMES`, found by their bytes. A clause sees the list
+/// of their bytes.
+///
+/// The place of a name among the hints has its index, or that of a later name with this place. So most
+/// names are found by one comparison, and a hint that misleads costs one.
+#[derive(Drop)]
+pub(crate) struct NameList {
+    names: IndexSet<String, BuildHasherDefault<FoldHasher>>,
+    hints: [u32; HINTS],
+}
+
+impl Model for NameList {
+    ghost use Rattle.std.specs.Prelude.{◌≡◌, ℕ, ◌≤◌, List, map, length, string_bytes, true};
+    ghost use Rattle.xm_files.specs.Segment.{are_distinct};
+
+    ghost Value = { List (List ℕ) };
+
+    ghost view = { λ n. map string_bytes n.names.keys };
+
+    ghost invariant = { λ n. record {
+      few : length n.names.keys ≤ 16777216;
+      distinct : are_distinct (map string_bytes n.names.keys) ≡ true;
+    } };
+}
+
+impl NameList {
+    /// No names.
+    pub(crate) fn new(alloc: Global) -> NameList
+        ensures { result ≡ [] }
+    {
+        NameList {
+            names: IndexSet::with_hasher(alloc, BuildHasherDefault::new()),
+            hints: [0; HINTS],
+        }
+    }
+
+    /// The number of names.
+    pub(crate) fn len(&self) -> u32
+        ensures len { result ≡ length self.now }
+        ensures most { result ≤ MOST_NAMES }
+    {
+        self.names.len() as u32
+    }
+
+    /// The name with this index.
+    pub(crate) fn get(&self, index: u32) -> Option<&str>
+        ensures { option_map (λ name. name.now) result ≡ slice_get self.now index }
+    {
+        match self.names.get_index(index as usize) {
+            Some(name) => Some(name.as_str()),
+            None => None,
+        }
+    }
+
+    /// The index of the name that has these bytes, or the number of names where none has them.
+    fn index_of(&self, bytes: &[u8]) -> u32
+        ensures { result ≡ position_or_len (bytes_eq bytes.now) self.now }
+    {
+        let hint = self.hints[place_of(bytes)];
+        if self.has_name(hint, bytes) {
+            return hint;
+        }
+        match self.position(bytes) {
+            Some(index) => index,
+            None => self.len(),
+        }
+    }
+
+    /// Whether the name with this index has these bytes.
+    fn has_name(&self, index: u32, bytes: &[u8]) -> bool
+        ensures { result ≡ true → position_or_len (bytes_eq bytes.now) self.now ≡ index }
+    {
+        match self.names.get_index(index as usize) {
+            Some(name) => name.as_bytes() == bytes,
+            None => false,
+        }
+    }
+
+    /// The index of the name that has these bytes.
+    fn position(&self, bytes: &[u8]) -> Option<u32>
+        ensures { result ≡ position (bytes_eq bytes.now) self.now }
+    {
+        match std::str::from_utf8(bytes) {
+            Ok(name) => match self.names.get_index_of(name) {
+                Some(index) => Some(index as u32),
+                None => None,
+            },
+            Err(_) => None,
+        }
+    }
+
+    /// Adds a name at the end. `DuplicateName` says that it is there already, and `OutOfMemory`
+    /// that a growth was refused or that there are `MOST_NAMES`; either leaves the names as they were.
+    pub(crate) fn add(&mut self, alloc: Global, name: &str) -> Result<(), FileCause>
+        ensures fresh { OnOk result (is_among name.now self.old ≡ false) }
+        ensures added { OnOk result (self.new ≡ self.old ++ name.now ∷ []) }
+        ensures causes { IfErr result (λ cause. cause ≢ FileCause.OutOfMemory → (cause ≡ FileCause.DuplicateName) × (is_among name.now self.old ≡ true)) }
+        ensures kept { OnErr result (self.new ≡ self.old) }
+    {
+        if self.names.contains(name) {
+            return Err(FileCause::DuplicateName);
+        }
+        if self.names.len() == MOST_NAMES {
+            return Err(FileCause::OutOfMemory);
+        }
+        let (place, index) = (place_of(name.as_bytes()), self.len());
+        let name = String::from_str(alloc, name)?;
+        self.names.insert(name)?;
+        self.hints[place] = index;
+        Ok(())
+    }
+}
+
+/// The place of a name among the hints.
+fn place_of(name: &[u8]) -> usize
+    ensures { result < HINTS }
+{
+    let mut sum = 0usize;
+    for byte in name {
+        sum = sum.wrapping_mul(31).wrapping_add(usize::from(*byte));
+    }
+    sum % HINTS
+}
+
+/// The names of the members and the securities of a segment, in index order. A clause sees the
+/// lists of their bytes.
+#[derive(Drop)]
+pub struct Names {
+    members: NameList,
+    securities: NameList,
+}
+
+impl Model for Names {
+    ghost use Rattle.xm_files.specs.Names.{NameLists};
+
+    ghost Value = { NameLists };
+
+    ghost view = { λ n. record { members = n.members; securities = n.securities } };
+}
+
+impl Names {
+    /// The names of these members and these securities.
+    pub(crate) fn new(members: NameList, securities: NameList) -> Names
+        ensures { result ≡ record { members = members; securities = securities } }
+    {
+        Names {
+            members,
+            securities,
+        }
+    }
+
+    /// The number of members.
+    pub fn members(&self) -> u32
+        ensures { result ≡ length self.now.members }
+    {
+        self.members.len()
+    }
+
+    /// The number of securities.
+    pub fn securities(&self) -> u32
+        ensures { result ≡ length self.now.securities }
+    {
+        self.securities.len()
+    }
+
+    /// The name of the member with this index.
+    pub fn member(&self, index: u32) -> Option<&str>
+        ensures { option_map (λ name. name.now) result ≡ slice_get self.now.members index }
+    {
+        self.members.get(index)
+    }
+
+    /// The name of the security with this index.
+    pub fn security(&self, index: u32) -> Option<&str>
+        ensures { option_map (λ name. name.now) result ≡ slice_get self.now.securities index }
+    {
+        self.securities.get(index)
+    }
+
+    /// The index of the member with this name, or the number of members where none has it.
+    pub(crate) fn member_index(&self, name: &[u8]) -> u32
+        ensures { result ≡ position_or_len (bytes_eq name.now) self.now.members }
+    {
+        self.members.index_of(name)
+    }
+
+    /// The index of the security with this name, or the number of securities where none has it.
+    pub(crate) fn security_index(&self, name: &[u8]) -> u32
+        ensures { result ≡ position_or_len (bytes_eq name.now) self.now.securities }
+    {
+        self.securities.index_of(name)
+    }
+}
