@@ -11,9 +11,9 @@ use Rattle.xm_rules.specs.Step.{Journal, replay, step}
 use Rattle.xm_rules.specs.declared.commands.Command.{Command}
 use Rattle.xm_rules.specs.declared.replies.Refusal.{Refusal}
 use Rattle.xm_day.specs.Day.{Accepts, Day as TheDay, LacksMemoryAt, after_row, after_rows, answered, day, day_of, journal_of, on_security, settings_of}
-use Rattle.xm_day.specs.declared.config.SecurityConfig.{SecurityConfig}
-use Rattle.xm_day.specs.declared.config.SegmentConfig.{SegmentConfig}
-use Rattle.xm_day.specs.declared.rows.Row.{Row}
+use Rattle.xm_segment.specs.declared.config.SecurityConfig.{SecurityConfig}
+use Rattle.xm_segment.specs.declared.config.SegmentConfig.{SegmentConfig}
+use Rattle.xm_segment.specs.declared.rows.Row.{Row}
 
 abbrev pub with_command : Journal → Command → Journal
 with_command j c = record j { commands = j.commands ++ c ∷ [] }

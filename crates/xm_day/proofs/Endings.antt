@@ -3,11 +3,11 @@ use Rattle.std.proofs.Common.{◌≡◌, refl, ℕ, List, Option, None, Err}
 use Rattle.xm_day.specs.Answers.{AreRowsOf, OrdersEnd, statement_of}
 use Rattle.xm_day.specs.Day.{day, segment_fault}
 use Rattle.xm_day.specs.Answers.{IsOfWriting}
-use Rattle.xm_day.specs.Names.{NameLists}
-use Rattle.xm_day.specs.declared.config.SegmentConfig.{SegmentConfig}
+use Rattle.xm_files.specs.Names.{NameLists}
+use Rattle.xm_segment.specs.declared.config.SegmentConfig.{SegmentConfig}
 use Rattle.xm_day.specs.declared.faults.DayFault.{DayFault}
 use Rattle.xm_day.specs.declared.faults.DayFault.TheVariants.{Segment, Orders, Open, OutOfMemory, WriteFailed}
-use Rattle.xm_day.specs.declared.rows.Row.{Row}
+use Rattle.xm_segment.specs.declared.rows.Row.{Row}
 use Rattle.xm_ticks.specs.Writing.{AppendsPrefix}
 
 -- the statement was not written

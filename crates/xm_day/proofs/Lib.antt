@@ -1,15 +1,4 @@
-pub mod Known
-pub mod NameFacts
-pub mod Values
-pub mod Distinct
-pub mod Documents
-pub mod Takes
-pub mod Unread
-pub mod Progress
-pub mod ServedRows
 pub mod Lines
 pub mod Days
 pub mod Endings
-pub mod PassedErrors
-pub mod ReadOrders
 pub mod CashSums

@@ -7,8 +7,9 @@ use Rattle.xm_rules.specs.State.{State}
 use Rattle.xm_rules.specs.Step.{Journal, replay}
 use Rattle.xm_rules.specs.Sums.{total_money, total_quantity}
 use Rattle.xm_rules.specs.declared.orders.Order.{Order}
+use Rattle.xm_rules.specs.declared.orders.Stop.{Stop}
 use Rattle.xm_rules.specs.declared.orders.Trade.{Trade}
-use Rattle.xm_day.specs.Names.{NameLists}
+use Rattle.xm_files.specs.Names.{NameLists}
 use Rattle.xm_day.specs.Statement.{heading_text, member_indices, name_at, net_line, order_line, securities_text, security_text, stop_line, today_of, total_text, trade_line}
 
 -- one more number of a range
@@ -43,38 +44,33 @@ pub net_lines-none : (names : NameLists) (s : State) (members : List ℕ) → le
 net_lines-none names s [] none = refl
 net_lines-none names s (m ∷ ms) none = flat_map-cons (net_line names s) m ms ∙ rw (net_line-none names s m (nil_from_length s.trades none), net_lines-none names s ms none) refl
 
-parts : (text heading trades orders stops nets total : List ℕ) → stops ≡ []
-    → ((((text ++ heading) ++ trades) ++ orders) ++ nets) ++ total ≡ text ++ (((((heading ++ trades) ++ orders) ++ stops) ++ nets) ++ total)
-parts text heading trades orders stops nets total none = rw none (simp (append-nil, append_assoc))
+parts : (text heading trades orders stops nets total : List ℕ)
+    → (((((text ++ heading) ++ trades) ++ orders) ++ stops) ++ nets) ++ total ≡ text ++ (((((heading ++ trades) ++ orders) ++ stops) ++ nets) ++ total)
+parts text heading trades orders stops nets total = simp append_assoc
 
--- where no stop is held, a security has its heading, trades, orders, net positions and total
-security-no_stops : (names : NameLists) (index : ℕ) (s : State) (text : List ℕ) → s.stops ≡ []
-    → ((((text ++ heading_text (name_at names.securities index) s) ++ flat_map (trade_line names s.settings.tick) s.trades) ++ flat_map (order_line names s.settings.tick) s.orders)
-    ++ flat_map (net_line names s) (member_indices names))
-    ++ total_text s.settings.tick (total_quantity s.trades) (total_money s.trades)
-    ≡ text ++ security_text names index s
-security-no_stops names index s text none =
-    parts text (heading_text (name_at names.securities index) s) (flat_map (trade_line names s.settings.tick) s.trades) (flat_map (order_line names s.settings.tick) s.orders)
-    (flat_map (stop_line names s.settings.tick) s.stops) (flat_map (net_line names s) (member_indices names)) (total_text s.settings.tick (total_quantity s.trades) (total_money s.trades))
-    (ap (flat_map (stop_line names s.settings.tick)) none)
-
--- so it is written by one part after another
-pub security-written : (names : NameLists) (index : ℕ) (s : State) (size : ℕ) (trades : List Trade) (orders : List Order) (text t1 t2 t3 t4 t5 : List ℕ)
-    → size ≡ s.settings.tick → trades ≡ s.trades → orders ≡ s.orders → s.stops ≡ []
+-- a security is written by one part after another
+pub security-written : (names : NameLists) (index : ℕ) (s : State) (size : ℕ) (trades : List Trade) (orders : List Order) (stops : List Stop) (text t1 t2 t3 t4 t5 t6 : List ℕ)
+    → size ≡ s.settings.tick → trades ≡ s.trades → orders ≡ s.orders → stops ≡ s.stops
     → t1 ≡ text ++ heading_text (name_at names.securities index) s → t2 ≡ t1 ++ flat_map (trade_line names size) trades → t3 ≡ t2 ++ flat_map (order_line names size) orders
-    → t4 ≡ t3 ++ flat_map (net_line names s) (member_indices names) → t5 ≡ t4 ++ total_text s.settings.tick (total_quantity s.trades) (total_money s.trades)
-    → t5 ≡ text ++ security_text names index s
-security-written names index s size trades orders text t1 t2 t3 t4 t5 a b c none e1 e2 e3 e4 e5 =
-    let f2 : t2 ≡ t1 ++ flat_map (trade_line names s.settings.tick) s.trades =
+    → t4 ≡ t3 ++ flat_map (stop_line names size) stops → t5 ≡ t4 ++ flat_map (net_line names s) (member_indices names)
+    → t6 ≡ t5 ++ total_text s.settings.tick (total_quantity s.trades) (total_money s.trades) → t6 ≡ text ++ security_text names index s
+security-written names index s size trades orders stops text t1 t2 t3 t4 t5 t6 a b c d e1 e2 e3 e4 e5 e6 =
+    let tick = s.settings.tick in
+    let f2 : t2 ≡ t1 ++ flat_map (trade_line names tick) s.trades =
     e2 ∙ ap (λ (ts : List Trade). t1 ++ flat_map (trade_line names size) ts) b ∙ ap (λ (k : ℕ). t1 ++ flat_map (trade_line names k) s.trades) a in
-    let f3 : t3 ≡ t2 ++ flat_map (order_line names s.settings.tick) s.orders =
+    let f3 : t3 ≡ t2 ++ flat_map (order_line names tick) s.orders =
     e3 ∙ ap (λ (os : List Order). t2 ++ flat_map (order_line names size) os) c ∙ ap (λ (k : ℕ). t2 ++ flat_map (order_line names k) s.orders) a in
-    e5
-    ∙ ap (λ (t : List ℕ). t ++ total_text s.settings.tick (total_quantity s.trades) (total_money s.trades))
-    (e4
+    let f4 : t4 ≡ t3 ++ flat_map (stop_line names tick) s.stops =
+    e4 ∙ ap (λ (ss : List Stop). t3 ++ flat_map (stop_line names size) ss) d ∙ ap (λ (k : ℕ). t3 ++ flat_map (stop_line names k) s.stops) a in
+    e6
+    ∙ ap (λ (t : List ℕ). t ++ total_text tick (total_quantity s.trades) (total_money s.trades))
+    (e5
     ∙ ap (λ (t : List ℕ). t ++ flat_map (net_line names s) (member_indices names))
-    (f3 ∙ ap (λ (t : List ℕ). t ++ flat_map (order_line names s.settings.tick) s.orders) (f2 ∙ ap (λ (t : List ℕ). t ++ flat_map (trade_line names s.settings.tick) s.trades) e1)))
-    ∙ security-no_stops names index s text none
+    (f4
+    ∙ ap (λ (t : List ℕ). t ++ flat_map (stop_line names tick) s.stops)
+    (f3 ∙ ap (λ (t : List ℕ). t ++ flat_map (order_line names tick) s.orders) (f2 ∙ ap (λ (t : List ℕ). t ++ flat_map (trade_line names tick) s.trades) e1))))
+    ∙ parts text (heading_text (name_at names.securities index) s) (flat_map (trade_line names tick) s.trades) (flat_map (order_line names tick) s.orders)
+    (flat_map (stop_line names tick) s.stops) (flat_map (net_line names s) (member_indices names)) (total_text tick (total_quantity s.trades) (total_money s.trades))
 
 -- the securities up to one, and it
 pub securities-taken : (names : NameLists) (js : List Journal) (i : ℕ) (j : Journal) → i < length js → j ≡ get_or js i j

@@ -3,17 +3,17 @@ use Rattle.std.specs.Prelude.{◌≡◌, ℕ, List, Option, None, Some, Result, 
 use Rattle.std.specs.Bool.{OnFalse, OnTrue}
 use Rattle.std.specs.Io.KnownBytes.{Appends}
 use Rattle.xm_day.specs.Day.{Day, day, segment_fault}
-use Rattle.xm_day.specs.FileFaults.{is_from_outside}
-use Rattle.xm_day.specs.Names.{NameLists}
-use Rattle.xm_day.specs.Orders.{orders_of}
-use Rattle.xm_day.specs.Segment.{segment_of}
+use Rattle.xm_files.specs.FileFaults.{is_from_outside}
+use Rattle.xm_files.specs.Names.{NameLists}
+use Rattle.xm_files.specs.Orders.{orders_of}
+use Rattle.xm_files.specs.Segment.{segment_of}
 use Rattle.xm_day.specs.Statement.{statement}
-use Rattle.xm_day.specs.declared.config.SegmentConfig.{SegmentConfig}
+use Rattle.xm_segment.specs.declared.config.SegmentConfig.{SegmentConfig}
 use Rattle.xm_day.specs.declared.report.DayReport.{DayReport}
 use Rattle.xm_day.specs.declared.faults.DayFault.{DayFault}
 use Rattle.xm_day.specs.declared.faults.DayFault.TheVariants.{Segment, Orders, Open, OutOfMemory, WriteFailed}
-use Rattle.xm_day.specs.declared.file_faults.FileFault.{FileFault}
-use Rattle.xm_day.specs.declared.rows.Row.{Row}
+use Rattle.xm_files.specs.declared.file_faults.FileFault.{FileFault}
+use Rattle.xm_segment.specs.declared.rows.Row.{Row}
 use Rattle.xm_desk.specs.declared.opening.OpenFault.{OpenFault}
 use Rattle.xm_desk.specs.declared.opening.OpenFault.TheVariants as opening
 use Rattle.xm_ticks.specs.Writing.{AppendsPrefix}

@@ -11,9 +11,9 @@ use Rattle.xm_rules.specs.Step.{Journal, replay, step}
 use Rattle.xm_rules.specs.declared.replies.Refusal.{Refusal}
 use Rattle.xm_rules.specs.declared.settings.DeskSettings.{DeskSettings}
 use Rattle.xm_day.specs.declared.desks.TheConstants.{MAX_SECURITIES}
-use Rattle.xm_day.specs.declared.config.SecurityConfig.{SecurityConfig}
-use Rattle.xm_day.specs.declared.config.SegmentConfig.{SegmentConfig}
-use Rattle.xm_day.specs.declared.rows.Row.{Row}
+use Rattle.xm_segment.specs.declared.config.SecurityConfig.{SecurityConfig}
+use Rattle.xm_segment.specs.declared.config.SegmentConfig.{SegmentConfig}
+use Rattle.xm_segment.specs.declared.rows.Row.{Row}
 
 -- the states of the securities, in index order, and how many rows were accepted and refused
 pub record Day : Type 0 where

@@ -13,10 +13,10 @@ use Rattle.xm_rules.specs.declared.orders.TradeKind.TheVariants as made
 use Rattle.xm_rules.specs.declared.orders.Validity.TheVariants.{TillCancelled}
 use Rattle.xm_rules.specs.declared.phases.Phase.TheVariants.{Ended}
 use Rattle.xm_day.specs.Day.{settings_of}
-use Rattle.xm_day.specs.Names.{NameLists}
-use Rattle.xm_day.specs.declared.config.SecurityConfig.{SecurityConfig}
-use Rattle.xm_day.specs.declared.config.SegmentConfig.{SegmentConfig}
-use Rattle.xm_day.specs.declared.rows.Row.{Row}
+use Rattle.xm_files.specs.Names.{NameLists}
+use Rattle.xm_segment.specs.declared.config.SecurityConfig.{SecurityConfig}
+use Rattle.xm_segment.specs.declared.config.SegmentConfig.{SegmentConfig}
+use Rattle.xm_segment.specs.declared.rows.Row.{Row}
 
 abbrev pub example_names : NameLists
 example_names = record { members = codes "AAA" ∷ codes "BBB" ∷ []; securities = codes "XYZ" ∷ [] }

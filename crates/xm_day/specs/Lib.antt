@@ -1,10 +1,5 @@
 pub mod Answers
 pub mod Day
 pub mod Examples
-pub mod FileFaults
-pub mod Names
-pub mod Orders
-pub mod Rows
-pub mod Segment
 pub mod Statement
 pub mod Traded

@@ -22,7 +22,7 @@ use Rattle.xm_rules.specs.declared.phases.CallStage.TheVariants.{Ordinary, Inter
 use Rattle.xm_rules.specs.declared.phases.Phase.{Phase}
 use Rattle.xm_rules.specs.declared.phases.Phase.TheVariants as phase
 use Rattle.xm_ticks.specs.Writing.{price_text, money_text}
-use Rattle.xm_day.specs.Names.{NameLists}
+use Rattle.xm_files.specs.Names.{NameLists}
 
 -- at least eight digits, by leading zeros
 abbrev pub date_text : ℕ → List ℕ

@@ -2,17 +2,15 @@
 ghost use Rattle.std.specs.Prelude.{◌≡◌, ◌≢◌, IfErr, length};
 ghost use Rattle.xm_day.specs.Answers.{DayEnds, OrdersEnd};
 
-use crate::config::SegmentConfig;
 use crate::desks::{open_desks, take_rows};
 use crate::faults::DayFault;
-use crate::names::Names;
-use crate::orders::read_rows;
 use crate::report::DayReport;
-use crate::segment::read_segment;
 use crate::statements::statement;
 use std::alloc::Global;
 use std::io;
+use xm_files::{Names, read_rows, read_segment};
 use xm_names::Seed;
+use xm_segment::SegmentConfig;
 
 /// Runs the day of a segment whose file is read: reads the order file, takes its rows, and writes
 /// the statement. The checks come in this order.

@@ -2,17 +2,15 @@
 ghost use Rattle.std.specs.Prelude.{◌≡◌, ◌≢◌, ◌+◌, ◌<◌, ◌^◌, [], All, Err, IfErr, IfOk, None, OnErr, OnOk, Some, false, length, map, true};
 ghost use Rattle.std.specs.List.{list_all};
 ghost use Rattle.xm_day.specs.Day.{Accepts, LacksMemoryAt, after_row, after_rows, day_of, journal_of, segment_fault};
-ghost use Rattle.xm_rules.specs.Served.{is_served};
 ghost use Rattle.xm_desk.specs.Opening.{are_widths};
 ghost use Rattle.xm_rules.specs.Step.{replay};
 
-use crate::config::{SecurityConfig, SegmentConfig};
 use crate::report::DayReport;
-use crate::rows::Row;
 use std::alloc::{AllocError, Allocator, Global};
 use xm_desk::{Desk, MAX_MEMBERS, OpenFault, are_widths};
 use xm_names::Seed;
 use xm_rules::{DeskSettings, OutOfMemory, Refusal};
+use xm_segment::{Row, SecurityConfig, SegmentConfig};
 
 /// The most securities of a segment.
 pub const MAX_SECURITIES: usize = 8;
@@ -97,7 +95,6 @@ pub fn take_rows<A: Allocator + Copy>(
     desks: &mut [Desk<A>],
     rows: &[Row],
 ) -> Result<DayReport, OutOfMemory>
-    requires served { list_all (λ row. is_served row.command) rows.now ≡ true }
     ensures taken { IfOk result (λ report. day_of desks.new report.accepted report.refused ≡ after_rows (day_of desks.old 0 0) rows.now) }
     ensures memory { OnErr result (LacksMemoryAt (day_of desks.old 0 0) rows.now) }
 {
@@ -118,7 +115,6 @@ fn take_row<A: Allocator + Copy>(
     row: &Row,
     report: DayReport,
 ) -> Result<DayReport, OutOfMemory>
-    requires served { is_served row.now.command ≡ true }
     requires room { report.accepted + report.refused + 1 < 2 ^ 64 }
     ensures taken { IfOk result (λ counted. after_row (day_of desks.old report.accepted report.refused) row.now ≡ day_of desks.new counted.accepted counted.refused) }
     ensures counted { IfOk result (λ counted. counted.accepted + counted.refused ≡ report.accepted + report.refused + 1) }

@@ -2,9 +2,9 @@
 ghost use Rattle.std.specs.Prelude.{◌≡◌};
 ghost use Rattle.xm_day.specs.declared.faults.DayFault.TheVariants as day;
 
-use crate::file_faults::FileFault;
 use thiserror::Error;
 use xm_desk::OpenFault;
+use xm_files::FileFault;
 use xm_rules::OutOfMemory;
 
 /// Why a day has no statement, in the order of the checks.

@@ -1,23 +1,22 @@
 //! The end-of-day statement.
 ghost use Rattle.std.specs.Prelude.{◌≡◌, ◌++◌, ◌<◌, ◌^◌, [], Err, IfErr, IfOk, OnOk, length, map};
 ghost use Rattle.std.specs.Io.KnownBytes.{Appends};
-ghost use Rattle.std.specs.List.{flat_map};
 ghost use Rattle.xm_day.specs.Answers.{IsOfWriting};
-ghost use Rattle.xm_day.specs.Statement.{date_text, day_line, heading_text, limit_text, name_at, order_line, references_line, rows_line, securities_text, security_line, security_text, statement, validity_text};
+ghost use Rattle.xm_day.specs.Statement.{day_line, heading_text, name_at, references_line, rows_line, securities_text, security_line, security_text, statement};
 ghost use Rattle.xm_rules.specs.Step.{replay};
 ghost use Rattle.xm_ticks.specs.Writing.{AppendsPrefix};
 
 use crate::faults::DayFault;
-use crate::names::Names;
+use crate::remaining::{push_date, push_orders, push_stops};
 use crate::report::DayReport;
-use crate::texts::{push_number, push_party, push_text, security_name};
+use crate::texts::security_name;
 use crate::traded::{push_members, push_nets, push_total, push_trades};
-use crate::words::{phase_word, restriction_word, side_word};
-use itoa::Buffer;
+use crate::words::phase_word;
 use std::alloc::Allocator;
 use std::io::{self, Write};
 use xm_desk::Desk;
-use xm_rules::{Order, OrderKind, Phase, Validity};
+use xm_files::Names;
+use xm_rules::Phase;
 use xm_ticks::{Price, TickSize, write_price, write_whole};
 
 /// Writes the statement of the desks of a segment, which are in index order.
@@ -103,7 +102,7 @@ fn push_securities<A: Allocator, B: Allocator + Copy>(
     Ok(())
 }
 
-/// A security: its phase, references, trades, orders, net positions and total. It holds no stop so far.
+/// A security: its phase, references, trades, orders, stops, net positions and total.
 fn push_security<A: Allocator, B: Allocator + Copy>(
     text: &mut Vec<u8, A>,
     desk: &Desk<B>,
@@ -117,23 +116,27 @@ fn push_security<A: Allocator, B: Allocator + Copy>(
         Ok(orders) => orders,
         Err(_) => return Err(io::Error::from(io::ErrorKind::OutOfMemory)),
     };
+    let stops = match desk.stops() {
+        Ok(stops) => stops,
+        Err(_) => return Err(io::Error::from(io::ErrorKind::OutOfMemory)),
+    };
     push_heading(text, desk, names, index)?;
     push_trades(text, desk.trades(), names, tick)?;
     push_orders(text, orders.as_slice(), names, tick)?;
+    push_stops(text, stops.as_slice(), names, tick)?;
     push_nets(text, desk, names)?;
     push_total(text, desk)?;
     Ok(())
 }
 
-/// The phase and the reference prices of a security, which holds no stop so far.
+/// The phase and the reference prices of a security.
 fn push_heading<A: Allocator, B: Allocator + Copy>(
     text: &mut Vec<u8, A>,
     desk: &Desk<B>,
     names: &Names,
     index: u32,
 ) -> io::Result<()>
-    ensures text { OnOk result (text.new.items ≡ text.old.items ++ heading_text (name_at names.now.securities index) (replay desk.now)) }
-    ensures no_stops { (replay desk.now).stops ≡ [] }
+    ensures { OnOk result (text.new.items ≡ text.old.items ++ heading_text (name_at names.now.securities index) (replay desk.now)) }
 {
     push_security_line(text, security_name(names, index), desk.phase())?;
     push_references(text, desk.settings().tick, desk.ref1(), desk.ref2())?;
@@ -166,82 +169,4 @@ fn push_references<A: Allocator>(
     write!(text, " ")?;
     write_price(text, second, tick)?;
     writeln!(text)
-}
-
-/// The lines of some orders.
-fn push_orders<A: Allocator>(
-    text: &mut Vec<u8, A>,
-    orders: &[Order],
-    names: &Names,
-    tick: TickSize,
-) -> io::Result<()>
-    ensures { OnOk result (text.new.items ≡ text.old.items ++ flat_map (order_line names.now tick) orders.now) }
-{
-    for order in orders {
-        push_order(text, order, names, tick)?;
-    }
-    Ok(())
-}
-
-/// The line of an order.
-fn push_order<A: Allocator>(
-    text: &mut Vec<u8, A>,
-    order: &Order,
-    names: &Names,
-    tick: TickSize,
-) -> io::Result<()>
-    ensures { OnOk result (text.new.items ≡ text.old.items ++ order_line names.now tick order.now) }
-{
-    push_text(text, "ORDER ")?;
-    push_party(text, names, order.member, order.reference)?;
-    push_text(text, " ")?;
-    push_text(text, side_word(order.side))?;
-    push_text(text, " ")?;
-    push_limit(text, order.kind, tick)?;
-    push_text(text, " ")?;
-    push_number(text, u64::from(order.rest))?;
-    push_text(text, " ")?;
-    push_validity(text, order.validity)?;
-    push_text(text, " ")?;
-    push_text(text, restriction_word(order.restriction))?;
-    push_text(text, "\n")
-}
-
-/// The limit of an order, if it has one.
-fn push_limit<A: Allocator>(
-    text: &mut Vec<u8, A>,
-    kind: OrderKind,
-    tick: TickSize,
-) -> io::Result<()>
-    ensures { OnOk result (text.new.items ≡ text.old.items ++ limit_text tick kind) }
-{
-    match kind {
-        OrderKind::Market => push_text(text, "market"),
-        OrderKind::Limit(price) => write_price(text, price, tick),
-    }
-}
-
-/// How long an order is valid.
-fn push_validity<A: Allocator>(text: &mut Vec<u8, A>, validity: Validity) -> io::Result<()>
-    ensures { OnOk result (text.new.items ≡ text.old.items ++ validity_text validity) }
-{
-    match validity {
-        Validity::Day => push_text(text, "day"),
-        Validity::TillDate(date) => push_date(text, date),
-        Validity::TillCancelled => push_text(text, "gtc"),
-    }
-}
-
-/// A date with at least eight digits.
-#[tactic(auto, using(std::proofs::lemmas::Grind::replicate_next))]
-fn push_date<A: Allocator>(text: &mut Vec<u8, A>, date: u32) -> io::Result<()>
-    ensures { OnOk result (text.new.items ≡ text.old.items ++ date_text date) }
-{
-    let mut digits = Buffer::new();
-    let digits = digits.format(date);
-    for _ in digits.len()..8 {
-        write!(text, "0")?;
-    }
-    write!(text, "{digits}")?;
-    Ok(())
 }

@@ -3,10 +3,10 @@ ghost use Rattle.std.specs.Prelude.{◌≡◌, ◌++◌, OnOk};
 ghost use Rattle.std.specs.Fmt.{decimal};
 ghost use Rattle.xm_day.specs.Statement.{name_at, party_text};
 
-use crate::names::Names;
 use itoa::Buffer;
 use std::alloc::Allocator;
 use std::io;
+use xm_files::Names;
 
 /// A number.
 pub(crate) fn push_number<A: Allocator>(text: &mut Vec<u8, A>, number: u64) -> io::Result<()>

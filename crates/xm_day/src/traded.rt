@@ -5,13 +5,13 @@ ghost use Rattle.xm_day.specs.Statement.{cash_line, member_indices, member_line,
 ghost use Rattle.xm_rules.specs.Step.{replay};
 ghost use Rattle.xm_rules.specs.Sums.{total_money, total_quantity};
 
-use crate::names::Names;
 use crate::sums::{Counted, amount_of, difference, total_cash};
 use crate::texts::{member_name, push_number, push_party, push_text};
 use crate::words::trade_word;
 use std::alloc::Allocator;
 use std::io::{self, Write};
 use xm_desk::Desk;
+use xm_files::Names;
 use xm_rules::Trade;
 use xm_ticks::{TickSize, write_money, write_price};
 

@@ -3,7 +3,9 @@ ghost use Rattle.std.specs.Prelude.{◌≡◌, Some};
 ghost use Rattle.xm_program.specs.FaultLines.{cause_name, fault_line, open_name, told};
 
 use std::fmt;
-use xm_day::{DayFault, FileCause, FileFault, OpenFault};
+use xm_day::DayFault;
+use xm_desk::OpenFault;
+use xm_files::{FileCause, FileFault};
 
 /// A fault as the line that the program writes, without its line feed.
 #[derive(Clone, Copy, PartialEq, Eq, Debug)]

@@ -4,7 +4,7 @@ use Rattle.xm_rules.specs.Step.{Journal, replay}
 use Rattle.xm_ticks.specs.Writing.{AppendsPrefix}
 use Rattle.xm_day.proofs.Days.{day-taken, lent_back}
 use Rattle.xm_day.proofs.Endings.{OrdersEnd-of_writing}
-use Rattle.xm_day.proofs.PassedErrors.{is_passed}
+use Rattle.xm_files.proofs.PassedErrors.{is_passed}
 use Rattle.xm_day.specs.Answers.{OrdersEnd, statement_of}
 use Rattle.xm_day.specs.Day.{Day}
 use Rattle.xm_day.specs.Statement.{statement}

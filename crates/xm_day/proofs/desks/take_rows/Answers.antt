@@ -1,17 +1,9 @@
 use Rattle.std.proofs.Common.{◌∙◌, ◌<◌, length, ap, arith}
 use Rattle.std.proofs.lemmas.List.{take_all}
-use Rattle.std.proofs.lemmas.List.Sums.{AllPass-from_list_all}
 use Rattle.xm_day.proofs.Days.{rows-lack, rows-step}
-use Rattle.xm_day.proofs.PassedErrors.{on_err}
+use Rattle.xm_files.proofs.PassedErrors.{on_err}
 use Rattle.xm_day.specs.Day.{after_rows, day_of}
-use Rattle.xm_rules.specs.Served.{is_served}
-use Rattle.xm_day.specs.declared.rows.Row.{Row}
 use Rattle.xm_day.proofs.desks.take_rows.Goals as goal
-
-pub take_row-requires-clause-served : goal.take_row-requires-clause-served
-take_row-requires-clause-served g c =
-    let within : c.loop-row.row-index < length c.args.rows.now = omega arith in
-    AllPass-from_list_all (λ (row : Row). is_served row.command) c.args.rows.now c.requires.served c.loop-row.row-index _ within
 
 pub loop-row-preserved : goal.loop-row-preserved
 loop-row-preserved g c =

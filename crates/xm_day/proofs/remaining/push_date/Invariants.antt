@@ -1,5 +1,5 @@
 use Rattle.std.proofs.Common.{◌≡◌, ◌≤◌, ◌-◌, ◌++◌, length, max, replicate}
-use Rattle.xm_day.proofs.statements.push_date.Given as goal
+use Rattle.xm_day.proofs.remaining.push_date.Given as goal
 
 abbrev pub invariant-loop : goal.invariant-loop
 invariant-loop g l = record {

@@ -1,5 +1,5 @@
 use Rattle.std.proofs.Common.{◌≡◌, ℕ, List, ◌-◌, ◌++◌, length, replicate, append_assoc, arith, ap, ◌∙◌}
-use Rattle.xm_day.proofs.statements.push_date.Goals as goal
+use Rattle.xm_day.proofs.remaining.push_date.Goals as goal
 
 pub returns : goal.returns
 returns g c =

@@ -1,6 +1,0 @@
-use Rattle.std.proofs.Common.{◌≡◌, ◌++◌, map}
-use Rattle.std.specs.List.{range_with_len}
-use Rattle.xm_day.proofs.orders.add_each.Given as goal
-
-abbrev pub invariant-loop-security : goal.invariant-loop-security
-invariant-loop-security l = l.rows.items ≡ l.initial.rows.items ++ map (λ security. record { security = security; command = l.command }) (range_with_len 0 l.security)

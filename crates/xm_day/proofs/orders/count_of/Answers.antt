@@ -1,9 +1,0 @@
-use Rattle.std.proofs.Common.{sym}
-use Rattle.std.proofs.lemmas.List.FromFn.{length-map-range_with_len}
-use Rattle.xm_day.proofs.orders.count_of.Goals as goal
-use Rattle.xm_day.specs.declared.rows.Row.{Row}
-use Rattle.std.proofs.Common.{ℕ}
-
-pub returns-in-Each : goal.returns-in-Each
-returns-in-Each c =
-    rw c.in-Each.is (sym (length-map-range_with_len (let each : ℕ → Row = λ security. record { security = security; command = c.in-Each.field-0 } in each) 0 c.args.securities))

@@ -1,6 +1,0 @@
-use Rattle.std.proofs.Common.{◌≡◌, ◌++◌, true, drop, map}
-use Rattle.xm_day.specs.Segment.{are_distinct}
-use Rattle.xm_day.proofs.segment.list_members.Given as goal
-
-abbrev pub invariant-loop-name : goal.invariant-loop-name
-invariant-loop-name l = record { listed : map (λ name. name.now) l.names ≡ l.list ++ map (λ name. name.now) (drop l.name-index l.names); distinct : are_distinct l.list ≡ true }
