@@ -90,45 +90,41 @@ impl Loaded {
         }
         let mut accepted = 0;
         for place in 0..commands {
-            if self.is_accepted(part.command(place, commands))? {
+            if self.is_accepted(part.command(place, commands)) {
                 accepted += 1;
             }
         }
         Ok(accepted)
     }
 
-    /// Gives the desk a command that it serves, and answers whether it accepted it.
-    fn is_accepted(&mut self, command: Command) -> Result<bool, LoadFault> {
-        Ok(self.answer(command)?.is_some())
+    /// Gives the desk a command, and answers whether it accepted it.
+    fn is_accepted(&mut self, command: Command) -> bool {
+        self.answer(command).is_some()
     }
 
-    /// Gives the desk a command that it serves, and answers its reply, where it accepted it.
-    pub fn answer(&mut self, command: Command) -> Result<Option<Reply>, LoadFault> {
-        if command.is_served() {
-            Ok(self.desk.apply(command).ok())
-        } else {
-            Err(LoadFault)
-        }
+    /// Gives the desk a command, and answers its reply, where it accepted it.
+    pub fn answer(&mut self, command: Command) -> Option<Reply> {
+        self.desk.apply(command).ok()
     }
 
     /// Gives the desk each of some commands, and answers how many it accepted.
-    pub fn take(&mut self, commands: &[Command]) -> Result<u32, LoadFault> {
+    pub fn take(&mut self, commands: &[Command]) -> u32 {
         let mut accepted: u32 = 0;
         for command in commands {
-            if self.is_accepted(*command)? {
+            if self.is_accepted(*command) {
                 accepted = accepted.wrapping_add(1);
             }
         }
-        Ok(accepted)
+        accepted
     }
 
     pub fn quote(&self) -> Quote {
         self.desk.quote()
     }
 
-    /// Gives the desk a command that it serves and accepts.
+    /// Gives the desk a command that it accepts.
     pub fn accept(&mut self, command: Command) -> Result<(), LoadFault> {
-        if self.is_accepted(command)? {
+        if self.is_accepted(command) {
             Ok(())
         } else {
             Err(LoadFault)

@@ -113,7 +113,7 @@ fn time_of<R: Clock>(rt: &R, loaded: &mut Loaded, commands: &[Command]) -> Resul
     let Ok(start) = Instant::now(rt) else {
         return Err(LoadFault);
     };
-    let accepted = loaded.take(commands)?;
+    let accepted = loaded.take(commands);
     nanoseconds_since(rt, &start, accepted)
 }
 

@@ -1,10 +1,266 @@
-mod days;
-mod fixtures;
-mod order_files;
-mod segment_files;
+use crate::files::fixtures::{
+    CASCADE, HEADER, NO_SECURITY, ORDERS, OneByteReader, SECOND, SEGMENT, ShortWriter, replaced,
+};
+use std::alloc::{AllocError, Global};
+use std::io::{ErrorKind, Read};
+use std::process::Abort;
+use std::test::Fail;
+use xm_day::{DayFault, DayReport, run_alone};
+use xm_desk::OpenFault;
+use xm_files::{FileCause, FileFault};
+use xm_names::Seed;
 
-use xm_day::{FileCause, FileFault};
+const STATEMENT: &str = "DAY 20260105
+SECURITY XYZ opening-call
+REFERENCES 10.0000 10.0000
+ORDER BBB 1 sell 10.1000 5 day free
+ORDER AAA 2 buy 9.9500 7 day free
+TOTAL 0 0.0000
+MEMBER AAA 0.0000
+MEMBER BBB 0.0000
+";
 
-fn fault(line: u32, cause: FileCause) -> Option<FileFault> {
-    Some(FileFault { line, cause })
+/// The statement of the day of `ORDERS`, with this many refused rows.
+fn written(alloc: Global, refused: u64) -> Result<String, AllocError> {
+    format!(in alloc; "{STATEMENT}ROWS 5 {refused}\n")
+}
+
+/// Compares the answer of a day with the rows that it refused, and what it wrote.
+fn is_written(
+    rt: &(impl Abort + AllocGlobal),
+    segment: &mut impl Read,
+    orders: &mut impl Read,
+    refused: u64,
+) -> Result<(), Fail> {
+    let mut out = Vec::new(rt.alloc());
+    let report = run_alone(rt.alloc(), Seed::fixed(), segment, orders, &mut out)?;
+    assert!(rt; (report.accepted, report.refused) == (5, refused));
+    assert!(rt; out.as_slice() == written(rt.alloc(), refused)?.as_bytes());
+    Ok(())
+}
+
+/// Compares the fault of a day, which writes nothing.
+fn has_fault(
+    rt: &(impl Abort + AllocGlobal),
+    segment: &mut impl Read,
+    orders: &mut impl Read,
+    fault: DayFault,
+) {
+    let mut out = Vec::new(rt.alloc());
+    let answer = run_alone(rt.alloc(), Seed::fixed(), segment, orders, &mut out);
+    assert_eq!(rt; answer.err(), Some(fault));
+    assert!(rt; out.is_empty());
+}
+
+#[test]
+fn orders_before_and_in_the_opening_call(rt: HostRuntime) -> Result<(), Fail> {
+    is_written(&rt, &mut SEGMENT.as_bytes(), &mut ORDERS.as_bytes(), 0)
+}
+
+/// The statement of the day of `CASCADE`, as `examples/cascade.statement`.
+const CASCADE_STATEMENT: &str = "DAY 20260105
+SECURITY XYZ ended
+REFERENCES 9.8500 10.0000
+TRADE 4 continuous 10.0000 10 AAA 1 BBB 3
+TRADE 4 continuous 9.9000 20 AAA 2 BBB 3
+TRADE 5 continuous 9.8500 25 AAA 3 BBB 1
+TRADE 6 continuous 9.8500 5 AAA 3 BBB 2
+ORDER BBB 2 sell 9.8500 5 gtc free
+NET AAA 60 -593.5000
+NET BBB -60 593.5000
+TOTAL 60 593.5000
+MEMBER AAA -593.5000
+MEMBER BBB 593.5000
+ROWS 11 1
+";
+
+#[test]
+fn a_day_with_a_cascade(rt: HostRuntime) -> Result<(), Fail> {
+    let mut out = Vec::new(rt.alloc());
+    let report = run_alone(
+        rt.alloc(),
+        Seed::fixed(),
+        &mut SEGMENT.as_bytes(),
+        &mut CASCADE.as_bytes(),
+        &mut out,
+    )?;
+    assert!(rt; (report.accepted, report.refused) == (11, 1));
+    assert!(rt; out.as_slice() == CASCADE_STATEMENT.as_bytes());
+    Ok(())
+}
+
+/// A row for each refusal that an order file reaches, after `ORDERS`, and how many commands the
+/// journal takes.
+const REFUSED_ROWS: [(&str, u32, &str); 8] = [
+    (
+        "UnknownSecurity",
+        100,
+        "enter,AAA,3,ABC,buy,limit,10.00,,10,,,",
+    ),
+    (
+        "UnknownMember",
+        100,
+        "enter,CCC,3,XYZ,buy,limit,10.00,,10,,,",
+    ),
+    ("BadQuantity", 100, "enter,AAA,3,XYZ,buy,limit,10.00,,0,,,"),
+    ("BadPrice", 100, "enter,AAA,3,XYZ,buy,limit,10.005,,10,,,"),
+    ("WrongPhase", 100, "open,,,*,,,,,,,,"),
+    (
+        "DuplicateReference",
+        100,
+        "enter,AAA,2,XYZ,buy,limit,10.00,,10,,,",
+    ),
+    ("UnknownOrder", 100, "cancel,AAA,1,XYZ,,,,,,,,"),
+    ("JournalFull", 5, "enter,AAA,3,XYZ,buy,limit,10.00,,10,,,"),
+];
+
+#[test]
+fn refused_rows_are_counted(rt: HostRuntime) -> Result<(), Fail> {
+    let alloc = rt.alloc();
+    for (_refusal, limit, row) in REFUSED_ROWS {
+        let journal = format!(in alloc; "journal = {limit}")?;
+        let segment = replaced(alloc, SEGMENT, "journal = 100", journal.as_str())?;
+        let orders = format!(in alloc; "{ORDERS}{row}\n")?;
+        is_written(&rt, &mut segment.as_bytes(), &mut orders.as_bytes(), 1)?;
+    }
+    Ok(())
+}
+
+const BAD_VALUE: DayFault = DayFault::Segment(FileFault {
+    line: 1,
+    cause: FileCause::BadValue,
+});
+
+const BAD_HEADER: DayFault = DayFault::Orders(FileFault {
+    line: 1,
+    cause: FileCause::BadHeader,
+});
+
+/// A segment of nine securities.
+fn nine_securities(alloc: Global) -> Result<String, Fail> {
+    let mut segment = String::from_str(alloc, SEGMENT)?;
+    for name in ["A", "B", "C", "D", "E", "F", "G", "H"] {
+        let security = replaced(alloc, SECOND, "UVW", name)?;
+        segment.push_str("\n")?;
+        segment.push_str(security.as_str())?;
+    }
+    Ok(segment)
+}
+
+#[test]
+fn faults_in_order(rt: HostRuntime) -> Result<(), Fail> {
+    let alloc = rt.alloc();
+    let nine = nine_securities(alloc)?;
+    let wide = replaced(alloc, SEGMENT, "dynamic = 20", "dynamic = 40")?;
+    let damaged = replaced(alloc, SEGMENT, "tick = 100", "tick = 0")?;
+    let faults = [
+        (damaged.as_str(), "", BAD_VALUE),
+        (nine.as_str(), "", BAD_HEADER),
+        (nine.as_str(), HEADER, DayFault::Open(OpenFault::TooMany)),
+        (NO_SECURITY, HEADER, DayFault::Open(OpenFault::NoSecurity)),
+        (wide.as_str(), HEADER, DayFault::Open(OpenFault::BadWidths)),
+    ];
+    for (segment, orders, fault) in faults {
+        has_fault(&rt, &mut segment.as_bytes(), &mut orders.as_bytes(), fault);
+    }
+    Ok(())
+}
+
+/// Compares what a writer with this room holds, which then fails.
+fn fails_after(rt: &(impl Abort + AllocGlobal), start: &[u8], failure: Option<ErrorKind>) {
+    let mut out = ShortWriter::new(rt.alloc(), start.len(), failure);
+    let answer = run_alone(
+        rt.alloc(),
+        Seed::fixed(),
+        &mut SEGMENT.as_bytes(),
+        &mut ORDERS.as_bytes(),
+        &mut out,
+    );
+    assert!(rt; answer.err() == Some(DayFault::WriteFailed));
+    assert!(rt; out.bytes.as_slice() == start);
+}
+
+#[test]
+fn failing_writers(rt: HostRuntime) -> Result<(), Fail> {
+    let text = written(rt.alloc(), 0)?;
+    let failures = [
+        None,
+        Some(ErrorKind::BrokenPipe),
+        Some(ErrorKind::Interrupted),
+    ];
+    for failure in failures {
+        for room in 0..text.len() {
+            fails_after(&rt, &text.as_bytes()[..room], failure);
+        }
+    }
+    Ok(())
+}
+
+const READ_FAILED: FileFault = FileFault {
+    line: 0,
+    cause: FileCause::ReadFailed,
+};
+
+#[test]
+fn slow_readers(rt: HostRuntime) -> Result<(), Fail> {
+    let mut segment = OneByteReader::new(SEGMENT, None);
+    let mut orders = OneByteReader::new(ORDERS, None);
+    is_written(&rt, &mut segment, &mut orders, 0)
+}
+
+#[test]
+fn failing_readers_of_a_segment(rt: HostRuntime) {
+    for kind in [ErrorKind::BrokenPipe, ErrorKind::Interrupted] {
+        for call in 0..SEGMENT.len() + 1 {
+            let mut segment = OneByteReader::new(SEGMENT, Some((call, kind)));
+            let mut orders = OneByteReader::new(ORDERS, None);
+            has_fault(
+                &rt,
+                &mut segment,
+                &mut orders,
+                DayFault::Segment(READ_FAILED),
+            );
+        }
+    }
+}
+
+#[test]
+fn failing_readers_of_orders(rt: HostRuntime) {
+    for kind in [ErrorKind::BrokenPipe, ErrorKind::Interrupted] {
+        for call in 0..ORDERS.len() + 1 {
+            let mut segment = OneByteReader::new(SEGMENT, None);
+            let mut orders = OneByteReader::new(ORDERS, Some((call, kind)));
+            has_fault(
+                &rt,
+                &mut segment,
+                &mut orders,
+                DayFault::Orders(READ_FAILED),
+            );
+        }
+    }
+}
+
+const BAD_FIELD: FileFault = FileFault {
+    line: 3,
+    cause: FileCause::BadField,
+};
+
+const TEXTS: [(DayFault, &str); 5] = [
+    (
+        DayFault::Segment(BAD_FIELD),
+        "segment file, line 3: BadField",
+    ),
+    (DayFault::Orders(BAD_FIELD), "order file, line 3: BadField"),
+    (DayFault::Open(OpenFault::NoSecurity), "no security"),
+    (DayFault::OutOfMemory, "out of memory"),
+    (DayFault::WriteFailed, "write failed"),
+];
+
+#[test]
+fn fault_texts(rt: HostRuntime) -> Result<(), Fail> {
+    for (fault, text) in TEXTS {
+        let written = format!(in rt.alloc(); "{fault}")?;
+        assert_eq!(rt; written.as_str(), text);
+    }
+    Ok(())
 }

@@ -31,6 +31,29 @@ macro_rules! limited {
     };
 }
 
+/// The entry of a free order for the day, of any kind and condition.
+macro_rules! enter {
+    ($side:ident, $member:expr, $reference:expr, $kind:expr, $quantity:expr, $condition:ident) => {
+        Command::Enter {
+            member: $member,
+            reference: $reference,
+            side: Side::$side,
+            kind: $kind,
+            quantity: $quantity,
+            validity: Validity::Day,
+            restriction: Restriction::Free,
+            condition: Condition::$condition,
+        }
+    };
+}
+
+/// The entry of a stop for the day, of this kind.
+macro_rules! stop {
+    ($side:ident, $member:expr, $reference:expr, $kind:expr, $quantity:expr) => {
+        enter!($side, $member, $reference, $kind, $quantity, Plain)
+    };
+}
+
 macro_rules! cancel {
     ($member:expr, $reference:expr) => {
         Command::Cancel {
@@ -51,13 +74,22 @@ macro_rules! change {
     };
 }
 
+/// A command that trades nothing, and leaves trading as it is.
+macro_rules! rests {
+    ($command:expr) => {
+        ($command, 0, 0, 0, Phase::Continuous)
+    };
+}
+
 mod auctions;
+mod cascades;
 mod changes;
 mod day;
 mod growths;
 mod opening;
 mod orders;
 mod refusals;
+mod stop_refusals;
 mod trading;
 
 use std::test::Fail;

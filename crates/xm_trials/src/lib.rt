@@ -11,6 +11,8 @@ mod day;
 #[cfg(test)]
 mod desk;
 #[cfg(test)]
+mod files;
+#[cfg(test)]
 mod ladders;
 #[cfg(test)]
 mod matching;

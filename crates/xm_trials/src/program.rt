@@ -9,7 +9,9 @@ use std::io;
 use std::io::{Read, Write};
 use std::process::Abort;
 use std::test::Fail;
-use xm_day::{DayFault, FileCause, FileFault, OpenFault};
+use xm_day::DayFault;
+use xm_desk::OpenFault;
+use xm_files::{FileCause, FileFault};
 use xm_names::Seed;
 use xm_program::{Failure, FaultLine, Input, Request, open_input, read_words, run};
 

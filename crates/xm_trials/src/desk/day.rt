@@ -6,7 +6,8 @@ use std::test::Fail;
 use xm_desk::Desk;
 use xm_names::Seed;
 use xm_rules::{
-    Command, DeskSettings, Order, OutOfMemory, Phase, Quote, Refusal, Reply, Side, Trade,
+    Auction, CallStage, Command, DeskSettings, Order, OutOfMemory, Phase, Quote, Refusal, Reply,
+    Side, Stop, Trade,
 };
 use xm_ticks::Price;
 
@@ -18,6 +19,18 @@ pub type Bought = (u32, u32, u32, u32);
 
 /// A command, the number, quantity and money of the trades that it makes, and the phase after it.
 pub type Traded = (Command, u64, u64, u64, Phase);
+
+/// An opening without a price, which leads to continuous trading.
+pub const OPENED: [Traded; 2] = [
+    (
+        Command::StartOpening,
+        0,
+        0,
+        0,
+        Phase::Call(Auction::Opening, CallStage::Ordinary),
+    ),
+    rests!(Command::Uncross),
+];
 
 /// Commands of a day, with the orders that are live after them.
 #[derive(Clone, Copy)]
@@ -57,10 +70,9 @@ impl<A: Allocator + Copy> Day<A> {
         })
     }
 
-    /// Gives a command that the desk serves. The desk knows its refusal beforehand, and takes into
-    /// the journal what it accepts and nothing else.
+    /// Gives a command. The desk knows its refusal beforehand, and takes into the journal what it
+    /// accepts and nothing else.
     pub fn apply(&mut self, rt: &impl Abort, command: Command) -> Result<Reply, Refusal> {
-        assert!(rt; command.is_served());
         let expected = self.desk.refusal_of(&command);
         let accepted = self.desk.journal().len();
         let answer = self.desk.apply(command);
@@ -101,6 +113,11 @@ impl<A: Allocator + Copy> Day<A> {
     /// The live orders in time order.
     pub fn orders(&self) -> Result<Vec<Order, A>, OutOfMemory> {
         self.desk.orders()
+    }
+
+    /// The held stops in order of entry.
+    pub fn stops(&self) -> Result<Vec<Stop, A>, OutOfMemory> {
+        self.desk.stops()
     }
 
     /// Compares the live orders.

@@ -1,5 +1,5 @@
 //! Continuous trading: what an incoming order is executed at, where it stops, and what is left of it.
-use super::day::{Day, Traded};
+use super::day::{Day, OPENED, Traded};
 use std::process::Abort;
 use std::test::Fail;
 use xm_rules::{
@@ -24,22 +24,6 @@ struct Scene {
     live: &'static [Live],
 }
 
-/// The entry of a free order for the day, of any kind and condition.
-macro_rules! enter {
-    ($side:ident, $member:expr, $reference:expr, $kind:expr, $quantity:expr, $condition:ident) => {
-        Command::Enter {
-            member: $member,
-            reference: $reference,
-            side: Side::$side,
-            kind: $kind,
-            quantity: $quantity,
-            validity: Validity::Day,
-            restriction: Restriction::Free,
-            condition: Condition::$condition,
-        }
-    };
-}
-
 /// The entry of a limited order for auctions alone.
 macro_rules! in_auctions {
     ($side:ident, $member:expr, $reference:expr, $limit:expr, $quantity:expr) => {
@@ -56,13 +40,6 @@ macro_rules! in_auctions {
     };
 }
 
-/// A command that trades nothing, and leaves trading as it is.
-macro_rules! rests {
-    ($command:expr) => {
-        ($command, 0, 0, 0, Phase::Continuous)
-    };
-}
-
 /// A command with the trades, units and money that it makes in continuous trading.
 macro_rules! trades {
     ($command:expr, $trades:expr, $quantity:expr, $money:expr) => {
@@ -76,17 +53,6 @@ macro_rules! interrupted {
         ($command, $trades, $quantity, $money, INTERRUPTED)
     };
 }
-
-const OPENED: [Traded; 2] = [
-    (
-        Command::StartOpening,
-        0,
-        0,
-        0,
-        Phase::Call(Auction::Opening, CallStage::Ordinary),
-    ),
-    rests!(Command::Uncross),
-];
 
 fn are_live(rt: &impl Abort, orders: &[Order], live: &[Live]) {
     assert_eq!(rt; orders.len(), live.len());

@@ -66,18 +66,22 @@ impl<A: Allocator + Copy> Held<A> {
         self.stops.remove(member, reference)
     }
 
+    /// Takes the stops of a member out one by one, until it has none.
     pub fn remove_all(&mut self, member: u32) {
-        self.stops.remove_all(member)
-    }
-
-    pub fn remove_expired(&mut self, today: u32) {
-        self.stops.remove_expired(today)
+        while self.stops.remove_any(member).is_some() {}
     }
 
     /// Makes room among the pending stops for all that are held, and takes the reached ones.
     pub fn take_reached(&mut self, last: Price) -> Result<(), OutOfMemory> {
         self.pending.reserve(self.stops.len())?;
         self.stops.take_reached(last, &mut self.pending);
+        Ok(())
+    }
+
+    /// Makes room among the pending stops for all that are held, and takes those that aren't valid beyond a day.
+    pub fn take_expired(&mut self, today: u32) -> Result<(), OutOfMemory> {
+        self.pending.reserve(self.stops.len())?;
+        self.stops.take_expired(today, &mut self.pending);
         Ok(())
     }
 

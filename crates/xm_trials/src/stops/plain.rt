@@ -62,10 +62,6 @@ impl Plain {
         self.held.retain(|stop| stop.member != member);
     }
 
-    pub fn remove_expired(&mut self, today: u32) {
-        self.held.retain(|stop| is_valid_after(stop, today));
-    }
-
     pub fn take_reached(&mut self, rt: &impl Abort, last: u32) {
         for stop in &self.held {
             if is_reached(stop, last) {
@@ -73,6 +69,15 @@ impl Plain {
             }
         }
         self.held.retain(|stop| !is_reached(stop, last));
+    }
+
+    pub fn take_expired(&mut self, rt: &impl Abort, today: u32) {
+        for stop in &self.held {
+            if !is_valid_after(stop, today) {
+                self.pending.push(*stop).expect(rt, "memory");
+            }
+        }
+        self.held.retain(|stop| is_valid_after(stop, today));
     }
 
     pub fn pop(&mut self) -> Option<Stop> {

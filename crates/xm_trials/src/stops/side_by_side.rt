@@ -75,8 +75,8 @@ fn turn<A: Allocator + Copy>(
             list.remove_all(member);
         }
         _ => {
-            stops.remove_expired(TODAY);
-            list.remove_expired(TODAY);
+            assert!(rt; stops.take_expired(TODAY).is_ok());
+            list.take_expired(rt, TODAY);
         }
     }
 }

@@ -1,6 +1,6 @@
 use Rattle.std.proofs.Common.{◌≡◌, rules, None, find}
 use Rattle.xm_rules.specs.Orders.{is_stop_named}
-use Rattle.xm_stops.proofs.Named.{none-found}
+use Rattle.xm_slots.proofs.Tests.{none-found}
 use Rattle.xm_trials.proofs.stops.held.Held.enter.Goals as goal
 
 pub join-requires-clause-name : goal.join-requires-clause-name

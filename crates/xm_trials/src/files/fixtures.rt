@@ -39,6 +39,23 @@ enter,AAA,2,XYZ,buy,limit,9.95,,7,,,
 cancel,AAA,1,XYZ,,,,,,,,
 ";
 
+/// A day with trades and stops, as `examples/cascade.orders.csv`.
+pub(crate) const CASCADE: &str =
+    "command,member,reference,security,side,kind,limit,trigger,quantity,validity,restriction,condition
+open,,,*,,,,,,,,
+uncross,,,*,,,,,,,,
+enter,AAA,1,XYZ,buy,limit,10.00,,10,,,
+enter,AAA,2,XYZ,buy,limit,9.90,,20,,,
+enter,AAA,3,XYZ,buy,limit,9.85,,30,,,
+enter,BBB,1,XYZ,sell,stop-market,,9.90,25,,,
+enter,BBB,2,XYZ,sell,stop-limit,9.85,9.85,10,gtc,,
+enter,BBB,3,XYZ,sell,limit,9.90,,30,,,
+cancel,AAA,9,XYZ,,,,,,,,
+close,,,*,,,,,,,,
+uncross,,,*,,,,,,,,
+end,,,*,,,,,,,,
+";
+
 /// A segment file without a member or a security.
 pub(crate) const NO_SECURITY: &str = "date = 0\nmembers = []\nsecurity = []\n";
 

@@ -1,13 +1,14 @@
 use super::fault;
 use super::fixtures::{
-    Filler, HEADER, NO_SECURITY, ORDERS, OneByteReader, SECOND, SEGMENT, replaced,
+    CASCADE, Filler, HEADER, NO_SECURITY, ORDERS, OneByteReader, SECOND, SEGMENT, replaced,
 };
 use std::alloc::Global;
 use std::io::{ErrorKind, Read};
 use std::process::Abort;
 use std::test::Fail;
-use xm_day::{FileCause, FileFault, MAX_BYTES, MAX_ROWS, Row, read_rows, read_segment};
+use xm_files::{FileCause, FileFault, MAX_BYTES, MAX_ROWS, read_rows, read_segment};
 use xm_rules::{Command, Condition, Kind, Restriction, Side, Validity};
+use xm_segment::Row;
 
 /// The rows of an order file for the members and the securities of a segment file.
 fn rows_of(
@@ -104,6 +105,29 @@ fn rows_of_an_opening_call(rt: HostRuntime) -> Result<(), Fail> {
     rows_are(&rt, SEGMENT, &mut text.as_bytes(), &OPENING_CALL)
 }
 
+/// What is replaced in `ORDERS` by another way to write the same: quotes, carriage returns, blank lines, and a last line
+/// without an end.
+const SAME: [(&str, &str); 9] = [
+    ("command", "\"command\""),
+    ("condition\n", "condition\r\n"),
+    ("condition\n", "condition\n\r\n\n"),
+    ("enter,AAA", "\"enter\",AAA"),
+    (",10,,,\n", ",10,,,\"\"\n"),
+    (",5,,,\n", ",5,,,\r\n"),
+    ("\nopen", "\n\nopen"),
+    ("cancel,AAA", "cancel,\"AAA\""),
+    (",1,XYZ,,,,,,,,\n", ",1,XYZ,,,,,,,,"),
+];
+
+#[test]
+fn other_ways_to_write_the_same(rt: HostRuntime) -> Result<(), Fail> {
+    for (old, new) in &SAME {
+        let text = replaced(rt.alloc(), ORDERS, old, new)?;
+        rows_are(&rt, SEGMENT, &mut text.as_bytes(), &OPENING_CALL)?;
+    }
+    Ok(())
+}
+
 /// How many lines end in a text.
 fn lines_in(text: &[u8]) -> u32 {
     let mut lines = 0u32;
@@ -115,8 +139,7 @@ fn lines_in(text: &[u8]) -> u32 {
     lines
 }
 
-/// What an order file answers that is cut off before this byte of `ORDERS`: the number of its rows,
-/// or its fault.
+/// What an order file answers that is cut off before this byte: the number of its rows, or its fault.
 fn answer_of_prefix(prefix: &[u8], next: Option<u8>) -> Result<usize, FileFault> {
     let lines = lines_in(prefix);
     if prefix.len() + 1 < HEADER.len() {
@@ -145,9 +168,8 @@ fn count_of(alloc: Global, orders: &[u8]) -> Result<Result<usize, FileFault>, Fa
     }
 }
 
-#[test]
-fn prefixes_of_an_order_file(rt: HostRuntime) -> Result<(), Fail> {
-    let text = ORDERS.as_bytes();
+/// Compares the answer to each proper prefix of an order file.
+fn prefixes_of(rt: &(impl Abort + AllocGlobal), text: &[u8]) -> Result<(), Fail> {
     for end in 0..text.len() {
         let prefix = &text[..end];
         let answer = answer_of_prefix(prefix, text.get(end).copied());
@@ -156,8 +178,15 @@ fn prefixes_of_an_order_file(rt: HostRuntime) -> Result<(), Fail> {
     Ok(())
 }
 
+#[test]
+fn prefixes_of_order_files(rt: HostRuntime) -> Result<(), Fail> {
+    prefixes_of(&rt, ORDERS.as_bytes())?;
+    prefixes_of(&rt, CASCADE.as_bytes())
+}
+
 /// Records of twelve fields, of which each has a bad one.
-const BAD_FIELDS: [&str; 36] = [
+const BAD_FIELDS: [&str; 42] = [
+    "\u{feff}open,,,*,,,,,,,,",
     "leave,AAA,1,XYZ,,,,,,,,",
     ",,,*,,,,,,,,",
     "enter,,1,XYZ,buy,limit,10.00,,10,,,",
@@ -171,8 +200,13 @@ const BAD_FIELDS: [&str; 36] = [
     "enter,AAA,1,XYZ,buy,limit,10.,,10,,,",
     "enter,AAA,1,ABC,buy,limit,+1,,10,,,",
     "enter,AAA,1,XYZ,buy,limit,10.00,1,10,,,",
-    "enter,AAA,1,XYZ,sell,stop-market,,9.90,10,,,",
-    "enter,AAA,1,XYZ,sell,stop-limit,9.90,9.90,10,,,",
+    "enter,AAA,1,XYZ,sell,stop,,9.90,10,,,",
+    "enter,AAA,1,XYZ,sell,stop-market,,,10,,,",
+    "enter,AAA,1,XYZ,sell,stop-market,9.90,9.90,10,,,",
+    "enter,AAA,1,XYZ,sell,stop-market,,9.,10,,,",
+    "enter,AAA,1,XYZ,sell,stop-limit,9.90,,10,,,",
+    "enter,AAA,1,XYZ,sell,stop-limit,,9.90,10,,,",
+    "enter,AAA,1,XYZ,sell,stop-limit,9.90,-1,10,,,",
     "enter,AAA,1,XYZ,buy,limit,10.00,,,,,",
     "enter,AAA,1,XYZ,buy,limit,10.00,,4294967296,,,",
     "enter,AAA,1,XYZ,buy,limit,10.00,,00000000001,,,",
@@ -199,16 +233,20 @@ const BAD_FIELDS: [&str; 36] = [
 /// Records that have another number of fields than the header.
 const OTHER_LENGTHS: [&str; 2] = ["open,,,*,,,,,,,", "open,,,*,,,,,,,,,"];
 
-/// Compares the fault of order files with one of these records, after a good one and before one of another
-/// length.
+/// Compares the fault of order files with one of these records, after a good one and before one of another length, with
+/// blank lines and without.
 fn have_faults(
     rt: &(impl Abort + AllocGlobal),
     records: &[&str],
     cause: FileCause,
 ) -> Result<(), Fail> {
     for record in records {
-        let text = format!(in rt.alloc(); "{HEADER}\ncancel,AAA,1,XYZ,,,,,,,,\n\n{record}\n?\n")?;
-        has_fault(rt, &mut text.as_bytes(), 3, cause)?;
+        for blank in ["", "\n"] {
+            let text = format!(in rt.alloc();
+                "{HEADER}{blank}cancel,AAA,1,XYZ,,,,,,,,\n{blank}{record}\n?\n"
+            )?;
+            has_fault(rt, &mut text.as_bytes(), 3, cause)?;
+        }
     }
     Ok(())
 }
@@ -224,6 +262,9 @@ const EVERY_WORD: &[u8] = b"enter,AAA,1,XYZ,buy,market,,,10,day,free,plain
 enter,AAA,2,XYZ,sell,limit,10.00,,20,gtc,opening,ioc
 enter,AAA,3,XYZ,buy,limit,9.90,,30,20260106,auctions,fok
 enter,AAA,4,XYZ,buy,limit,9.90,,30,00000000,closing,
+enter,AAA,5,XYZ,sell,stop-market,,9.90,25,,,
+enter,AAA,6,XYZ,sell,stop-limit,9.85,9.90,10,gtc,free,plain
+enter,AAA,7,XYZ,buy,stop-limit,9.851,0,10,,,
 change,AAA,1,XYZ,,,,,5,,,
 change,AAA,2,XYZ,,,10.01,,5,,,
 change,AAA,2,XYZ,,,10.001,,5,,,
@@ -262,7 +303,7 @@ macro_rules! changed {
     };
 }
 
-const EVERY_COMMAND: [Row; 12] = [
+const EVERY_COMMAND: [Row; 15] = [
     entered!(1, Buy, Kind::Market, 10, Validity::Day, Free, Plain),
     entered!(
         2,
@@ -289,6 +330,39 @@ const EVERY_COMMAND: [Row; 12] = [
         30,
         Validity::TillDate(0),
         ClosingOnly,
+        Plain
+    ),
+    entered!(
+        5,
+        Sell,
+        Kind::StopMarket(990),
+        25,
+        Validity::Day,
+        Free,
+        Plain
+    ),
+    entered!(
+        6,
+        Sell,
+        Kind::StopLimit {
+            trigger: 990,
+            limit: 985,
+        },
+        10,
+        Validity::TillCancelled,
+        Free,
+        Plain
+    ),
+    entered!(
+        7,
+        Buy,
+        Kind::StopLimit {
+            trigger: 0,
+            limit: 0,
+        },
+        10,
+        Validity::Day,
+        Free,
         Plain
     ),
     changed!(1, None),

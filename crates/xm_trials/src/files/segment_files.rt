@@ -3,7 +3,8 @@ use super::fixtures::{Filler, NO_SECURITY, OneByteReader, SECOND, SEGMENT, repla
 use std::io::{ErrorKind, Read};
 use std::process::Abort;
 use std::test::Fail;
-use xm_day::{FileCause, MAX_BYTES, Names, Securities, SecurityConfig, read_segment};
+use xm_files::{FileCause, MAX_BYTES, Names, read_segment};
+use xm_segment::{Securities, SecurityConfig};
 
 /// Compares the fault of a segment file.
 fn has_fault(

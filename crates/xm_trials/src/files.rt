@@ -1,0 +1,9 @@
+pub(crate) mod fixtures;
+mod order_files;
+mod segment_files;
+
+use xm_files::{FileCause, FileFault};
+
+fn fault(line: u32, cause: FileCause) -> Option<FileFault> {
+    Some(FileFault { line, cause })
+}
