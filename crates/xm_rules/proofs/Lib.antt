@@ -14,6 +14,7 @@ pub mod Moments
 pub mod OneName
 pub mod Journals
 pub mod Kept
+pub mod KnownMembers
 pub mod LawfulJournals
 pub mod MemberSums
 pub mod Memory

@@ -26,7 +26,7 @@ all_placed n k [] h = All-nil (HasRest n)
 all_placed n k (o ∷ os) h =
     All-cons (HasRest n) (record { position = k; order = o }) (positioned_from (k + 1) os) (All-head (λ (o : Order). o.rest ≤ n) o os h) (all_placed n (k + 1) os (All-tail (λ (o : Order). o.rest ≤ n) o os h))
 
-all_of_lists : {X Y : Type 0} (P : Y → Type 0) (f : X → List Y) (xs : List X) → All (λ x. All P (f x)) xs → All P (flat_map f xs)
+pub all_of_lists : {X Y : Type 0} (P : Y → Type 0) (f : X → List Y) (xs : List X) → All (λ x. All P (f x)) xs → All P (flat_map f xs)
 all_of_lists P f [] h = All-nil P
 all_of_lists P f (x ∷ xs) h =
     All-append P (f x) (flat_map f xs) (All-head (λ y. All P (f y)) x xs h) (all_of_lists P f xs (All-tail (λ y. All P (f y)) x xs h))

@@ -153,6 +153,27 @@ pub fn lawful_journals_stay_within_the_limits_of_a_day()
         → All (λ (t : Trade). t.price ≤ MAX_PRICE) (replay j).trades → AreWithinLimits (replay j).trades }
 {}
 
+/// Each live order and each held stop of a lawful journal is of a member that the desk knows, and each trade is between two of
+/// them, or of one with itself.
+pub fn lawful_journals_know_their_members()
+    ensures orders { (j : Journal) → is_lawful j ≡ true → All (λ (o : Order). o.member < j.settings.members) (replay j).orders }
+    ensures stops { (j : Journal) → is_lawful j ≡ true → All (λ (stop : Stop). stop.member < j.settings.members) (replay j).stops }
+    ensures trades { (j : Journal) → is_lawful j ≡ true → All (IsBetweenMembers j.settings.members) (replay j).trades }
+{}
+
+/// Over all members of a desk bought equals sold, in units, and paid equals received, in ticks times units, in every lawful
+/// journal: each is what was traded.
+pub fn every_purchase_of_a_lawful_journal_is_a_sale()
+    ensures quantity { (j : Journal) → is_lawful j ≡ true → let trades = (replay j).trades in
+        over_members j.settings.members (λ m. bought m trades) ≡ over_members j.settings.members (λ m. sold m trades) }
+    ensures money { (j : Journal) → is_lawful j ≡ true → let trades = (replay j).trades in
+        over_members j.settings.members (λ m. paid m trades) ≡ over_members j.settings.members (λ m. received m trades) }
+    ensures total_quantity { (j : Journal) → is_lawful j ≡ true → let trades = (replay j).trades in
+        over_members j.settings.members (λ m. bought m trades) ≡ total_quantity trades }
+    ensures total_money { (j : Journal) → is_lawful j ≡ true → let trades = (replay j).trades in
+        over_members j.settings.members (λ m. paid m trades) ≡ total_money trades }
+{}
+
 // ---- Five laws of the replay of every lawful journal, through calls, cascades of stops and interruptions.
 // Those that don't ask that it is lawful hold of any journal.
 
