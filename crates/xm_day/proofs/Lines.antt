@@ -1,8 +1,7 @@
 -- The lines of a statement, as they are written one after another.
-use Rattle.std.proofs.Common.{◌≡◌, ℕ, ◌+◌, ◌<◌, ◌++◌, List, [], ◌∷◌, length, map, append_assoc, get_or, take, refl, arith, ap, sym, ◌∙◌, suc, zero}
+use Rattle.std.proofs.Common.{◌≡◌, ℕ, ◌+◌, ◌<◌, ◌++◌, List, [], ◌∷◌, length, map, append_assoc, get_or, take, arith, ap, sym, ◌∙◌, suc, zero}
 use Rattle.std.specs.List.{flat_map, range_with_len}
-use Rattle.std.proofs.lemmas.List.Concat.{flat_map-cons}
-use Rattle.std.proofs.lemmas.List.{append-nil, flat_map_more, nil_from_length, take_more, length-map, length-take, map-append}
+use Rattle.std.proofs.lemmas.List.{append-nil, flat_map_more, take_more, length-map, length-take, map-append}
 use Rattle.xm_rules.specs.State.{State}
 use Rattle.xm_rules.specs.Step.{Journal, replay}
 use Rattle.xm_rules.specs.Sums.{total_money, total_quantity}
@@ -35,14 +34,6 @@ securities_text-more names index (t ∷ ts) s =
     let same : index + 1 + length ts ≡ index + length (t ∷ ts) = omega arith in
     ap (λ (text : List ℕ). security_text names index t ++ text) (securities_text-more names (index + 1) ts s ∙ ap (λ (k : ℕ). securities_text names (index + 1) ts ++ security_text names k s) same)
     ∙ sym (append_assoc (security_text names index t) (securities_text names (index + 1) ts) (security_text names (index + length (t ∷ ts)) s))
-
-net_line-none : (names : NameLists) (s : State) (member : ℕ) → s.trades ≡ [] → net_line names s member ≡ []
-net_line-none names s member none = rw none refl
-
--- where nothing was traded no member has a net position
-pub net_lines-none : (names : NameLists) (s : State) (members : List ℕ) → length s.trades ≡ 0 → flat_map (net_line names s) members ≡ []
-net_lines-none names s [] none = refl
-net_lines-none names s (m ∷ ms) none = flat_map-cons (net_line names s) m ms ∙ rw (net_line-none names s m (nil_from_length s.trades none), net_lines-none names s ms none) refl
 
 parts : (text heading trades orders stops nets total : List ℕ)
     → (((((text ++ heading) ++ trades) ++ orders) ++ stops) ++ nets) ++ total ≡ text ++ (((((heading ++ trades) ++ orders) ++ stops) ++ nets) ++ total)

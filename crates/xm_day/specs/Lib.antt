@@ -2,4 +2,3 @@ pub mod Answers
 pub mod Day
 pub mod Examples
 pub mod Statement
-pub mod Traded

@@ -5,7 +5,7 @@ ghost use Rattle.xm_day.specs.Statement.{cash_line, member_indices, member_line,
 ghost use Rattle.xm_rules.specs.Step.{replay};
 ghost use Rattle.xm_rules.specs.Sums.{total_money, total_quantity};
 
-use crate::sums::{Counted, amount_of, difference, total_cash};
+use crate::sums::{cash_in, total_cash};
 use crate::texts::{member_name, push_number, push_party, push_text};
 use crate::words::trade_word;
 use std::alloc::Allocator;
@@ -54,8 +54,7 @@ fn push_trade<A: Allocator>(
     push_text(text, "\n")
 }
 
-/// The net positions of the members in a security. For each member it goes over all trades, unless
-/// there is none.
+/// The net positions of the members in a security.
 pub(crate) fn push_nets<A: Allocator, B: Allocator + Copy>(
     text: &mut Vec<u8, A>,
     desk: &Desk<B>,
@@ -63,9 +62,6 @@ pub(crate) fn push_nets<A: Allocator, B: Allocator + Copy>(
 ) -> io::Result<()>
     ensures { OnOk result (text.new.items ≡ text.old.items ++ flat_map (net_line names.now (replay desk.now)) (member_indices names.now)) }
 {
-    if desk.trades().is_empty() {
-        return Ok(());
-    }
     for member in 0..names.members() {
         push_net(text, desk, names, member)?;
     }
@@ -81,13 +77,10 @@ fn push_net<A: Allocator, B: Allocator + Copy>(
 ) -> io::Result<()>
     ensures { OnOk result (text.new.items ≡ text.old.items ++ net_line names.now (replay desk.now) member) }
 {
-    let tick = desk.settings().tick;
-    let bought = amount_of(desk, Counted::Bought(member));
-    let sold = amount_of(desk, Counted::Sold(member));
-    if 0 < bought.quantity + sold.quantity {
-        let units = difference(u128::from(bought.quantity), u128::from(sold.quantity));
-        let cash = difference(sold.value_at(tick), bought.value_at(tick));
-        push_net_position(text, member_name(names, member), units, cash)?;
+    if desk.has_traded(member) {
+        let units = desk.net(member).unwrap_or(0);
+        let name = member_name(names, member);
+        push_net_position(text, name, units, cash_in(desk, member))?;
     }
     Ok(())
 }
@@ -96,7 +89,7 @@ fn push_net<A: Allocator, B: Allocator + Copy>(
 fn push_net_position<A: Allocator>(
     text: &mut Vec<u8, A>,
     name: &str,
-    units: i128,
+    units: i64,
     amount: i128,
 ) -> io::Result<()>
     ensures { OnOk result (text.new.items ≡ text.old.items ++ net_position_line name.now units amount) }
@@ -113,15 +106,16 @@ pub(crate) fn push_total<A: Allocator, B: Allocator + Copy>(
 ) -> io::Result<()>
     ensures { OnOk result (text.new.items ≡ text.old.items ++ total_text (replay desk.now).settings.tick (total_quantity (replay desk.now).trades) (total_money (replay desk.now).trades)) }
 {
-    let total = amount_of(desk, Counted::Every);
+    let totals = desk.totals();
+    let value = i128::from(totals.money) * i128::from(desk.settings().tick.get());
     push_text(text, "TOTAL ")?;
-    push_number(text, total.quantity)?;
+    push_number(text, totals.quantity)?;
     push_text(text, " ")?;
-    write_money(text, total.value_at(desk.settings().tick) as i128)?;
+    write_money(text, value)?;
     push_text(text, "\n")
 }
 
-/// The cash of each member over all securities, for which it goes over all their trades.
+/// The cash of each member over all securities.
 pub(crate) fn push_members<A: Allocator, B: Allocator + Copy>(
     text: &mut Vec<u8, A>,
     desks: &[Desk<B>],

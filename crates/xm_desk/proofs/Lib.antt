@@ -6,6 +6,7 @@ mod Shorter
 mod Leaving
 mod Making
 mod Named
+mod Recording
 mod Stepping
 mod Sweeping
 mod Tapes

@@ -1,5 +1,5 @@
 -- A command is taken by what it does, by settling, and by counting it.
-use Rattle.std.proofs.Common.{◌≡◌, ◌∙◌, ℕ, ◌+◌, ◌<◌, ◌≤◌, List, [], ◌++◌, None, true, All, length, count_by, refl, ap, sym, subst, arith}
+use Rattle.std.proofs.Common.{◌≡◌, ◌∙◌, ℕ, ◌+◌, ◌≤◌, List, [], ◌++◌, None, true, All, length, count_by, refl, ap, sym, subst, arith}
 use Rattle.std.proofs.lemmas.List.{length-append}
 use Rattle.std.proofs.lemmas.List.Elements.{All-append, All-nil}
 use Rattle.xm_book.specs.TimeList.{TimeList}
@@ -127,9 +127,3 @@ few-quantity ts few = omega (arith, few.number, quantity_within ts few.sized)
 
 pub few-money : (ts : List Trade) → AreFew ts → All (λ (t : Trade). t.price ≤ MAX_PRICE) ts → total_money ts ≤ 2000000000000000000
 few-money ts few priced = omega (arith, few-quantity ts few, money_within ts priced)
-
--- all trades of a desk come to a number of 64 bits, with those of a command more
-pub counted-quantity : (s : State) (more : List Trade) → IsCounted s → s.settings.limit ≤ 1000000 → AreFew more → total_quantity s.trades + total_quantity more < 18446744073709551616
-counted-quantity s more counted limit few =
-    let of_all = quantity_within s.trades counted.sized in
-    omega (arith, counted.number, counted.accepted, of_all, few-quantity more few)

@@ -1,11 +1,13 @@
 //! The desk of one security.
-ghost use Rattle.std.specs.Prelude.{◌≡◌, ◌≢◌, ◌≤◌, ◌++◌, ◌∷◌, [], All, IsTrue, None, Some, Err, IfOk, IfErr, OnErr, OnOk, length};
+ghost use Rattle.std.specs.Prelude.{◌≡◌, ◌≢◌, ◌≤◌, ◌+◌, ◌++◌, ◌∷◌, [], All, IsTrue, None, Some, Err, IfOk, IfErr, OnErr, OnOk, length, nat_lt, pos};
 ghost use Rattle.xm_desk.specs.Opening.{open_fault};
 ghost use Rattle.xm_desk.specs.declared.tape.TheConstants.{MAX_TRADES};
+ghost use Rattle.xm_positions.specs.Positions.{cash_position, net_position};
 ghost use Rattle.xm_rules.specs.Refusals.{refusal_of};
 ghost use Rattle.xm_rules.specs.Quote.{best_limit, indicative, quote};
 ghost use Rattle.xm_rules.specs.State.{ref1, ref2};
 ghost use Rattle.xm_rules.specs.Step.{is_lawful, replay, reply};
+ghost use Rattle.xm_rules.specs.Sums.{AreWithinLimits, bought, cash, net, sold, total_money, total_quantity};
 ghost use Rattle.xm_ticks.specs.declared.numbers.TheConstants.{MAX_QUANTITY};
 
 use crate::market::Market;
@@ -13,8 +15,10 @@ use crate::opening::{OpenFault, open_fault};
 use std::alloc::Allocator;
 use std::marker::Model;
 use xm_names::Seed;
+use xm_positions::Positions;
 use xm_rules::{
-    Command, DeskSettings, Order, OutOfMemory, Phase, Quote, Refusal, Reply, Side, Stop, Trade,
+    Command, DeskSettings, Order, OutOfMemory, Phase, Quote, Refusal, Reply, Side, Stop, Totals,
+    Trade,
 };
 use xm_ticks::Price;
 
@@ -24,6 +28,7 @@ use xm_ticks::Price;
 pub struct Desk<A: Allocator + Copy> {
     market: Market<A>,
     journal: Vec<Command, A>,
+    positions: Positions<A>,
 }
 
 impl<A: Allocator + Copy> Model for Desk<A> {
@@ -39,6 +44,7 @@ impl<A: Allocator + Copy> Model for Desk<A> {
       replayed : d.market.state ≡ replay (record { settings = d.market.state.settings; commands = d.journal.items });
       lawful : is_lawful (record { settings = d.market.state.settings; commands = d.journal.items }) ≡ true;
       hand : d.market.hand ≡ Empty;
+      positions : d.positions ≡ record { members = d.market.state.settings.members; trades = d.market.state.trades };
     } };
 }
 
@@ -46,8 +52,8 @@ impl<A: Allocator + Copy> Desk<A> {
     /// A desk before the day.
     ///
     /// More than 1,000 members are `TooMany`. A width outside 1 to 999 thousandths, or a dynamic
-    /// one that is not below the wide one, is `BadWidths`. The names of orders are hashed by the seed, on which no
-    /// answer depends.
+    /// one that is not below the wide one, is `BadWidths`. Where the growth of the members' positions is refused, it is
+    /// `OutOfMemory`. The names of orders are hashed by the seed, on which no answer depends.
     pub fn open(alloc: A, seed: Seed, settings: DeskSettings) -> Result<Desk<A>, OpenFault>
         ensures opened { IfOk result (λ desk. desk ≡ record { settings = settings; commands = [] }) }
         ensures sound { OnOk result (open_fault settings ≡ None) }
@@ -57,9 +63,11 @@ impl<A: Allocator + Copy> Desk<A> {
         if let Some(fault) = open_fault(&settings) {
             return Err(fault);
         }
+        let positions = Positions::new(alloc, settings.members)?;
         Ok(Desk {
             market: Market::new(alloc, seed, settings),
             journal: Vec::new(alloc),
+            positions,
         })
     }
 
@@ -102,7 +110,9 @@ impl<A: Allocator + Copy> Desk<A> {
         }
         self.journal.reserve(1)?;
         self.market.reserve_for(&command)?;
+        let before = self.market.trades().len();
         let reply = self.market.step(&command);
+        self.positions.record_all(&self.market.trades()[before..]);
         self.journal.push_reserved(command);
         Ok(reply)
     }
@@ -155,7 +165,47 @@ impl<A: Allocator + Copy> Desk<A> {
     pub fn quote(&self) -> Quote
         ensures { result ≡ quote (replay self.now) }
     {
-        self.market.quote()
+        Quote {
+            version: self.market.accepted(),
+            phase: self.phase(),
+            best_buy: self.best(Side::Buy),
+            best_sell: self.best(Side::Sell),
+            ref1: self.ref1(),
+            ref2: self.ref2(),
+            quantity: self.positions.totals().quantity,
+        }
+    }
+
+    /// What a member bought less what it sold, in units; nothing for a member that the desk doesn't know.
+    pub fn net(&self, member: u32) -> Option<i64>
+        ensures known { result ≡ net_position (record { members = self.now.settings.members; trades = (replay self.now).trades }) member }
+        ensures unknown { result ≡ None → net member (replay self.now).trades ≡ pos 0 }
+    {
+        self.positions.net(member)
+    }
+
+    /// What a member received less what it paid, in ticks times units; nothing for a member that the desk doesn't know.
+    pub fn cash(&self, member: u32) -> Option<i64>
+        ensures known { result ≡ cash_position (record { members = self.now.settings.members; trades = (replay self.now).trades }) member }
+        ensures unknown { result ≡ None → cash member (replay self.now).trades ≡ pos 0 }
+    {
+        self.positions.cash(member)
+    }
+
+    /// Whether a member bought or sold a unit.
+    pub fn has_traded(&self, member: u32) -> bool
+        ensures { result ≡ nat_lt 0 (bought member (replay self.now).trades + sold member (replay self.now).trades) }
+    {
+        self.positions.has_traded(member)
+    }
+
+    /// The quantity and the money of all trades, each of which counts once. They are within the limits of a day.
+    pub fn totals(&self) -> Totals
+        ensures quantity { result.quantity ≡ total_quantity (replay self.now).trades }
+        ensures money { result.money ≡ total_money (replay self.now).trades }
+        ensures limits { AreWithinLimits (replay self.now).trades }
+    {
+        self.positions.totals()
     }
 
     /// The commands that the desk accepted. Each was lawful when it came.

@@ -1,17 +1,18 @@
 //! A security between commands.
-ghost use Rattle.std.specs.Prelude.{◌≡◌, ◌+◌, ◌<◌, ◌≤◌, [], None, OnErr, OnOk, IfOk, drop, length, true};
+ghost use Rattle.std.specs.Prelude.{◌≡◌, ◌+◌, ◌++◌, ◌<◌, ◌≤◌, [], All, None, OnErr, OnOk, IfOk, drop, length, true};
 ghost use Rattle.xm_desk.specs.Growth.{hand_for};
 ghost use Rattle.xm_desk.specs.Made.{AreFew, AreSized, IsCounted, Makes};
 ghost use Rattle.xm_desk.specs.Opening.{are_widths};
 ghost use Rattle.xm_desk.specs.Settled.{places_in};
 ghost use Rattle.xm_desk.specs.declared.tape.TheConstants.{MAX_TRADES};
 ghost use Rattle.xm_desk.specs.declared.unsettled.Hand.TheVariants.{Empty};
-ghost use Rattle.xm_rules.specs.Quote.{best_limit, indicative, quote};
+ghost use Rattle.xm_rules.specs.Quote.{best_limit, indicative};
 ghost use Rattle.xm_rules.specs.Refusals.{refusal_of};
 ghost use Rattle.xm_rules.specs.State.{opening, ref1, ref2};
 ghost use Rattle.xm_rules.specs.Step.{new_trades, reply, step};
 ghost use Rattle.xm_rules.specs.Sums.{total_money, total_quantity};
 ghost use Rattle.xm_rules.specs.declared.settings.TheConstants.{PHASE_COMMANDS_MORE};
+ghost use Rattle.xm_ticks.specs.declared.numbers.TheConstants.{MAX_JOURNAL_LIMIT, MAX_PRICE};
 
 use crate::tape::Tape;
 use crate::unsettled::{Hand, Unsettled};
@@ -21,7 +22,7 @@ use xm_auction::auction_price;
 use xm_book::Book;
 use xm_names::Seed;
 use xm_rules::{
-    Command, DeskSettings, Order, OutOfMemory, Phase, Quote, Refusal, Reply, Side, Stop, Trade,
+    Command, DeskSettings, Order, OutOfMemory, Phase, Refusal, Reply, Side, Stop, Trade,
     total_money, total_quantity,
 };
 use xm_stops::{Pending, Stops};
@@ -31,15 +32,12 @@ use xm_ticks::Price;
 #[derive(Drop)]
 pub struct Market<A: Allocator + Copy> {
     inside: Unsettled<A>,
-    // The units of all trades.
-    quantity: u64,
 }
 
 impl<A: Allocator + Copy> Model for Market<A> {
     ghost use Rattle.std.specs.Prelude.{◌≡◌, []};
     ghost use Rattle.xm_desk.specs.Made.{IsCounted};
     ghost use Rattle.xm_desk.specs.Settled.{Settled};
-    ghost use Rattle.xm_rules.specs.Sums.{total_quantity};
 
     ghost Value = { Settled };
 
@@ -48,7 +46,6 @@ impl<A: Allocator + Copy> Model for Market<A> {
     ghost invariant = { λ m. record {
       pending : m.inside.pending ≡ [];
       counted : IsCounted m.inside.state;
-      quantity : m.quantity ≡ total_quantity m.inside.state.trades;
     } };
 }
 
@@ -70,7 +67,6 @@ impl<A: Allocator + Copy> Market<A> {
                 sweeps: 0,
                 hand: Hand::Empty,
             },
-            quantity: 0,
         }
     }
 
@@ -112,13 +108,11 @@ impl<A: Allocator + Copy> Market<A> {
         requires lawful { refusal_of self.old.state command.now ≡ None }
         ensures state { self.new ≡ record { state = step self.old.state command.now; hand = Empty } }
         ensures reply { result ≡ reply self.old.state (step self.old.state command.now) }
+        ensures appended { self.new.state.trades ≡ self.old.state.trades ++ new_trades self.old.state self.new.state }
     {
-        let _ = self.inside.settings.limit.get(); // The range of the limit is known where it is asked for.
         let first_trade = self.inside.tape.len();
         self.inside.step(command);
-        let reply = self.inside.reply(first_trade);
-        self.quantity += reply.quantity;
-        reply
+        self.inside.reply(first_trade)
     }
 
     /// The settings of the day.
@@ -133,6 +127,8 @@ impl<A: Allocator + Copy> Market<A> {
         ensures trades { result.now ≡ self.now.state.trades }
         ensures few { length result.now ≤ MAX_TRADES }
         ensures sized { AreSized result.now }
+        ensures priced { All (λ trade. trade.price ≤ MAX_PRICE) result.now }
+        ensures limited { self.now.state.settings.limit ≤ MAX_JOURNAL_LIMIT }
     {
         let _ = self.inside.settings.limit.get(); // The range of the limit is known where it is asked for.
         self.inside.tape.as_slice()
@@ -157,19 +153,11 @@ impl<A: Allocator + Copy> Market<A> {
         self.inside.book.best_limit(side, self.inside.phase)
     }
 
-    /// What is shown of the security to those who watch it.
-    pub fn quote(&self) -> Quote
-        ensures { result ≡ quote self.now.state }
+    /// How many commands it accepted.
+    pub fn accepted(&self) -> u64
+        ensures { result ≡ self.now.state.accepted }
     {
-        Quote {
-            version: self.inside.accepted,
-            phase: self.inside.phase,
-            best_buy: self.best(Side::Buy),
-            best_sell: self.best(Side::Sell),
-            ref1: self.ref1(),
-            ref2: self.ref2(),
-            quantity: self.quantity,
-        }
+        self.inside.accepted
     }
 
     /// The phase.

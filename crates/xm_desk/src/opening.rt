@@ -2,7 +2,7 @@
 ghost use Rattle.std.specs.Prelude.{◌≡◌};
 ghost use Rattle.xm_desk.specs.Opening.{are_widths, is_width, open_fault};
 
-use xm_rules::{DeskSettings, Widths};
+use xm_rules::{DeskSettings, OutOfMemory, Widths};
 
 /// The most members of a segment.
 pub const MAX_MEMBERS: u32 = 1_000;
@@ -25,6 +25,16 @@ pub enum OpenFault {
     /// A growth was refused.
     #[error("out of memory")]
     OutOfMemory,
+}
+
+impl From<OutOfMemory> for OpenFault {
+    ghost use Rattle.xm_desk.specs.declared.opening.OpenFault.TheVariants.{OutOfMemory};
+
+    ghost from_gives = { λ _ fault. fault ≡ OutOfMemory };
+
+    fn from(_error: OutOfMemory) -> OpenFault {
+        OpenFault::OutOfMemory
+    }
 }
 
 /// What is wrong with the settings of a desk, if anything is.

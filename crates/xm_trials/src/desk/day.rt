@@ -7,7 +7,7 @@ use xm_desk::Desk;
 use xm_names::Seed;
 use xm_rules::{
     Auction, CallStage, Command, DeskSettings, Order, OutOfMemory, Phase, Quote, Refusal, Reply,
-    Side, Stop, Trade,
+    Side, Stop, Totals, Trade,
 };
 use xm_ticks::Price;
 
@@ -19,6 +19,9 @@ pub type Bought = (u32, u32, u32, u32);
 
 /// A command, the number, quantity and money of the trades that it makes, and the phase after it.
 pub type Traded = (Command, u64, u64, u64, Phase);
+
+/// The net position and the cash of a member, where the desk knows it, and whether it has traded.
+pub type Position = (Option<i64>, Option<i64>, bool);
 
 /// An opening without a price, which leads to continuous trading.
 pub const OPENED: [Traded; 2] = [
@@ -172,6 +175,19 @@ impl<A: Allocator + Copy> Day<A> {
 
     pub fn quote(&self) -> Quote {
         self.desk.quote()
+    }
+
+    /// The net position and the cash of a member, and whether it has traded.
+    pub fn position(&self, member: u32) -> Position {
+        (
+            self.desk.net(member),
+            self.desk.cash(member),
+            self.desk.has_traded(member),
+        )
+    }
+
+    pub fn totals(&self) -> Totals {
+        self.desk.totals()
     }
 
     pub fn journal(&self) -> &[Command] {

@@ -34,6 +34,7 @@ const MADE_GOOD: u64 = 17;
 /// How often a call answered for want of memory.
 #[derive(Drop)]
 struct Refused {
+    openings: u64,
     commands: u64,
     lists: u64,
 }
@@ -62,7 +63,21 @@ impl Refused {
         assert!(rt; day.reference_prices() == like.reference_prices());
         assert!(rt; day.journal() == like.journal());
         assert!(rt; day.trades() == like.trades());
+        assert!(rt; day.totals() == like.totals());
+        assert!(rt; day.position(0) == like.position(0));
+        assert!(rt; day.position(1) == like.position(1));
         like.orders_are(rt, &self.orders(rt, day));
+    }
+
+    /// Opens a day, once more where the first answer is for want of memory.
+    fn open<A: Allocator + Copy>(&mut self, alloc: A) -> Result<Day<A>, Fail> {
+        match Day::open(alloc, 100) {
+            Ok(day) => Ok(day),
+            Err(_fault) => {
+                self.openings = self.openings.wrapping_add(1);
+                Day::open(alloc, 100)
+            }
+        }
     }
 
     /// Gives a command to a day, where memory may be refused, and to one like it, where it is not.
@@ -108,7 +123,7 @@ impl Refused {
     ) -> Result<bool, Fail> {
         let mut like = Day::open(alloc, 100)?;
         let refusing = Refusing::new(alloc, nth);
-        let mut day = Day::open(&refusing, 100)?;
+        let mut day = self.open(&refusing)?;
         self.give_all(rt, &mut day, &mut like);
         Ok(refusing.has_refused())
     }
@@ -117,13 +132,15 @@ impl Refused {
 #[test]
 fn each_growth_refused_in_turn(rt: HostRuntime) -> Result<(), Fail> {
     let mut refused = Refused {
+        openings: 0,
         commands: 0,
         lists: 0,
     };
     for nth in 1..300 {
         if !refused.run(&rt, rt.alloc(), nth)? {
             let answered = refused.commands.wrapping_add(refused.lists);
-            assert_eq!(rt; answered.wrapping_add(MADE_GOOD), nth - 1);
+            assert_eq!(rt; refused.openings, 1);
+            assert_eq!(rt; answered.wrapping_add(MADE_GOOD), nth - 2);
             assert!(rt; refused.commands > 0 && refused.lists > 0);
             return Ok(());
         }

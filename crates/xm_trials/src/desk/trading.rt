@@ -1,9 +1,10 @@
 //! Continuous trading: what an incoming order is executed at, where it stops, and what is left of it.
-use super::day::{Day, OPENED, Traded};
+use super::day::{Day, OPENED, Position, Traded};
 use std::process::Abort;
 use std::test::Fail;
 use xm_rules::{
-    Auction, CallStage, Command, Condition, Kind, Order, Phase, Restriction, Side, Validity,
+    Auction, CallStage, Command, Condition, Kind, Order, Phase, Restriction, Side, Totals, Trade,
+    Validity,
 };
 
 const INTERRUPTED: Phase = Phase::Call(Auction::Interruption, CallStage::Interrupted);
@@ -78,12 +79,45 @@ fn is_shown<A: std::alloc::Allocator + Copy>(rt: &impl Abort, day: &Day<A>, scen
     assert_eq!(rt; quote.quantity, quantity);
 }
 
+/// What these trades come to for a member, and in all, in units and in ticks times units.
+fn summed(trades: &[Trade], member: u32) -> (Position, Totals) {
+    let (mut net, mut cash, mut has_traded): (i64, i64, bool) = (0, 0, false);
+    let (mut quantity, mut money): (u64, u64) = (0, 0);
+    for trade in trades {
+        let units = u64::from(trade.quantity);
+        let paid = u64::from(trade.price.get()).wrapping_mul(units);
+        quantity = quantity.wrapping_add(units);
+        money = money.wrapping_add(paid);
+        if trade.buyer == member {
+            net = net.wrapping_add(units as i64);
+            cash = cash.wrapping_sub(paid as i64);
+        }
+        if trade.seller == member {
+            net = net.wrapping_sub(units as i64);
+            cash = cash.wrapping_add(paid as i64);
+        }
+        has_traded = has_traded || trade.buyer == member || trade.seller == member;
+    }
+    ((Some(net), Some(cash), has_traded), Totals { quantity, money })
+}
+
+/// Compares the positions of the members with the sums over the trades. A third one isn't there.
+fn are_positions<A: std::alloc::Allocator + Copy>(rt: &impl Abort, day: &Day<A>) {
+    for member in 0..2 {
+        let (position, totals) = summed(day.trades(), member);
+        assert!(rt; day.position(member) == position);
+        assert!(rt; day.totals() == totals);
+    }
+    assert!(rt; day.position(2) == (None, None, false));
+}
+
 fn play(rt: &(impl Abort + AllocGlobal), scenes: &[Scene]) -> Result<(), Fail> {
     for scene in scenes {
         let mut day = Day::open(rt.alloc(), 100)?;
         day.trade_all(rt, &OPENED);
         day.trade_all(rt, scene.commands);
         is_shown(rt, &day, scene);
+        are_positions(rt, &day);
         let orders = day.orders().expect(rt, "memory");
         are_live(rt, &orders, scene.live);
     }

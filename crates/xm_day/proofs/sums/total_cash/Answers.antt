@@ -1,18 +1,38 @@
-use Rattle.std.proofs.Common.{◌≡◌, ℕ, pos, rules, ◌-ℤ◌, map, ap, sym, ◌∙◌}
-use Rattle.xm_rules.specs.Step.{replay}
-use Rattle.xm_day.proofs.CashSums.{total_cash-is}
+use Rattle.std.proofs.Common.{◌≡◌, ◌<◌, ◌*◌, ◌^◌, ◌+ℤ◌, ℤ, List, length, map, take, unsigned_abs, FitsSigned, arith, rules, to_z, of_z, to_z-of_z, ap, sym, subst, ◌∙◌}
+use Rattle.std.specs.Int.{w128}
+use Rattle.std.proofs.lemmas.List.{take_all}
+use Rattle.xm_day.proofs.CashSums.{sum-fits, sum-little, total_cash-taken}
 use Rattle.xm_day.specs.Statement.{total_cash}
-use Rattle.xm_day.specs.Traded.{value_over}
-use Rattle.xm_day.specs.declared.sums.Counted.TheVariants.{Sold}
+use Rattle.xm_rules.specs.Step.{Journal, replay}
 use Rattle.xm_day.proofs.sums.total_cash.Goals as goal
+
+pub loop-desk-preserved : goal.loop-desk-preserved
+loop-desk-preserved g c =
+    let desks = c.args.desks.now in
+    let member = c.args.member in
+    let i = c.loop-desk.desk-index in
+    let within : i < length desks = omega arith in
+    let sum : ℤ = to_z w128 (of_z w128 (to_z w128 c.loop-desk.cash-bits +ℤ to_z w128 (of_z w128 c.cash_in-cash.result))) in
+    let more : to_z w128 (of_z w128 c.cash_in-cash.result) ≡ c.cash_in-cash.result = search rules in
+    let fits = sum-fits (to_z w128 c.loop-desk.cash-bits) c.cash_in-cash.result i c.loop-desk.invariant.little c.cash_in-cash.ensures.little (omega arith) in
+    let exact : sum ≡ to_z w128 c.loop-desk.cash-bits +ℤ c.cash_in-cash.result =
+    ap (λ (z : ℤ). to_z w128 (of_z w128 (to_z w128 c.loop-desk.cash-bits +ℤ z))) more ∙ to_z-of_z fits in
+    record {
+      cash = exact
+      ∙ ap (λ (z : ℤ). z +ℤ c.cash_in-cash.result) c.loop-desk.invariant.cash
+      ∙ ap (λ (z : ℤ). total_cash (map replay (take i desks)) member +ℤ z) c.cash_in-cash.ensures.cash
+      ∙ sym (total_cash-taken member desks i c.desk-item.result within c.desk-item.is);
+      little = let few = sum-little (to_z w128 c.loop-desk.cash-bits) c.cash_in-cash.result (i * 2 ^ 80) (2 ^ 80) c.loop-desk.invariant.little c.cash_in-cash.ensures.little in
+      let same = ap unsigned_abs exact in
+      omega (arith, few, same);
+    }
 
 pub returns : goal.returns
 returns g c =
-    let states = map replay c.args.desks.now in
-    let member = c.args.member in
-    let is : c.difference.result ≡ total_cash states member =
-    c.difference.ensures
-    ∙ ap (λ (n : ℕ). pos n -ℤ pos c.value_over-paid.result) c.value_over-received.ensures.value
-    ∙ ap (λ (n : ℕ). pos (value_over (Sold member) states) -ℤ pos n) c.value_over-paid.ensures.value
-    ∙ sym (total_cash-is states member) in
-    search (rules, is)
+    c.loop-desk.invariant.cash ∙ ap (λ (js : List Journal). total_cash (map replay js) c.args.member) (take_all c.loop-desk.desk-index c.args.desks.now (omega arith))
+
+pub overflow_add-cash : goal.overflow_add-cash
+overflow_add-cash g c =
+    let more : to_z w128 (of_z w128 c.cash_in-cash.result) ≡ c.cash_in-cash.result = search rules in
+    let fits = sum-fits (to_z w128 c.loop-desk.cash-bits) c.cash_in-cash.result c.loop-desk.desk-index c.loop-desk.invariant.little c.cash_in-cash.ensures.little (omega arith) in
+    subst (λ (z : ℤ). FitsSigned w128 (to_z w128 c.loop-desk.cash-bits +ℤ z)) (sym more) fits

@@ -1,13 +1,19 @@
-use Rattle.std.proofs.Common.{◌≡◌, ◌∙◌, List, Some, None, [], ◌∷◌, ◌++◌, ap, sym, subst, rules, true}
+use Rattle.std.proofs.Common.{◌≡◌, ◌≤◌, ◌-◌, ◌∙◌, All, drop, length, take, List, Some, None, [], ◌∷◌, ◌++◌, ap, sym, subst, rules, true}
+use Rattle.std.proofs.lemmas.List.Elements.{All-drop, All-take}
+use Rattle.xm_positions.specs.Positions.{Recorded}
 use Rattle.xm_rules.proofs.Journals.{is_lawful-push, journal_of, replay-push}
 use Rattle.xm_rules.proofs.Kept.{step-settings}
 use Rattle.xm_rules.proofs.Memory.{refusal-not_memory}
 use Rattle.xm_rules.specs.Refusals.{refusal_of}
 use Rattle.xm_rules.specs.State.{State}
 use Rattle.xm_rules.specs.Step.{Journal, is_lawful, replay, reply, step}
+use Rattle.xm_rules.specs.Sums.{AreWithinLimits, IsBetweenMembers}
 use Rattle.xm_rules.specs.declared.commands.Command.{Command}
+use Rattle.xm_rules.specs.declared.orders.Trade.{Trade}
 use Rattle.xm_rules.specs.declared.replies.Refusal.TheVariants.{OutOfMemory}
 use Rattle.xm_rules.specs.declared.settings.DeskSettings.{DeskSettings}
+use Rattle.xm_ticks.specs.declared.numbers.TheConstants.{MAX_JOURNAL_LIMIT, MAX_PRICE}
+use Rattle.xm_desk.proofs.Recording.{ArePriced, all-recorded, are_between, are_within, recorded}
 use Rattle.xm_desk.proofs.desk.Desk.apply.Goals as goal
 
 pub returns-in-Some-clause-memory : goal.returns-in-Some-clause-memory
@@ -28,11 +34,17 @@ invariant_of-self-2 g c =
     let items : c.push_reserved.new.self.items ≡ more = cc in
     let passed : refusal_of s command ≡ None = search rules in
     let same : c.step-reply.new.self.state.settings ≡ s.settings = ap (λ (t : State). t.settings) took ∙ step-settings s command in
+    let held : c.trades-before.result.now ≡ s.trades = search rules in
+    let whole = all-recorded s.trades c.trades-before.result.now c.trades.result.now c.step-reply.new.self.state.trades held c.trades.ensures.trades (search rules) in
     let journal = ap (λ (settings : DeskSettings). journal_of settings more) (sym same) ∙ ap (λ (cs : List Command). journal_of c.step-reply.new.self.state.settings cs) (sym items) in
     record {
       replayed = took ∙ ap (λ (t : State). step t command) i.replayed ∙ sym (replay-push j command) ∙ ap replay journal;
       lawful = subst (λ (k : Journal). is_lawful k ≡ true) journal (is_lawful-push j command i.lawful (subst (λ (t : State). refusal_of t command ≡ None) i.replayed passed));
       hand = search rules;
+      positions = c.record_all.ensures
+          ∙ ap (λ (p : Recorded). recorded p.members (p.trades ++ take (length c.trades.result.now - length c.trades-before.result.now) (drop (length c.trades-before.result.now) c.trades.result.now))) i.positions
+          ∙ ap (recorded s.settings.members) whole
+          ∙ ap (λ (settings : DeskSettings). recorded settings.members c.step-reply.new.self.state.trades) (sym same);
     }
 
 pub returns-clause-journal : goal.returns-clause-journal
@@ -54,3 +66,36 @@ returns-clause-reply g c =
     let before : s ≡ replay c.args.self.now = c.self.invariant.replayed ∙ ap replay c.self.view_is in
     let after = sym took ∙ (invariant_of-self-2 g c).replayed in
     answer ∙ ap (λ (t : State). reply t (step s c.args.command)) before ∙ ap (λ (t : State). reply (replay c.args.self.now) t) after
+
+pub record_all-requires-clause-members : goal.record_all-requires-clause-members
+record_all-requires-clause-members g c =
+    let s = c.self.inside.market.state in
+    let command = c.args.command in
+    let i = c.self.invariant in
+    let took : c.step-reply.new.self.state ≡ step s command = search rules in
+    let passed : refusal_of s command ≡ None = search rules in
+    let between = are_between (journal_of s.settings c.self.inside.journal.items) command i.lawful (subst (λ (t : State). refusal_of t command ≡ None) i.replayed passed) in
+    let ts = c.trades.result.now in
+    let first = length c.trades-before.result.now in
+    let all : All (IsBetweenMembers s.settings.members) ts =
+    subst (All (IsBetweenMembers s.settings.members)) (ap (λ (t : State). (step t command).trades) (sym i.replayed) ∙ ap (λ (t : State). t.trades) (sym took) ∙ sym c.trades.ensures.trades) between in
+    subst (λ (p : Recorded). All (IsBetweenMembers p.members) (take (length ts - first) (drop first ts))) (sym i.positions)
+    (All-take (IsBetweenMembers s.settings.members) (length ts - first) (drop first ts) (All-drop (IsBetweenMembers s.settings.members) first ts all))
+
+pub record_all-requires-clause-limits : goal.record_all-requires-clause-limits
+record_all-requires-clause-limits g c =
+    let s = c.self.inside.market.state in
+    let command = c.args.command in
+    let i = c.self.invariant in
+    let t = c.step-reply.new.self.state in
+    let took : t ≡ step s command = search rules in
+    let passed : refusal_of s command ≡ None = search rules in
+    let j = journal_of s.settings c.self.inside.journal.items in
+    let stepped : t ≡ step (replay j) command = took ∙ ap (λ (u : State). step u command) i.replayed in
+    let limited : s.settings.limit ≤ MAX_JOURNAL_LIMIT = search rules in
+    let priced : ArePriced t = subst (All (λ (x : Trade). x.price ≤ MAX_PRICE)) c.trades.ensures.trades c.trades.ensures.priced in
+    let within = are_within j command i.lawful (subst (λ (u : State). refusal_of u command ≡ None) i.replayed passed) limited (subst ArePriced stepped priced) in
+    let held : c.trades-before.result.now ≡ s.trades = search rules in
+    let whole = all-recorded s.trades c.trades-before.result.now c.trades.result.now t.trades held c.trades.ensures.trades (search rules) in
+    let slice = take (length c.trades.result.now - length c.trades-before.result.now) (drop (length c.trades-before.result.now) c.trades.result.now) in
+    subst AreWithinLimits (ap (λ (u : State). u.trades) (sym stepped) ∙ sym whole ∙ ap (λ (p : Recorded). p.trades ++ slice) (sym i.positions)) within

@@ -10,5 +10,4 @@ invariant_of-result-2 g c =
     rw (c.new.ensures, c.new-2.ensures, c.new-3.ensures, c.new-4.ensures) (record {
       pending = refl;
       counted = record { accepted = omega arith; sweeps = omega arith; number = omega arith; sized = λ k d l. absurd (omega arith); names = λ m r. omega arith; units = λ k d l. absurd (omega arith) };
-      quantity = refl;
     })

@@ -1,61 +1,37 @@
-use Rattle.std.proofs.Common.{◌∙◌, ℕ, ◌≤◌, drop, length, ap, sym, subst, arith, List}
+use Rattle.std.proofs.Common.{◌∙◌, ℕ, ◌++◌, drop, length, ap, sym, subst, arith, List}
 use Rattle.std.proofs.lemmas.List.{length-append}
-use Rattle.std.proofs.lemmas.List.Sums.{sum_by-append}
 use Rattle.xm_desk.proofs.Making.{new-made}
-use Rattle.xm_desk.proofs.Stepping.{counted-quantity}
 use Rattle.xm_desk.specs.Made.{AreFew}
 use Rattle.xm_desk.specs.Settled.{Settled, Unsettled}
 use Rattle.xm_rules.proofs.Journals.{reply-parts}
 use Rattle.xm_rules.specs.State.{State}
-use Rattle.xm_rules.specs.Step.{reply, step}
+use Rattle.xm_rules.specs.Step.{new_trades, reply, step}
 use Rattle.xm_rules.specs.Sums.{total_money, total_quantity}
 use Rattle.xm_rules.specs.declared.orders.Trade.{Trade}
 use Rattle.xm_rules.specs.declared.replies.Reply.{Reply}
 use Rattle.xm_desk.specs.declared.unsettled.Hand.TheVariants.{Empty}
 use Rattle.xm_desk.proofs.market.Market.step.Goals as goal
 
-pub reply-reply-requires-clause-first : goal.reply-reply-requires-clause-first
-reply-reply-requires-clause-first g c =
+pub reply-requires-clause-first : goal.reply-requires-clause-first
+reply-requires-clause-first g c =
     let v = c.self.inside.inside in
     let n = c.step.new.self in
     let first = c.len-first_trade.ensures ∙ ap (λ m. length m.inside.state.trades) c.self-inside.view_is in
     let made = c.step.ensures.made in
     omega (arith, first, ap (λ (ts : List Trade). length ts) made.appended, length-append v.state.trades made.trades)
 
-pub reply-reply-requires-clause-few : goal.reply-reply-requires-clause-few
-reply-reply-requires-clause-few g c =
+pub reply-requires-clause-few : goal.reply-requires-clause-few
+reply-requires-clause-few g c =
     let v = c.self.inside.inside in
     let n = c.step.new.self in
     let first = c.len-first_trade.ensures ∙ ap (λ m. length m.inside.state.trades) c.self-inside.view_is in
     subst (λ (k : ℕ). AreFew (drop k n.state.trades)) (sym first) c.step.ensures.few
 
-pub overflow_add-self : goal.overflow_add-self
-overflow_add-self g c =
-    let v = c.self.inside.inside in
-    let n = c.step.new.self in
-    let first = c.len-first_trade.ensures ∙ ap (λ m. length m.inside.state.trades) c.self-inside.view_is in
-    let limit : v.state.settings.limit ≤ 1000000 = omega (arith, c.get.ensures.value, c.get.ensures.high, ap (λ m. m.inside.state.settings.limit) c.self-inside.view_is) in
-    let few = subst (λ (k : ℕ). AreFew (drop k n.state.trades)) (sym first) c.step.ensures.few in
-    omega (arith, c.self.invariant.quantity, ap (λ (r : Reply). r.quantity) c.reply-reply.ensures, counted-quantity v.state (drop c.len-first_trade.result n.state.trades) c.self.invariant.counted limit few)
-
 pub invariant_of-self : goal.invariant_of-self
 invariant_of-self g c =
-    let v = c.self.inside.inside in
-    let n = c.step.new.self in
-    let first = c.len-first_trade.ensures ∙ ap (λ m. length m.inside.state.trades) c.self-inside.view_is in
-    let made = c.step.ensures.made in
-    let new = ap (λ (k : ℕ). total_quantity (drop k n.state.trades)) first ∙ ap total_quantity (new-made v n made) in
     record {
       pending = ap (λ (u : Unsettled). u.pending) c.step.ensures.stepped ∙ c.self.invariant.pending;
       counted = c.step.ensures.counted;
-      quantity = omega (
-        arith,
-        c.self.invariant.quantity,
-        ap (λ (r : Reply). r.quantity) c.reply-reply.ensures,
-        new,
-        ap total_quantity made.appended,
-        sum_by-append (λ (t : Trade). t.quantity) v.state.trades made.trades,
-      );
     }
 
 pub returns-clause-state : goal.returns-clause-state
@@ -73,8 +49,17 @@ returns-clause-reply g c =
     let replied : State → ℕ → Reply = λ x k. (let ts = drop k x.trades in
     let r : Reply = record { version = x.accepted; first_trade = k; trades = length ts; quantity = total_quantity ts; money = total_money ts; phase = x.phase } in
     r) in
-    c.reply-reply.ensures
+    c.reply.ensures
     ∙ ap (λ (u : Unsettled). replied u.state c.len-first_trade.result) c.step.ensures.stepped
     ∙ ap (replied (step v.state command)) first
     ∙ sym (reply-parts v.state (step v.state command))
     ∙ ap (λ (s : State). reply s (step s command)) (ap (λ (m : Settled). m.state) c.self.view_is)
+
+pub returns-clause-appended : goal.returns-clause-appended
+returns-clause-appended g c =
+    let v = c.self.inside.inside in
+    let n = c.step.new.self in
+    let made = c.step.ensures.made in
+    made.appended
+    ∙ ap (λ (ts : List Trade). v.state.trades ++ ts) (sym (new-made v n made))
+    ∙ ap (λ (s : State). s.trades ++ new_trades s n.state) (ap (λ (m : Settled). m.state) c.self.view_is)
