@@ -19,6 +19,38 @@ const SEGMENT: &str = "SEGMENT";
 
 const ORDERS: &str = "ORDERS";
 
+const DAY_HELP: &str = "Replays a trading day of a segment of securities and writes its statement.
+
+docs/FORMATS.md tells all of the two files and of the statement.
+`xetra-day run --help` shows a whole small day.";
+
+const RUN_HELP: &str = "Runs the day of two files and writes its statement to standard output.
+
+docs/FORMATS.md tells all of the two files and of the statement. A whole small day:
+
+segment.toml
+  date = 20260105
+  members = [\"ALPHA\", \"BETA\"]
+
+  [[security]]
+  name = \"ACME\"
+  tick = 100              # ten-thousandths of a euro
+  reference = \"10.00\"
+  dynamic = 20            # widths of the price ranges, in thousandths
+  static = 50
+  wide = 40
+  journal = 1000          # the most commands of members
+
+orders.csv
+  command,member,reference,security,side,kind,limit,trigger,quantity,validity,restriction,condition
+  open,,,*,,,,,,,,
+  enter,ALPHA,1,ACME,buy,limit,10.05,,100,,,
+  enter,BETA,1,ACME,sell,limit,9.95,,60,,,
+  uncross,,,*,,,,,,,,
+  close,,,*,,,,,,,,
+  uncross,,,*,,,,,,,,
+  end,,,*,,,,,,,,";
+
 const STATUS_HELP: &str = "Exit status:
   0  the statement was written
   1  no statement: standard error has one line that names the fault
@@ -148,6 +180,7 @@ fn command_line<'a>(alloc: Global) -> Result<Command<'a>, AllocError>
         .bin_name("xetra-day")?
         .version(VERSION)
         .about("Replays a trading day of a segment of securities and writes its statement")
+        .long_about(DAY_HELP)
         .after_help(STATUS_HELP)
         .subcommand_required(true)
         .arg_required_else_help(true)
@@ -169,6 +202,7 @@ fn run_command<'a>(alloc: Global) -> Result<Command<'a>, AllocError>
         .help("The order file (CSV): a header, then one command a row, in the order of the day");
     Command::new(alloc, RUN)
         .about("Runs the day of two files and writes its statement to standard output")
+        .long_about(RUN_HELP)
         .after_help(STATUS_HELP)
         .arg(segment)?
         .arg(orders)

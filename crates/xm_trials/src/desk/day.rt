@@ -3,7 +3,7 @@ use std::alloc::Allocator;
 use std::marker::Model;
 use std::process::Abort;
 use std::test::Fail;
-use xm_desk::Desk;
+use xm_desk::{Desk, OpenFault};
 use xm_names::Seed;
 use xm_rules::{
     Auction, CallStage, Command, DeskSettings, Order, OutOfMemory, Phase, Quote, Refusal, Reply,
@@ -68,8 +68,13 @@ impl<A: Allocator + Copy> Model for Day<A> {
 impl<A: Allocator + Copy> Day<A> {
     /// A day before the opening, whose journal takes this many commands of a member.
     pub fn open(alloc: A, limit: u32) -> Result<Day<A>, Fail> {
+        Ok(Day::opened(alloc, settings(limit)?)?)
+    }
+
+    /// A day with these settings before the opening.
+    pub fn opened(alloc: A, settings: DeskSettings) -> Result<Day<A>, OpenFault> {
         Ok(Day {
-            desk: Desk::open(alloc, Seed::fixed(), settings(limit)?)?,
+            desk: Desk::open(alloc, Seed::fixed(), settings)?,
         })
     }
 

@@ -1,4 +1,5 @@
 use super::day::Day;
+use super::settings;
 use std::alloc::Allocator;
 use std::process::Abort;
 use std::test::Fail;
@@ -71,13 +72,11 @@ impl Refused {
 
     /// Opens a day, once more where the first answer is for want of memory.
     fn open<A: Allocator + Copy>(&mut self, alloc: A) -> Result<Day<A>, Fail> {
-        match Day::open(alloc, 100) {
-            Ok(day) => Ok(day),
-            Err(_fault) => {
-                self.openings = self.openings.wrapping_add(1);
-                Day::open(alloc, 100)
-            }
+        if let Ok(day) = Day::opened(alloc, settings(100)?) {
+            return Ok(day);
         }
+        self.openings = self.openings.wrapping_add(1);
+        Day::open(alloc, 100)
     }
 
     /// Gives a command to a day, where memory may be refused, and to one like it, where it is not.

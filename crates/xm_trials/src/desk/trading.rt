@@ -98,7 +98,10 @@ fn summed(trades: &[Trade], member: u32) -> (Position, Totals) {
         }
         has_traded = has_traded || trade.buyer == member || trade.seller == member;
     }
-    ((Some(net), Some(cash), has_traded), Totals { quantity, money })
+    (
+        (Some(net), Some(cash), has_traded),
+        Totals { quantity, money },
+    )
 }
 
 /// Compares the positions of the members with the sums over the trades. A third one isn't there.
