@@ -1,3 +1,5 @@
+mod whole_day;
+
 use crate::files::fixtures::{
     CASCADE, HEADER, NO_SECURITY, ORDERS, OneByteReader, SECOND, SEGMENT, ShortWriter, replaced,
 };
@@ -25,18 +27,30 @@ fn written(alloc: Global, refused: u64) -> Result<String, AllocError> {
     format!(in alloc; "{STATEMENT}ROWS 5 {refused}\n")
 }
 
-/// Compares the answer of a day with the rows that it refused, and what it wrote.
+/// Compares the counts that a day answers, of accepted and of refused rows, and the statement that it wrote.
+fn has_statement(
+    rt: &(impl Abort + AllocGlobal),
+    segment: &mut impl Read,
+    orders: &mut impl Read,
+    counts: (u64, u64),
+    statement: &str,
+) -> Result<(), Fail> {
+    let mut out = Vec::new(rt.alloc());
+    let report = run_alone(rt.alloc(), Seed::fixed(), segment, orders, &mut out)?;
+    assert!(rt; (report.accepted, report.refused) == counts);
+    assert!(rt; out.as_slice() == statement.as_bytes());
+    Ok(())
+}
+
+/// Compares the answer of the day of `ORDERS` with the rows that it refused, and what it wrote.
 fn is_written(
     rt: &(impl Abort + AllocGlobal),
     segment: &mut impl Read,
     orders: &mut impl Read,
     refused: u64,
 ) -> Result<(), Fail> {
-    let mut out = Vec::new(rt.alloc());
-    let report = run_alone(rt.alloc(), Seed::fixed(), segment, orders, &mut out)?;
-    assert!(rt; (report.accepted, report.refused) == (5, refused));
-    assert!(rt; out.as_slice() == written(rt.alloc(), refused)?.as_bytes());
-    Ok(())
+    let statement = written(rt.alloc(), refused)?;
+    has_statement(rt, segment, orders, (5, refused), statement.as_str())
 }
 
 /// Compares the fault of a day, which writes nothing.
@@ -76,17 +90,13 @@ ROWS 11 1
 
 #[test]
 fn a_day_with_a_cascade(rt: HostRuntime) -> Result<(), Fail> {
-    let mut out = Vec::new(rt.alloc());
-    let report = run_alone(
-        rt.alloc(),
-        Seed::fixed(),
+    has_statement(
+        &rt,
         &mut SEGMENT.as_bytes(),
         &mut CASCADE.as_bytes(),
-        &mut out,
-    )?;
-    assert!(rt; (report.accepted, report.refused) == (11, 1));
-    assert!(rt; out.as_slice() == CASCADE_STATEMENT.as_bytes());
-    Ok(())
+        (11, 1),
+        CASCADE_STATEMENT,
+    )
 }
 
 /// A row for each refusal that an order file reaches, after `ORDERS`, and how many commands the
