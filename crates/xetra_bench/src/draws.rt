@@ -1,7 +1,10 @@
 //! What is drawn at random for days, and the sum of what they did.
 ghost use Rattle.std.specs.Prelude.{◌<◌};
 
-use xm_rules::{DeskSettings, Order, Restriction, Side, Trade, Validity, Widths};
+use xm_rules::{
+    Condition, DeskSettings, Order, Phase, Quote, Refusal, Reply, Restriction, Side, Stop, Trade,
+    Validity, Widths,
+};
 use xm_ticks::{JournalLimit, Price, TickSize};
 
 pub const TODAY: u32 = 20260105;
@@ -70,6 +73,17 @@ impl Draws {
         }
     }
 
+    /// A condition: each of the two immediate ones in one of so many cases.
+    pub fn condition(&mut self, cases: u32) -> Condition
+        requires { 0 < cases }
+    {
+        match self.below(cases) {
+            0 => Condition::Ioc,
+            1 => Condition::Fok,
+            _ => Condition::Plain,
+        }
+    }
+
     /// The settings of a day.
     pub fn settings(&mut self) -> Option<DeskSettings> {
         let dynamic = 20 + 20 * self.below(5);
@@ -119,6 +133,59 @@ impl Sum {
                 self.add_long(volume);
             }
         }
+    }
+
+    /// Adds a price in ticks, or 0 where there is none.
+    fn add_limit(&mut self, limit: Option<Price>) {
+        match limit {
+            None => self.add(0),
+            Some(price) => self.add(price.get()),
+        }
+    }
+
+    fn add_phase(&mut self, phase: Phase) {
+        match phase {
+            Phase::PreTrading => self.add(0),
+            Phase::Call(auction, stage) => {
+                self.add(1);
+                self.add(auction as u32);
+                self.add(stage as u32);
+            }
+            Phase::Continuous => self.add(2),
+            Phase::PostTrading => self.add(3),
+            Phase::Ended => self.add(4),
+        }
+    }
+
+    pub fn add_reply(&mut self, reply: &Reply) {
+        self.add_long(reply.version);
+        self.add_long(reply.first_trade);
+        self.add_long(reply.trades);
+        self.add_long(reply.quantity);
+        self.add_long(reply.money);
+        self.add_phase(reply.phase);
+    }
+
+    /// Adds the place of a refusal among the checks.
+    pub fn add_refusal(&mut self, refusal: Refusal) {
+        self.add(refusal as u32);
+    }
+
+    pub fn add_quote(&mut self, quote: &Quote) {
+        self.add_long(quote.version);
+        self.add_phase(quote.phase);
+        self.add_limit(quote.best_buy);
+        self.add_limit(quote.best_sell);
+        self.add(quote.ref1.get());
+        self.add(quote.ref2.get());
+        self.add_long(quote.quantity);
+    }
+
+    pub fn add_stop(&mut self, stop: &Stop) {
+        self.add(stop.member);
+        self.add(stop.reference);
+        self.add(stop.trigger);
+        self.add(stop.quantity);
     }
 
     pub fn add_order(&mut self, order: &Order) {

@@ -3,6 +3,7 @@
 
 use crate::draws::Draws;
 use crate::loads::{LoadFault, Loaded};
+use crate::records::is_interruption;
 use std::alloc::Global;
 use xm_rules::{
     Auction, CallStage, Command, Condition, Kind, Phase, Reply, Restriction, Side, Widths,
@@ -606,10 +607,6 @@ impl Flow {
         }
         done(self.commands.push(command).is_ok())
     }
-}
-
-fn is_interruption(phase: Phase) -> bool {
-    matches!(phase, Phase::Call(Auction::Interruption, _))
 }
 
 fn done(is_done: bool) -> Result<(), LoadFault> {

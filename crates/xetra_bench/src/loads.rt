@@ -7,8 +7,8 @@ use std::marker::Model;
 use xm_desk::Desk;
 use xm_names::Seed;
 use xm_rules::{
-    Command, Condition, DeskSettings, Kind, Order, Phase, Quote, Reply, Restriction, Side, Trade,
-    Validity, Widths,
+    Command, Condition, DeskSettings, Kind, Order, Phase, Quote, Refusal, Reply, Restriction, Side,
+    Stop, Trade, Validity, Widths,
 };
 use xm_ticks::{JournalLimit, Price, TickSize};
 
@@ -104,7 +104,12 @@ impl Loaded {
 
     /// Gives the desk a command, and answers its reply, where it accepted it.
     pub fn answer(&mut self, command: Command) -> Option<Reply> {
-        self.desk.apply(command).ok()
+        self.apply(command).ok()
+    }
+
+    /// Gives the desk a command, and answers its reply or its refusal.
+    pub fn apply(&mut self, command: Command) -> Result<Reply, Refusal> {
+        self.desk.apply(command)
     }
 
     /// Gives the desk each of some commands, and answers how many it accepted.
@@ -140,6 +145,14 @@ impl Loaded {
     pub fn list(&self) -> Result<Vec<Order>, LoadFault> {
         match self.desk.orders() {
             Ok(orders) => Ok(orders),
+            Err(_) => Err(LoadFault),
+        }
+    }
+
+    /// The held stops in order of entry.
+    pub fn stops(&self) -> Result<Vec<Stop>, LoadFault> {
+        match self.desk.stops() {
+            Ok(stops) => Ok(stops),
             Err(_) => Err(LoadFault),
         }
     }

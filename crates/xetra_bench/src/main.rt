@@ -9,9 +9,11 @@ mod days;
 mod draws;
 mod flows;
 mod loads;
+mod records;
 mod sessions;
 mod shelves;
 mod trading;
+mod whole_days;
 
 use crate::loads::{LoadFault, Loaded, Part, parts, settings};
 use std::process::ExitCode;
@@ -55,6 +57,7 @@ fn count_all<R: AllocGlobal + Print + Clock>(rt: &R) -> Result<(), LoadFault> {
     calls::count(rt)?;
     days::count(rt)?;
     trading::count(rt)?;
+    whole_days::count(rt)?;
     sessions::count(rt)
 }
 

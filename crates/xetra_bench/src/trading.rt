@@ -1,11 +1,11 @@
 //! Days of continuous trading that are drawn at random. Orders of all kinds and conditions lie near the ranges, so that
 //! interruptions, kills and partial fills are common.
 
-use crate::draws::{Draws, MEMBERS, STAGES, Sum};
+use crate::draws::{Draws, MEMBERS, STAGES};
 use crate::loads::{LoadFault, Loaded};
+use crate::records::Record;
 use crate::said;
 use xm_rules::{Command, Condition, Kind, Reply, Restriction, Validity};
-use xm_ticks::Price;
 
 /// How many days are drawn.
 const DAYS: u32 = 200;
@@ -20,119 +20,71 @@ const SEED: u64 = 20260106;
 #[derive(Drop)]
 struct Days {
     draws: Draws,
-    sum: Sum,
+    record: Record,
     /// How many orders were entered on the day.
     entered: u32,
-    accepted: u64,
-    refused: u64,
-    interrupted: u64,
     /// Immediate orders of which units were deleted.
     killed: u64,
-    trades: u64,
-    orders: u64,
 }
 
 impl Days {
     fn new() -> Days {
         Days {
             draws: Draws::new(SEED),
-            sum: Sum::new(),
+            record: Record::new(),
             entered: 0,
-            accepted: 0,
-            refused: 0,
-            interrupted: 0,
             killed: 0,
-            trades: 0,
-            orders: 0,
         }
     }
 
     /// A day from its opening without a price to post-trading.
     fn run(&mut self, loaded: &mut Loaded) -> Result<(), LoadFault> {
         self.entered = 0;
-        self.give(loaded, Command::StartOpening)?;
-        self.give(loaded, Command::Uncross)?;
+        self.give(loaded, Command::StartOpening);
+        self.give(loaded, Command::Uncross);
         for _command in 0..COMMANDS {
-            self.trade(loaded)?;
+            self.trade(loaded);
         }
-        self.give(loaded, Command::StartClosing)?;
-        self.uncross(loaded)?;
-        self.add_left(loaded)
+        self.give(loaded, Command::StartClosing);
+        self.uncross(loaded);
+        self.record.add_left(loaded)
     }
 
     /// A command, and the end of the interruption that it leads to.
-    fn trade(&mut self, loaded: &mut Loaded) -> Result<(), LoadFault> {
+    fn trade(&mut self, loaded: &mut Loaded) {
         let command = self.command();
-        self.give(loaded, command)?;
+        self.give(loaded, command);
         if loaded.is_in_call() {
-            self.interrupted = self.interrupted.wrapping_add(1);
-            self.come(loaded)?;
-            self.uncross(loaded)?;
+            self.come(loaded);
+            self.uncross(loaded);
         }
-        Ok(())
     }
 
     /// An order may come during an interruption.
-    fn come(&mut self, loaded: &mut Loaded) -> Result<(), LoadFault> {
+    fn come(&mut self, loaded: &mut Loaded) {
         if self.draws.is_one_in(2) {
             let order = self.entry();
-            self.give(loaded, order)?;
+            self.give(loaded, order);
         }
-        Ok(())
     }
 
     /// Ends a call, stage after stage.
-    fn uncross(&mut self, loaded: &mut Loaded) -> Result<(), LoadFault> {
+    fn uncross(&mut self, loaded: &mut Loaded) {
         for _stage in 0..STAGES {
             if loaded.is_in_call() {
-                self.give(loaded, Command::Uncross)?;
+                self.give(loaded, Command::Uncross);
             }
         }
-        Ok(())
     }
 
     /// Gives a command, and counts what it did.
-    fn give(&mut self, loaded: &mut Loaded, command: Command) -> Result<(), LoadFault> {
-        match loaded.answer(command) {
-            None => self.refused = self.refused.wrapping_add(1),
-            Some(reply) => self.add_reply(&command, &reply),
+    fn give(&mut self, loaded: &mut Loaded, command: Command) {
+        match self.record.give(loaded, command) {
+            Some(reply) if is_killed(&command, &reply) => {
+                self.killed = self.killed.wrapping_add(1);
+            }
+            _ => {}
         }
-        let quote = loaded.quote();
-        self.add_limit(quote.best_buy);
-        self.add_limit(quote.best_sell);
-        self.sum.add_long(quote.quantity);
-        Ok(())
-    }
-
-    fn add_reply(&mut self, command: &Command, reply: &Reply) {
-        self.accepted = self.accepted.wrapping_add(1);
-        if is_killed(command, reply) {
-            self.killed = self.killed.wrapping_add(1);
-        }
-        self.sum.add_long(reply.trades);
-        self.sum.add_long(reply.quantity);
-        self.sum.add_long(reply.money);
-    }
-
-    fn add_limit(&mut self, limit: Option<Price>) {
-        match limit {
-            None => self.sum.add(0),
-            Some(price) => self.sum.add(price.get()),
-        }
-    }
-
-    /// Adds the trades of a day and the orders that are left.
-    fn add_left(&mut self, loaded: &Loaded) -> Result<(), LoadFault> {
-        for trade in loaded.trades() {
-            self.sum.add_trade(trade);
-        }
-        let orders = loaded.list()?;
-        for order in &orders {
-            self.sum.add_order(order);
-        }
-        self.trades = self.trades.wrapping_add(loaded.trades().len() as u64);
-        self.orders = self.orders.wrapping_add(orders.len() as u64);
-        Ok(())
     }
 
     fn command(&mut self) -> Command {
@@ -176,7 +128,7 @@ impl Days {
 
     fn entry(&mut self) -> Command {
         self.entered = self.entered.wrapping_add(1);
-        let condition = self.condition();
+        let condition = self.draws.condition(6);
         Command::Enter {
             member: self.entered % MEMBERS,
             reference: self.entered,
@@ -186,14 +138,6 @@ impl Days {
             validity: Validity::Day,
             restriction: self.restriction(condition),
             condition,
-        }
-    }
-
-    fn condition(&mut self) -> Condition {
-        match self.draws.below(6) {
-            0 => Condition::Ioc,
-            1 => Condition::Fok,
-            _ => Condition::Plain,
         }
     }
 
@@ -248,9 +192,9 @@ fn run_day<R: AllocGlobal>(rt: &R, days: &mut Days) -> Result<(), LoadFault> {
 }
 
 fn tell<R: Print>(rt: &R, days: &Days) -> Result<(), LoadFault> {
-    let (accepted, refused) = (days.accepted, days.refused);
-    let (interrupted, killed) = (days.interrupted, days.killed);
-    let (trades, orders, sum) = (days.trades, days.orders, days.sum.value());
+    let (accepted, refused) = (days.record.accepted, days.record.refused);
+    let (interrupted, killed) = (days.record.interruptions, days.killed);
+    let (trades, orders, sum) = (days.record.trades, days.record.orders, days.record.sum());
     said(println!(rt;
         "{DAYS} days of trading: {accepted} commands accepted, {refused} refused, {interrupted} interruptions, {killed} kills"
     ))?;
