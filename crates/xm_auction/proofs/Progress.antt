@@ -1,13 +1,12 @@
 -- How far an allotment has come: what it has traded is that of the call with a lower volume, and each trade takes it on.
-use Rattle.std.proofs.Common.{◌≡◌, ℕ, ◌+◌, ◌-◌, ◌<◌, ◌≤◌, min, max, Bool, true, false, if◌then◌else◌, IsSome, List, [], ◌∷◌, ◌++◌, length, length-append, append_assoc, append-nil, Some, refl, sym, ap, subst, ◌∙◌, ◌⊎◌, inl, inr, arith}
+use Rattle.std.proofs.Common.{◌≡◌, ℕ, ◌+◌, ◌-◌, ◌<◌, ◌≤◌, min, max, Bool, true, false, if◌then◌else◌, IsSome, List, [], ◌∷◌, ◌++◌, length, length-append, append_assoc, append-nil, Option, Some, refl, sym, ap, subst, ◌∙◌, ◌⊎◌, inl, inr, arith}
 use Rattle.std.specs.List.{filter_map, flat_map, list_all}
-use Rattle.xm_auction.specs.Allotment.{Terms, best_trade, trade_of_two}
+use Rattle.xm_auction.specs.Allotment.{Terms, trade_of_two}
 use Rattle.xm_auction.proofs.NextTrade.{IsCut, cut_after, cut_at_first, nothing_traded, next_trade_last, trade_of_next}
 use Rattle.xm_auction.proofs.Owners.{IsNext, NextOf, allotted_to, best_now, best_taken, next_of, phase_of, raised, rest_now, upto}
 use Rattle.xm_book.proofs.Remaining.{all_kept, lessened}
 use Rattle.xm_book.proofs.Shortening.{no_more, one_less, some_there}
-use Rattle.xm_book.proofs.Taking.{HasUnits, has_units}
-use Rattle.xm_book.specs.Queues.{best_order, taken_from_best}
+use Rattle.xm_book.specs.Queues.{best_order, taken_from, taken_from_any, taken_from_best}
 use Rattle.xm_book.specs.TimeList.{have_own_names}
 use Rattle.xm_book.proofs.Cutting.{none_given}
 use Rattle.xm_book.proofs.Joining.{same_some}
@@ -43,13 +42,19 @@ pub record Progress (u : Uncrossing) (number left : ℕ) (now : List Order) (old
   pub used : length now + length (auction_trades number (upto done u)) ≤ length u.orders + (1 - left)
   pub enough : length u.orders ≤ before
 
--- what a trade does
-pub record Turn (u : Uncrossing) (number left : ℕ) (now : List Order) (old made : List Trade) (before room : ℕ) (trade : Trade) : Type 0 where
-  pub buy : HasUnits (phase_of u) Buy trade.quantity now
-  pub sell : HasUnits (phase_of u) Sell trade.quantity (taken_from_best (phase_of u) Buy trade.quantity now)
+-- what a trade between the best buy and the best sell does
+pub record Turn (u : Uncrossing) (number left : ℕ) (now : List Order) (old made : List Trade) (before room : ℕ) (b s : Order) (trade : Trade) : Type 0 where
   pub some : 0 < trade.quantity
   pub within : trade.quantity ≤ left
-  pub next : Progress u number (left - trade.quantity) (taken_from_best (phase_of u) Sell trade.quantity (taken_from_best (phase_of u) Buy trade.quantity now)) old (made ++ trade ∷ []) before (room - 1)
+  pub of_buy : trade.quantity ≤ b.rest
+  pub of_sell : trade.quantity ≤ s.rest
+  pub has_room : 0 < room
+  pub sell_stays : best_order (phase_of u) Sell (taken_from b trade.quantity now) ≡ Some s
+  pub buy_left : trade.quantity < b.rest
+      → best_order (phase_of u) Buy (taken_from s trade.quantity (taken_from b trade.quantity now)) ≡ Some (record b { rest = b.rest - trade.quantity })
+  pub sell_left : trade.quantity < s.rest
+      → best_order (phase_of u) Sell (taken_from s trade.quantity (taken_from b trade.quantity now)) ≡ Some (record s { rest = s.rest - trade.quantity })
+  pub next : Progress u number (left - trade.quantity) (taken_from s trade.quantity (taken_from b trade.quantity now)) old (made ++ trade ∷ []) before (room - 1)
 
 none_or_some : (n : ℕ) → (n ≡ 0) ⊎ (0 < n)
 none_or_some n = grind arith
@@ -107,10 +112,15 @@ module _ (u : Uncrossing) (number left : ℕ) (now : List Order) (old made : Lis
   sell_rest_is : units sell_order - allotted_to u so_far sell_order ≡ sell_rest
   sell_rest_is = rest_now u Sell so_far sell_order sell_next
 
-  trade_is : best_trade (phase_of u) (terms_of number u) left now ≡ Some (trade_of_next number u count buy_order sell_order)
-  trade_is =
-      (λ i. trade_of_two (terms_of number u) left (best_buy i) (best_sell i))
-      ∙ (λ i. Some (trade_between number (Auction u.auction u.stage) u.price (min (min (buy_rest_is i) (sell_rest_is i)) left) Buy buy_order.order sell_order.order))
+  -- what the two have now
+  abbrev buy_now : Order
+  buy_now = lessened (allotted_to u so_far) buy_order
+
+  abbrev sell_now : Order
+  sell_now = lessened (allotted_to u so_far) sell_order
+
+  trade_is : trade_of_two (terms_of number u) left buy_now sell_now ≡ trade_of_next number u count buy_order sell_order
+  trade_is = (λ i. trade_between number (Auction u.auction u.stage) u.price (min (min (buy_rest_is i) (sell_rest_is i)) left) Buy buy_order.order sell_order.order)
 
   some_traded : 0 < count
   some_traded = let b = buy_next.to in let s = sell_next.to in omega arith
@@ -190,20 +200,65 @@ module _ (u : Uncrossing) (number left : ℕ) (now : List Order) (old made : Lis
     enough = p.enough;
   }
 
-  turn_next : Turn u number left now old made before room (trade_of_next number u count buy_order sell_order)
+  -- the best sell is the same before and after the buy is filled
+  sell_same : best_order (phase_of u) Sell (taken_from_best (phase_of u) Buy count now) ≡ Some sell_now
+  sell_same =
+      let rest : units sell_order - allotted_to u buy_done sell_order ≡ units sell_order - allotted_to u so_far sell_order = sell_rest_after ∙ sym sell_rest_is in
+      sell_after ∙ (λ i. let o = sell_order.order in Some (record o { rest = rest i }))
+
+  buy_filled : taken_from_best (phase_of u) Buy count now ≡ taken_from buy_now count now
+  buy_filled = ap (λ (f : Option Order). taken_from_any f count now) best_buy
+
+  both_filled : taken_from_best (phase_of u) Sell count (taken_from_best (phase_of u) Buy count now) ≡ taken_from sell_now count (taken_from buy_now count now)
+  both_filled = ap (λ (f : Option Order). taken_from_any f count (taken_from_best (phase_of u) Buy count now)) sell_same ∙ ap (taken_from sell_now count) buy_filled
+
+  abbrev both_done : Side → ℕ
+  both_done = raised Sell (p.done + count) buy_done
+
+  both_are : taken_from sell_now count (taken_from buy_now count now) ≡ without_units (allotted_to u both_done) u.orders
+  both_are =
+      sym both_filled ∙ ap (taken_from_best (phase_of u) Sell count) buy_taken ∙ best_taken u Sell buy_done sell_order sell_next can.own count some_traded (omega arith)
+
+  -- an order with units left is still the best of its side
+  still_best : (side : Side) (x : Positioned) → IsNext u side p.done x → count < units x - allotted_to u so_far x
+      → best_order (phase_of u) side (taken_from sell_now count (taken_from buy_now count now))
+      ≡ Some (let o = x.order in record o { rest = (units x - allotted_to u so_far x) - count })
+  still_best side x next less =
+      let done : both_done side ≡ p.done + count = both_raised (p.done + count) p.done side in
+      let was : units x - allotted_to u so_far x ≡ first_unit u side x + units x - p.done = rest_now u side so_far x next in
+      let from = next.from in
+      let to = next.to in
+      let later : IsNext u side (both_done side) x = record { contained = next.contained; accepts = next.accepts; from = omega arith; to = omega arith } in
+      let is : units x - allotted_to u both_done x ≡ first_unit u side x + units x - both_done side = rest_now u side both_done x later in
+      let rest : units x - allotted_to u both_done x ≡ (units x - allotted_to u so_far x) - count = omega arith in
+      ap (best_order (phase_of u) side) both_are ∙ best_now u side both_done x later ∙ (λ i. let o = x.order in Some (record o { rest = rest i }))
+
+  turn_next : Turn u number left now old made before room buy_now sell_now (trade_of_next number u count buy_order sell_order)
   turn_next = record {
-    buy = has_units (phase_of u) Buy count now (lessened (allotted_to u so_far) buy_order) best_buy some_traded (let r = buy_rest_is in omega arith);
-    sell = has_units (phase_of u) Sell count (taken_from_best (phase_of u) Buy count now) (lessened (allotted_to u buy_done) sell_order) sell_after some_traded (let r = sell_rest_after in omega arith);
     some = some_traded;
     within = omega arith;
-    next = on;
+    of_buy = (let r = buy_rest_is in omega arith);
+    of_sell = (let r = sell_rest_is in omega arith);
+    has_room = room_there;
+    sell_stays = ap (best_order (phase_of u) Sell) (sym buy_filled) ∙ sell_same;
+    buy_left = still_best Buy buy_order buy_next;
+    sell_left = still_best Sell sell_order sell_next;
+    next = subst (λ (os : List Order). Progress u number (left - count) os old (made ++ trade_of_next number u count buy_order sell_order ∷ []) before (room - 1)) both_filled on;
   }
 
-  pub has_trade : IsSome (best_trade (phase_of u) (terms_of number u) left now)
-  has_trade = rw trade_is refl
+  pub has_buy : IsSome (best_order (phase_of u) Buy now)
+  has_buy = rw best_buy refl
 
-  pub turn : (trade : Trade) → Some trade ≡ best_trade (phase_of u) (terms_of number u) left now → Turn u number left now old made before room trade
-  turn trade e = subst (λ (t : Trade). Turn u number left now old made before room t) (sym (same_some (e ∙ trade_is))) turn_next
+  pub has_sell : IsSome (best_order (phase_of u) Sell now)
+  has_sell = rw best_sell refl
+
+  pub turn : (b s : Order) (trade : Trade) → best_order (phase_of u) Buy now ≡ Some b → best_order (phase_of u) Sell now ≡ Some s → trade ≡ trade_of_two (terms_of number u) left b s
+      → Turn u number left now old made before room b s trade
+  turn b s trade buy sell e =
+      let is_buy : b ≡ buy_now = same_some (sym buy ∙ best_buy) in
+      let is_sell : s ≡ sell_now = same_some (sym sell ∙ best_sell) in
+      let is_trade : trade ≡ trade_of_next number u count buy_order sell_order = e ∙ (λ i. trade_of_two (terms_of number u) left (is_buy i) (is_sell i)) ∙ trade_is in
+      rw (is_buy, is_sell, is_trade) turn_next
 
 -- ---- at the begin and at the end
 no_part : (b : Bool) (first count : ℕ) → ◌≡◌ {A = ℕ} (if b then min (first + count) 0 - first else 0) 0

@@ -1,15 +1,13 @@
 -- How the best orders of a book trade with each other.
-use Rattle.std.specs.Prelude.{◌≤◌, ℕ, ◌+◌, min, List, length, Option, Some, None}
-use Rattle.xm_book.specs.Queues.{best_order}
+use Rattle.std.specs.Prelude.{◌≤◌, ℕ, ◌+◌, min, List, length}
 use Rattle.xm_rules.specs.Allotment.{Uncrossing, auction_trades, orders_after_call}
 use Rattle.xm_rules.specs.Orders.{trade_between}
 use Rattle.xm_rules.specs.declared.orders.Order.{Order}
-use Rattle.xm_rules.specs.declared.orders.Side.TheVariants.{Buy, Sell}
+use Rattle.xm_rules.specs.declared.orders.Side.TheVariants.{Buy}
 use Rattle.xm_rules.specs.declared.orders.Trade.{Trade}
 use Rattle.xm_rules.specs.declared.orders.TradeKind.{TradeKind}
 use Rattle.xm_rules.specs.declared.phases.Auction.{Auction}
 use Rattle.xm_rules.specs.declared.phases.CallStage.{CallStage}
-use Rattle.xm_rules.specs.declared.phases.Phase.{Phase}
 
 -- the end of a call with this time list, price and volume
 abbrev pub uncrossing_of : Auction → CallStage → List Order → ℕ → ℕ → Uncrossing
@@ -26,10 +24,5 @@ pub record Terms : Type 0 where
   pub price : ℕ
 
 -- a buy and a sell trade what both have, and no more than so many units
-abbrev pub trade_of_two : Terms → ℕ → Option Order → Option Order → Option Trade
-trade_of_two t units (Some b) (Some s) = Some (trade_between t.sweep t.kind t.price (min (min b.rest s.rest) units) Buy b s)
-trade_of_two t units b s = None
-
--- the trade between the best buy and the best sell
-abbrev pub best_trade : Phase → Terms → ℕ → List Order → Option Trade
-best_trade phase t units orders = trade_of_two t units (best_order phase Buy orders) (best_order phase Sell orders)
+abbrev pub trade_of_two : Terms → ℕ → Order → Order → Trade
+trade_of_two t units b s = trade_between t.sweep t.kind t.price (min (min b.rest s.rest) units) Buy b s
