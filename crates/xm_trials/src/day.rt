@@ -136,6 +136,16 @@ fn refused_rows_are_counted(rt: HostRuntime) -> Result<(), Fail> {
     Ok(())
 }
 
+/// A row of an unknown member, and one with a price that is off its tick.
+const TWO_REFUSED_ROWS: &str =
+    "enter,ZZZ,1,XYZ,buy,limit,10.00,,10,,,\nenter,AAA,3,XYZ,buy,limit,10.005,,10,,,\n";
+
+#[test]
+fn two_refused_rows_more(rt: HostRuntime) -> Result<(), Fail> {
+    let orders = format!(in rt.alloc(); "{ORDERS}{TWO_REFUSED_ROWS}")?;
+    is_written(&rt, &mut SEGMENT.as_bytes(), &mut orders.as_bytes(), 2)
+}
+
 const BAD_VALUE: DayFault = DayFault::Segment(FileFault {
     line: 1,
     cause: FileCause::BadValue,
@@ -177,32 +187,43 @@ fn faults_in_order(rt: HostRuntime) -> Result<(), Fail> {
 }
 
 /// Compares what a writer with this room holds, which then fails.
-fn fails_after(rt: &(impl Abort + AllocGlobal), start: &[u8], failure: Option<ErrorKind>) {
+fn fails_after(
+    rt: &(impl Abort + AllocGlobal),
+    orders: &str,
+    start: &[u8],
+    failure: Option<ErrorKind>,
+) {
     let mut out = ShortWriter::new(rt.alloc(), start.len(), failure);
     let answer = run_alone(
         rt.alloc(),
         Seed::fixed(),
         &mut SEGMENT.as_bytes(),
-        &mut ORDERS.as_bytes(),
+        &mut orders.as_bytes(),
         &mut out,
     );
     assert!(rt; answer.err() == Some(DayFault::WriteFailed));
     assert!(rt; out.bytes.as_slice() == start);
 }
 
-#[test]
-fn failing_writers(rt: HostRuntime) -> Result<(), Fail> {
-    let text = written(rt.alloc(), 0)?;
+/// Compares what writers hold that fail, or take no byte, after each number of bytes that is less than the statement's.
+fn fails_at_each_byte(rt: &(impl Abort + AllocGlobal), orders: &str, statement: &str) {
     let failures = [
         None,
         Some(ErrorKind::BrokenPipe),
         Some(ErrorKind::Interrupted),
     ];
     for failure in failures {
-        for room in 0..text.len() {
-            fails_after(&rt, &text.as_bytes()[..room], failure);
+        for room in 0..statement.len() {
+            fails_after(rt, orders, &statement.as_bytes()[..room], failure);
         }
     }
+}
+
+#[test]
+fn failing_writers(rt: HostRuntime) -> Result<(), Fail> {
+    let statement = written(rt.alloc(), 0)?;
+    fails_at_each_byte(&rt, ORDERS, statement.as_str());
+    fails_at_each_byte(&rt, CASCADE, CASCADE_STATEMENT);
     Ok(())
 }
 

@@ -1,6 +1,8 @@
+mod damaged_fields;
 pub(crate) mod fixtures;
 mod order_files;
 mod segment_files;
+mod timetables;
 
 use xm_files::{FileCause, FileFault};
 

@@ -11,7 +11,7 @@ use xm_rules::{Command, Condition, Kind, Restriction, Side, Validity};
 use xm_segment::Row;
 
 /// The rows of an order file for the members and the securities of a segment file.
-fn rows_of(
+pub(super) fn rows_of(
     alloc: Global,
     segment: &str,
     orders: &mut impl Read,
@@ -160,7 +160,7 @@ fn answer_of_prefix(prefix: &[u8], next: Option<u8>) -> Result<usize, FileFault>
 }
 
 /// The number of the rows of an order file, or its fault.
-fn count_of(alloc: Global, orders: &[u8]) -> Result<Result<usize, FileFault>, Fail> {
+pub(super) fn count_of(alloc: Global, orders: &[u8]) -> Result<Result<usize, FileFault>, Fail> {
     let mut reader = orders;
     match rows_of(alloc, SEGMENT, &mut reader)? {
         Ok(rows) => Ok(Ok(rows.len())),
@@ -185,12 +185,14 @@ fn prefixes_of_order_files(rt: HostRuntime) -> Result<(), Fail> {
 }
 
 /// Records of twelve fields, of which each has a bad one.
-const BAD_FIELDS: [&str; 42] = [
+const BAD_FIELDS: [&str; 46] = [
     "\u{feff}open,,,*,,,,,,,,",
     "leave,AAA,1,XYZ,,,,,,,,",
     ",,,*,,,,,,,,",
     "enter,,1,XYZ,buy,limit,10.00,,10,,,",
     "enter,AAA,,XYZ,buy,limit,10.00,,10,,,",
+    "enter,AAA,4294967296,XYZ,buy,limit,10.00,,10,,,",
+    "enter,AAA,00000000001,XYZ,buy,limit,10.00,,10,,,",
     "enter,AAA,1,,buy,limit,10.00,,10,,,",
     "enter,AAA,1,XYZ,up,limit,10.00,,10,,,",
     "enter,AAA,1,XYZ,buy,,10.00,,10,,,",
@@ -198,6 +200,8 @@ const BAD_FIELDS: [&str; 42] = [
     "enter,AAA,1,XYZ,buy,market,,10.00,10,,,",
     "enter,AAA,1,XYZ,buy,limit,,,10,,,",
     "enter,AAA,1,XYZ,buy,limit,10.,,10,,,",
+    "enter,AAA,1,XYZ,buy,limit,.5,,10,,,",
+    "enter,AAA,1,XYZ,buy,limit,00000000000010.00,,10,,,",
     "enter,AAA,1,ABC,buy,limit,+1,,10,,,",
     "enter,AAA,1,XYZ,buy,limit,10.00,1,10,,,",
     "enter,AAA,1,XYZ,sell,stop,,9.90,10,,,",

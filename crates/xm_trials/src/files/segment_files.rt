@@ -79,24 +79,35 @@ fn empty_lists_are_read(rt: HostRuntime) -> Result<(), Fail> {
 /// What a key or a value is replaced by, and the cause that is then told.
 type Damage = (&'static str, &'static str, FileCause);
 
-const DAMAGED_TOP_KEYS: [Damage; 14] = [
+const DAMAGED_TOP_KEYS: [Damage; 19] = [
     ("date = 20260105", "", FileCause::MissingKey),
     ("date", "dates", FileCause::MissingKey),
+    ("members", "names", FileCause::MissingKey),
+    ("[[security]]", "[[securities]]", FileCause::MissingKey),
     ("date", "colour = 1\ndate", FileCause::UnknownKey),
     ("20260105", "100000000", FileCause::BadValue),
     ("20260105", "-1", FileCause::BadValue),
     ("20260105", "\"20260105\"", FileCause::BadValue),
+    ("20260105", "2026.5", FileCause::BadValue),
+    ("20260105", "2026-01-05", FileCause::BadValue),
     ("\"AAA\"", "\"aaa\"", FileCause::BadValue),
     ("\"AAA\"", "\"\"", FileCause::BadValue),
     ("\"AAA\"", "\"ABCDEFGHIJ123\"", FileCause::BadValue),
     ("\"AAA\"", "1", FileCause::BadValue),
     ("[\"AAA\", \"BBB\"]", "\"AAA\"", FileCause::BadValue),
+    ("[\"AAA\", \"BBB\"]", "2", FileCause::BadValue),
     ("\"BBB\"", "\"AAA\"", FileCause::DuplicateName),
     ("members =", "members", FileCause::Syntax),
     ("[[security]]", "[security]", FileCause::BadValue),
 ];
 
-const DAMAGED_SECURITIES: [Damage; 15] = [
+const DAMAGED_SECURITIES: [Damage; 31] = [
+    ("name =", "names =", FileCause::MissingKey),
+    ("reference =", "price =", FileCause::MissingKey),
+    ("dynamic =", "dynamics =", FileCause::MissingKey),
+    ("static =", "statics =", FileCause::MissingKey),
+    ("wide =", "width =", FileCause::MissingKey),
+    ("journal =", "journals =", FileCause::MissingKey),
     ("tick = 100\n", "", FileCause::MissingKey),
     ("tick = 100", "colour = 1", FileCause::MissingKey),
     (
@@ -107,14 +118,24 @@ const DAMAGED_SECURITIES: [Damage; 15] = [
     ("tick = 100", "tick = 0\ncolour = 1", FileCause::UnknownKey),
     ("tick = 100", "tick = 0", FileCause::BadValue),
     ("tick = 100", "tick = 10001", FileCause::BadValue),
+    ("tick = 100", "tick = \"100\"", FileCause::BadValue),
     ("\"10.00\"", "10.00", FileCause::BadValue),
+    ("\"10.00\"", "\"10.00000\"", FileCause::BadValue),
+    ("\"10.00\"", "\"10000.01\"", FileCause::BadValue),
     ("\"10.00\"", "\"10.001\"", FileCause::BadValue),
     ("\"10.00\"", "\"0\"", FileCause::BadValue),
     ("\"10.00\"", "\"+1\"", FileCause::BadValue),
     ("dynamic = 20", "dynamic = -1", FileCause::BadValue),
+    ("dynamic = 20", "dynamic = 4294967296", FileCause::BadValue),
+    ("static = 50", "static = -1", FileCause::BadValue),
+    ("static = 50", "static = 0.5", FileCause::BadValue),
     ("wide = 40", "wide = 4294967296", FileCause::BadValue),
+    ("wide = 40", "wide = true", FileCause::BadValue),
     ("journal = 100", "journal = 0", FileCause::BadValue),
     ("journal = 100", "journal = 1000001", FileCause::BadValue),
+    ("journal = 100", "journal = []", FileCause::BadValue),
+    ("\"XYZ\"", "1", FileCause::BadValue),
+    ("\"XYZ\"", "\"\"", FileCause::BadValue),
     ("\"XYZ\"", "\"X Z\"", FileCause::BadValue),
 ];
 
