@@ -1,5 +1,5 @@
 //! The number and the price of a text.
-ghost use Rattle.std.specs.Prelude.{◌≡◌, ◌<◌, ◌≤◌, ◌^◌, length, IfSome};
+ghost use Rattle.std.specs.Prelude.{◌≡◌, ◌<◌, ◌≤◌, ◌-◌, ◌/◌, ◌%◌, ◌^◌, length, IfSome};
 ghost use Rattle.std.specs.Option.{ForSome};
 ghost use Rattle.xm_ticks.specs.Reading.{number_of, point_of, price_of, price_of_parts, price_of_amount};
 
@@ -86,10 +86,24 @@ fn price_of_parts(
                 if places > 4 {
                     return Err(PriceFault::TooManyDecimals);
                 }
-                let part = u128::from(decimals) * 10u128.pow(4 - places as u32);
+                let part = u128::from(decimals) * u128::from(scale(places));
                 price_of_amount(u128::from(whole) * 10_000 + part, tick)
             }
         },
+    }
+}
+
+/// How many ten-thousandths a unit of the last of so many decimals has.
+fn scale(places: usize) -> u64
+    requires { places ≤ 4 }
+    ensures { result ≡ 10 ^ (4 - places) }
+{
+    match places {
+        0 => 10_000,
+        1 => 1_000,
+        2 => 100,
+        3 => 10,
+        _ => 1,
     }
 }
 
@@ -97,15 +111,32 @@ fn price_of_parts(
 fn price_of_amount(amount: u128, tick: TickSize) -> Result<Price, PriceFault>
     ensures { result ≡ price_of_amount amount tick }
 {
-    let tick = u128::from(tick.get());
-    if amount % tick != 0 {
+    let (ticks, rest) = ticks_of(amount, tick);
+    if rest != 0 {
         return Err(PriceFault::OffTick);
     }
-    match u32::try_from(amount / tick) {
+    match u32::try_from(ticks) {
         Ok(ticks) => match Price::new(ticks) {
             Some(price) => Ok(price),
             None => Err(PriceFault::OutOfRange),
         },
         Err(_) => Err(PriceFault::OutOfRange),
+    }
+}
+
+/// How many ticks an amount has, and what is left over. Nearly every amount fits 64 bits, which are divided faster.
+fn ticks_of(amount: u128, tick: TickSize) -> (u128, u128)
+    ensures ticks { result.0 ≡ amount / tick }
+    ensures rest { result.1 ≡ amount % tick }
+{
+    match u64::try_from(amount) {
+        Ok(small) => {
+            let tick = u64::from(tick.get());
+            (u128::from(small / tick), u128::from(small % tick))
+        }
+        Err(_) => {
+            let tick = u128::from(tick.get());
+            (amount / tick, amount % tick)
+        }
     }
 }
