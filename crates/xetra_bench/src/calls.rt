@@ -14,10 +14,17 @@ const COUNTED: u32 = 200;
 const MEASURED: [u32; 2] = [100_000, 400_000];
 
 /// How many members enter the orders.
-const MEMBERS: u32 = 1_000;
+pub const MEMBERS: u32 = 1_000;
 
 /// The last price of the day before, around which the limits lie.
-const REFERENCE: u32 = 500_000;
+pub const REFERENCE: u32 = 500_000;
+
+/// The ranges of a day whose calls trade at a price within a hundredth of the reference.
+const WIDTHS: Widths = Widths {
+    dynamic: 20,
+    statics: 50,
+    wide: 40,
+};
 
 /// How often a call is asked for its price.
 const QUESTIONS: u32 = 10;
@@ -98,16 +105,22 @@ impl Load {
         } else {
             Side::Sell
         };
-        Command::Enter {
-            member: reference % MEMBERS,
-            reference,
-            side,
-            kind: Kind::Limit(self.limit(place, orders)),
-            quantity: 1 + place % 97,
-            validity: Validity::Day,
-            restriction: Restriction::Free,
-            condition: Condition::Plain,
-        }
+        let kind = Kind::Limit(self.limit(place, orders));
+        plain_entry(reference, side, kind, 1 + place % 97)
+    }
+}
+
+/// A free and plain entry for the day, of the member whose turn it is by the reference.
+pub fn plain_entry(reference: u32, side: Side, kind: Kind, quantity: u32) -> Command {
+    Command::Enter {
+        member: reference % MEMBERS,
+        reference,
+        side,
+        kind,
+        quantity,
+        validity: Validity::Day,
+        restriction: Restriction::Free,
+        condition: Condition::Plain,
     }
 }
 
@@ -187,7 +200,7 @@ fn tell_shapes<R: AllocGlobal + Print + Clock>(
 }
 
 fn tell_load<R: AllocGlobal + Print + Clock>(rt: &R, load: Load) -> Result<(), LoadFault> {
-    let settings = settings().ok_or(LoadFault)?;
+    let settings = settings(WIDTHS).ok_or(LoadFault)?;
     let mut loaded = Loaded::open(rt.alloc(), settings)?;
     tell_steps(rt, &mut loaded, load)
 }
@@ -294,18 +307,14 @@ fn end_day(loaded: &mut Loaded, orders: u32) -> Result<u32, LoadFault> {
     }
 }
 
-/// The settings of a day whose calls trade at a price within a hundredth of the reference.
-fn settings() -> Option<DeskSettings> {
+/// The settings of a day with these ranges.
+pub fn settings(widths: Widths) -> Option<DeskSettings> {
     Some(DeskSettings {
         today: 20260105,
         members: MEMBERS,
         tick: TickSize::new(100)?,
         reference: Price::new(REFERENCE)?,
-        widths: Widths {
-            dynamic: 20,
-            statics: 50,
-            wide: 40,
-        },
+        widths,
         limit: JournalLimit::new(1_000_000)?,
     })
 }

@@ -87,19 +87,35 @@ impl Draws {
     /// The settings of a day.
     pub fn settings(&mut self) -> Option<DeskSettings> {
         let dynamic = 20 + 20 * self.below(5);
-        Some(DeskSettings {
-            today: TODAY,
-            members: MEMBERS,
-            tick: TickSize::new(100)?,
-            reference: Price::new(100)?,
-            widths: Widths {
-                dynamic,
-                statics: 20 + 20 * self.below(5),
-                wide: dynamic + 10 + 20 * self.below(3),
-            },
-            limit: JournalLimit::new(1_000)?,
-        })
+        let widths = Widths {
+            dynamic,
+            statics: 20 + 20 * self.below(5),
+            wide: dynamic + 10 + 20 * self.below(3),
+        };
+        settings_with(widths, 1_000)
     }
+
+    /// The settings of a day of narrow ranges, whose journal may get full.
+    pub fn narrow_settings(&mut self) -> Option<DeskSettings> {
+        let dynamic = 10 + 10 * self.below(5);
+        let widths = Widths {
+            dynamic,
+            statics: 10 + 20 * self.below(3),
+            wide: dynamic + 10 + 10 * self.below(2),
+        };
+        settings_with(widths, 60 + self.below(100))
+    }
+}
+
+fn settings_with(widths: Widths, limit: u32) -> Option<DeskSettings> {
+    Some(DeskSettings {
+        today: TODAY,
+        members: MEMBERS,
+        tick: TickSize::new(100)?,
+        reference: Price::new(100)?,
+        widths,
+        limit: JournalLimit::new(limit)?,
+    })
 }
 
 /// A sum in which each figure counts by its place.

@@ -1,10 +1,12 @@
 //! `xetra_bench`: loads of commands on one desk, and on books of several shapes, and calls of many orders. Alone it runs
 //! small ones, with days that are drawn at random, and prints what they did; with the word `measure` it runs large ones and
-//! prints the time that they took, and with `sessions` and names of shapes the days of these shapes alone.
+//! prints the time that they took, with `cascades` those of stops alone, and with `sessions` and names of shapes the days of
+//! these shapes alone.
 #![tactic(auto)]
 
 mod books;
 mod calls;
+mod cascades;
 mod days;
 mod draws;
 mod flows;
@@ -37,6 +39,8 @@ fn main(rt: HostRuntime) -> ExitCode {
 fn run<R: Env + AllocGlobal + Print + Clock>(rt: &R) -> Result<(), LoadFault> {
     if has_word(rt, "measure")? {
         measure_all(rt)
+    } else if has_word(rt, "cascades")? {
+        cascades::measure(rt)
     } else if has_word(rt, "sessions")? {
         sessions::measure_named(rt)
     } else {
@@ -48,6 +52,7 @@ fn measure_all<R: AllocGlobal + Print + Clock>(rt: &R) -> Result<(), LoadFault> 
     measure(rt, MEASURED)?;
     shelves::measure(rt)?;
     calls::measure(rt)?;
+    cascades::measure(rt)?;
     sessions::measure(rt)
 }
 

@@ -5,14 +5,13 @@ use crate::draws::{Draws, MEMBERS, STAGES, TODAY};
 use crate::loads::{LoadFault, Loaded};
 use crate::records::{Record, is_interruption};
 use crate::said;
-use xm_rules::{Command, DeskSettings, Kind, MAX_NUMBER, Restriction, Side, Validity, Widths};
-use xm_ticks::{JournalLimit, Price, TickSize};
+use xm_rules::{Command, Kind, MAX_NUMBER, Restriction, Side, Validity};
 
 /// How many days are drawn.
 const DAYS: u32 = 100;
 
 /// How many commands continuous trading has, beside those in calls.
-const COMMANDS: u32 = 60;
+const COMMANDS: u32 = 80;
 
 /// Where the generator begins.
 const SEED: u64 = 20260108;
@@ -42,23 +41,6 @@ impl Days {
             reached: 0,
             cut: 0,
         }
-    }
-
-    /// The settings of a day of narrow ranges, whose journal may get full.
-    fn settings(&mut self) -> Option<DeskSettings> {
-        let dynamic = 10 + 10 * self.draws.below(3);
-        Some(DeskSettings {
-            today: TODAY,
-            members: MEMBERS,
-            tick: TickSize::new(100)?,
-            reference: Price::new(100)?,
-            widths: Widths {
-                dynamic,
-                statics: 10 + 20 * self.draws.below(3),
-                wide: dynamic + 10 + 10 * self.draws.below(2),
-            },
-            limit: JournalLimit::new(50 + self.draws.below(100))?,
-        })
     }
 
     /// A day from pre-trading to what is refused after its end.
@@ -143,9 +125,9 @@ impl Days {
             1 => Command::CancelAll {
                 member: self.draws.below(MEMBERS + 1),
             },
-            2..=5 => self.cancellation(),
-            6..=11 => self.change(last),
-            12..=23 => self.stop(last),
+            2..=3 => self.cancellation(),
+            4..=6 => self.change(last),
+            7..=23 => self.stop(last),
             _ => self.order(last),
         }
     }
@@ -234,7 +216,7 @@ impl Days {
     }
 
     fn kind(&mut self, last: u32) -> Kind {
-        if self.draws.is_one_in(8) {
+        if self.draws.is_one_in(4) {
             Kind::Market
         } else {
             Kind::Limit(self.limit(last))
@@ -266,7 +248,7 @@ impl Days {
 
     /// A restriction, of few orders.
     fn restriction(&mut self) -> Restriction {
-        if self.draws.is_one_in(3) {
+        if self.draws.is_one_in(8) {
             self.draws.restriction()
         } else {
             Restriction::Free
@@ -316,7 +298,7 @@ pub fn count<R: AllocGlobal + Print>(rt: &R) -> Result<(), LoadFault> {
 }
 
 fn run_day<R: AllocGlobal>(rt: &R, days: &mut Days) -> Result<(), LoadFault> {
-    let settings = days.settings().ok_or(LoadFault)?;
+    let settings = days.draws.narrow_settings().ok_or(LoadFault)?;
     let mut loaded = Loaded::open(rt.alloc(), settings)?;
     days.run(&mut loaded)
 }
