@@ -174,6 +174,9 @@ impl<A: Allocator + Copy> Stops<A> {
         ensures held { self.new ≡ record self.old { stops = filter (λ (s : Stop). not (is_reached last s)) self.old.stops } }
         ensures pending { pending.new ≡ joined_by (filter (is_reached last) self.old.stops) pending.old }
     {
+        if self.queues.len() == 0 {
+            return;
+        }
         take_leaving(
             &mut self.queues,
             &mut self.names,
