@@ -1,4 +1,3 @@
-mod damaged_fields;
 pub(crate) mod fixtures;
 mod order_files;
 mod segment_files;

@@ -139,7 +139,7 @@ fn each_growth_refused_in_turn(rt: HostRuntime) -> Result<(), Fail> {
         if !refused.run(&rt, rt.alloc(), nth)? {
             let answered = refused.commands.wrapping_add(refused.lists);
             assert_eq!(rt; refused.openings, 1);
-            assert_eq!(rt; answered.wrapping_add(MADE_GOOD), nth - 2);
+            assert_eq!(rt; answered.wrapping_add(MADE_GOOD), nth.wrapping_sub(2));
             assert!(rt; refused.commands > 0 && refused.lists > 0);
             return Ok(());
         }

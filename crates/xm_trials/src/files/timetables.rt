@@ -1,4 +1,6 @@
 //! Rounds and shares of the rows of a day.
+ghost use Rattle.std.specs.Prelude.{◌<◌};
+
 use super::fixtures::{CASCADE, SEGMENT};
 use super::order_files::rows_of;
 use std::process::Abort;
@@ -51,7 +53,9 @@ fn rounds_are(rt: &(impl Abort + AllocGlobal), rows: &[Row], expected: &[Round])
 }
 
 /// Compares the share of a worker among two, each growth refused in turn.
-fn share_is(rt: &(impl Abort + AllocGlobal), rows: &[Row], worker: u32, indices: &[usize]) {
+fn share_is(rt: &(impl Abort + AllocGlobal), rows: &[Row], worker: u32, indices: &[usize])
+    requires { worker < 2 }
+{
     for nth in 1.. {
         let alloc = Refusing::new(rt.alloc(), nth);
         let answer = share(&alloc, rows, worker, 2);
