@@ -19,12 +19,12 @@ loop-desk-preserved g c =
     ap (λ (z : ℤ). to_z w128 (of_z w128 (to_z w128 c.loop-desk.cash-bits +ℤ z))) more ∙ to_z-of_z fits in
     record {
       cash = exact
-      ∙ ap (λ (z : ℤ). z +ℤ c.cash_in-cash.result) c.loop-desk.invariant.cash
-      ∙ ap (λ (z : ℤ). total_cash (map replay (take i desks)) member +ℤ z) c.cash_in-cash.ensures.cash
-      ∙ sym (total_cash-taken member desks i c.desk-item.result within c.desk-item.is);
+          ∙ ap (λ (z : ℤ). z +ℤ c.cash_in-cash.result) c.loop-desk.invariant.cash
+          ∙ ap (λ (z : ℤ). total_cash (map replay (take i desks)) member +ℤ z) c.cash_in-cash.ensures.cash
+          ∙ sym (total_cash-taken member desks i c.desk-item.result within c.desk-item.is);
       little = let few = sum-little (to_z w128 c.loop-desk.cash-bits) c.cash_in-cash.result (i * 2 ^ 80) (2 ^ 80) c.loop-desk.invariant.little c.cash_in-cash.ensures.little in
-      let same = ap unsigned_abs exact in
-      omega (arith, few, same);
+          let same = ap unsigned_abs exact in
+          omega (arith, few, same);
     }
 
 pub returns : goal.returns
