@@ -197,11 +197,12 @@ pub struct Order {
     /// The index of the member.
     pub member: u32,
     pub reference: u32,
-    pub side: Side,
     pub kind: OrderKind,
     /// The units that are not executed yet.
     pub rest: u32,
     pub validity: Validity,
+    // One byte each, and last, so that an order takes 32 bytes and not 36.
+    pub side: Side,
     pub restriction: Restriction,
 }
 

@@ -1,5 +1,6 @@
 //! The texts of prices and money, and the loop that writes a text.
-ghost use Rattle.std.specs.Prelude.{◌≡◌, ◌+◌, ◌<◌, ◌≤◌, ◌++◌, length, OnOk, OnErr};
+ghost use Rattle.std.specs.Prelude.{◌≡◌, ◌+◌, ◌/◌, ◌%◌, ◌<◌, ◌≤◌, ◌++◌, length, OnOk, OnErr};
+ghost use Rattle.std.specs.Fmt.{decimal};
 ghost use Rattle.std.specs.Io.KnownBytes.{Appends};
 ghost use Rattle.xm_ticks.specs.Writing.{AppendsPrefix, amount_text, price_text, money_text};
 
@@ -56,17 +57,37 @@ fn amount_text(sign: &[u8], amount: u128) -> ArrayVec<u8, 48>
     ensures { result.items ≡ sign.now ++ amount_text amount }
 {
     let mut text = ArrayVec::new();
-    let mut whole = Buffer::new();
     text.try_extend_from_slice(sign).unwrap();
-    text.try_extend_from_slice(whole.format(amount / 10_000).as_bytes())
-        .unwrap();
+    let decimals = push_euros(&mut text, amount);
     text.push(b'.');
-    let decimals = (amount % 10_000) as u16;
     text.push(digit(decimals / 1000));
     text.push(digit(decimals / 100 % 10));
     text.push(digit(decimals / 10 % 10));
     text.push(digit(decimals % 10));
     text
+}
+
+/// Adds the whole euros of an amount to a text, and answers the ten-thousandths that are left over. Nearly every amount fits
+/// 64 bits, which are divided and written faster.
+fn push_euros(text: &mut ArrayVec<u8, 48>, amount: u128) -> u16
+    requires { length text.old.items ≤ 1 }
+    ensures euros { text.new.items ≡ text.old.items ++ decimal (amount / 10000) }
+    ensures rest { result ≡ amount % 10000 }
+    ensures fits { length text.new.items ≤ length text.old.items + 39 }
+{
+    let mut euros = Buffer::new();
+    match u64::try_from(amount) {
+        Ok(small) => {
+            text.try_extend_from_slice(euros.format(small / 10_000).as_bytes())
+                .unwrap();
+            (small % 10_000) as u16
+        }
+        Err(_) => {
+            text.try_extend_from_slice(euros.format(amount / 10_000).as_bytes())
+                .unwrap();
+            (amount % 10_000) as u16
+        }
+    }
 }
 
 /// The character of a digit.
