@@ -73,6 +73,7 @@ impl<A: Allocator + Copy> BoundedSet<A> {
     }
 
     /// Makes all the room that a price needs, if it has none yet.
+    #[inline(always)]
     pub fn reserve(&mut self, price: u32) -> Result<(), AllocError>
         requires { price < PRICES }
         ensures room { OnOk result (HasRoom self.new price) }

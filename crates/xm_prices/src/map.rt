@@ -54,6 +54,7 @@ impl<V: Copy, A: Allocator + Copy> PriceMap<V, A> {
     }
 
     /// Makes all the room that a price needs, if it has none yet.
+    #[inline(always)]
     pub fn reserve(&mut self, price: u32) -> Result<(), AllocError>
         requires { price < PRICES }
         ensures room { OnOk result (HasRoom self.new price) }
@@ -113,6 +114,7 @@ impl<V: Copy, A: Allocator + Copy> PriceMap<V, A> {
     }
 
     /// Makes the page of a price that has none, and all pages where this is the first.
+    #[inline(never)]
     fn make_room(&mut self, price: u32) -> Result<(), AllocError>
         requires in_range { price < PRICES }
         requires none { HasRoom self.old price → ⊥ }

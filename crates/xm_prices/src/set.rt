@@ -55,6 +55,7 @@ impl<A: Allocator + Copy> PriceSet<A> {
     }
 
     /// Makes all the room that a price needs, if it has none yet.
+    #[inline(always)]
     pub fn reserve(&mut self, price: u32) -> Result<(), AllocError>
         requires { price < PRICES }
         ensures room { OnOk result (HasRoom self.new price) }
@@ -157,6 +158,7 @@ impl<A: Allocator + Copy> PriceSet<A> {
     }
 
     /// Makes the page of a price that has none, and all pages where this is the first.
+    #[inline(never)]
     fn make_room(&mut self, price: u32) -> Result<(), AllocError>
         requires in_range { price < PRICES }
         requires none { HasRoom self.old price → ⊥ }
