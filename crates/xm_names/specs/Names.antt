@@ -1,5 +1,5 @@
 -- The names of members: a member's own references, each with a key.
-use Rattle.std.specs.Prelude.{◌≡◌, ℕ, nat_eq, List, Option, Some, None, slice_get}
+use Rattle.std.specs.Prelude.{◌≡◌, ℕ, nat_eq, List, length, Option, Some, None, option_map, slice_get}
 use Rattle.std.specs.Map as map
 
 -- the keys of one member's references, and how many names more there is room for
@@ -18,6 +18,16 @@ key_among reference (Some names) = key_of reference names
 abbrev pub room_among : Option NamesOfMember → ℕ
 room_among None = 0
 room_among (Some names) = names.room
+
+-- the key of a name of a table, by its position there
+abbrev pub key_in : Option (ℕ × NamesOfMember) → ℕ → Option ℕ
+key_in None index = None
+key_in (Some table) index = option_map (λ (name : ℕ × ℕ). name.1) (slice_get table.1.entries index)
+
+-- how many names a table has
+abbrev pub count_in : Option (ℕ × NamesOfMember) → ℕ
+count_in None = 0
+count_in (Some table) = length table.1.entries
 
 -- the names of a member, where it has had any
 abbrev pub names_of : List (ℕ × NamesOfMember) → ℕ → Option NamesOfMember

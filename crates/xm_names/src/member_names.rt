@@ -1,5 +1,6 @@
 //! The names of one member.
-ghost use Rattle.std.specs.Prelude.{◌≡◌, ℕ, ◌+◌, ◌-◌, ◌<◌, ◌==◌, [], None, Some, IfNone, IfSome, OnErr, OnOk, if◌then◌else◌};
+ghost use Rattle.std.specs.Prelude.{◌≡◌, ℕ, ◌+◌, ◌-◌, ◌<◌, ◌==◌, [], None, Some, IfNone, IfSome, OnErr, OnOk, if◌then◌else◌, length, slice_get};
+ghost use Rattle.std.specs.Option.{option_map};
 ghost use Rattle.xm_names.specs.Names.{key_of};
 
 use indexmap::IndexMap;
@@ -64,6 +65,23 @@ impl<S: BuildHasher, A: Allocator> MemberNames<S, A> {
         ensures { result ≡ key_of reference self.now }
     {
         self.keys.get(&reference).copied()
+    }
+
+    /// How many names there are.
+    pub fn len(&self) -> usize
+        ensures { result ≡ length self.now.entries }
+    {
+        self.keys.len()
+    }
+
+    /// The key of the name at a position.
+    pub fn key_at(&self, index: usize) -> Option<usize>
+        ensures { result ≡ option_map (λ (name : ℕ × ℕ). name.1) (slice_get self.now.entries index) }
+    {
+        match self.keys.get_index(index) {
+            Some((_reference, key)) => Some(*key),
+            None => None,
+        }
     }
 
     /// Gives a reference that has none a key, in reserved room.

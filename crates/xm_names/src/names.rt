@@ -1,8 +1,8 @@
 //! The names of all members.
 #![tactic(auto, unfolding(crate::specs::Names::lookup, crate::specs::Names::room))]
 
-ghost use Rattle.std.specs.Prelude.{◌≡◌, ℕ, ◌+◌, ◌-◌, ◌<◌, ◌==◌, ◌&&◌, None, Some, IfNone, IfSome, OnErr, OnOk, if◌then◌else◌};
-ghost use Rattle.xm_names.specs.Names.{StandsAt, lookup, names_of, room};
+ghost use Rattle.std.specs.Prelude.{◌≡◌, ℕ, ◌+◌, ◌-◌, ◌<◌, ◌==◌, ◌&&◌, None, Some, IfNone, IfSome, OnErr, OnOk, if◌then◌else◌, length, slice_get};
+ghost use Rattle.xm_names.specs.Names.{StandsAt, count_in, key_in, lookup, names_of, room};
 
 use crate::member_names::MemberNames;
 use indexmap::IndexMap;
@@ -159,6 +159,33 @@ impl<S: BuildHasher, A: Allocator> Names<S, A> {
     {
         match self.place(member) {
             Some(place) => self.members.get_index_mut(place).unwrap().remove(reference),
+            None => None,
+        }
+    }
+
+    /// How many members have a table.
+    pub fn tables(&self) -> usize
+        ensures { result ≡ length self.now }
+    {
+        self.members.len()
+    }
+
+    /// How many names the table at a position has.
+    pub fn count_at(&self, place: usize) -> usize
+        ensures { result ≡ count_in (slice_get self.now place) }
+    {
+        match self.members.get_index(place) {
+            Some((_member, names)) => names.len(),
+            None => 0,
+        }
+    }
+
+    /// The key of the name at a position of the table at a position.
+    pub fn key_at(&self, place: usize, index: usize) -> Option<usize>
+        ensures { result ≡ key_in (slice_get self.now place) index }
+    {
+        match self.members.get_index(place) {
+            Some((_member, names)) => names.key_at(index),
             None => None,
         }
     }
