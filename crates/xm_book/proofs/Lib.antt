@@ -1,6 +1,7 @@
 pub mod Collecting
 pub mod Cutting
 pub mod Expiring
+pub mod FirstKinds
 pub mod Firsts
 pub mod Growing
 pub mod Heading

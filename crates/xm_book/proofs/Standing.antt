@@ -108,7 +108,7 @@ rises-kept p low (x ∷ xs) high h =
     kept_if false at le rest = rises-lower low (x.time + 1) (filter p xs) high (omega arith) rest
 
 -- the first of a list whose times rise is the earliest
-earliest-head : (low : ℕ) (m : Listed) (ms : List Listed) (high : ℕ) (y : Listed) → rises low (m ∷ ms) high ≡ true → Contains (m ∷ ms) y → is_earlier y m ≡ false
+pub earliest-head : (low : ℕ) (m : Listed) (ms : List Listed) (high : ℕ) (y : Listed) → rises low (m ∷ ms) high ≡ true → Contains (m ∷ ms) y → is_earlier y m ≡ false
 earliest-head low m ms high y h c = le-ltb y.time m.time (late_by (Contains-cases m ms y c))
   where
     late_by : (m ≡ y) ⊎ Contains ms y → m.time ≤ y.time

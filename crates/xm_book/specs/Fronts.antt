@@ -1,5 +1,5 @@
 -- What the queues answer of the active orders: which is the first of some in time or in priority, and which limit is the best.
-use Rattle.std.specs.Prelude.{◌≡◌, ℕ, Bool, true, false, ◌&&◌, ◌||◌, not, if◌then◌else◌, nat_lt, List, Contains, Option, Some, None}
+use Rattle.std.specs.Prelude.{◌≡◌, ℕ, Bool, true, false, ◌&&◌, ◌||◌, not, if◌then◌else◌, nat_lt, List, Contains, Option, Some, None, option_map}
 use Rattle.xm_book.specs.Levels.{same_restriction}
 use Rattle.xm_book.specs.Listing.{listed_entry}
 use Rattle.xm_book.specs.declared.entry.Entry.{Entry}
@@ -67,6 +67,10 @@ pub record IsFirst (ahead : Listed → Listed → Bool) (passes : Listed → Boo
 abbrev pub IsFirstOf : (Listed → Listed → Bool) → (Listed → Bool) → List Listed → Option Entry → Type 0
 IsFirstOf ahead passes xs None = (x : Listed) → Contains xs x → passes x ≡ false
 IsFirstOf ahead passes xs (Some e) = (x : Listed) × (e ≡ listed_entry x) × IsFirst ahead passes xs x
+
+-- the kind of the first, or none where none passes
+abbrev pub IsKindOfFirst : (Listed → Listed → Bool) → (Listed → Bool) → List Listed → Option OrderKind → Type 0
+IsKindOfFirst ahead passes xs kind = (first : Option Entry) × IsFirstOf ahead passes xs first × (kind ≡ option_map (λ (e : Entry). e.order.kind) first)
 
 -- the best limit of the orders that pass a test, or none where none passes
 abbrev pub IsBestOf : Side → (Listed → Bool) → List Listed → Option ℕ → Type 0

@@ -234,6 +234,14 @@ impl<A: Allocator + Copy> Book<A> {
         order_of(self.queues.first(side, phase))
     }
 
+    /// The kind of the best active order of a side in priority.
+    #[inline(always)]
+    pub fn best_kind(&self, side: Side, phase: Phase) -> Option<OrderKind>
+        ensures { result ≡ option_map (λ (o : Order). o.kind) (best_order phase side self.now.orders) }
+    {
+        self.queues.first_kind(side, phase)
+    }
+
     /// Takes units from the best active order of a side, which has as many. An order that has none left is gone, and
     /// another keeps its place in time. Where no order of the side is active, nothing changes.
     pub fn fill_best(&mut self, side: Side, phase: Phase, units: u32)

@@ -9,8 +9,46 @@ use crate::order_queues::OrderQueues;
 use std::alloc::Allocator;
 use xm_names::{Names, Seed};
 
-/// Takes out the orders that aren't valid beyond a day, with their names, in one pass over the keys.
+/// Takes out the orders that aren't valid beyond a day, with their names: first member by member, and then, in one pass over
+/// the keys, those that are left. Few are; but the names of a member lie together, and by their keys each would be looked
+/// up in another member's table.
 pub fn drop_expired<A: Allocator + Copy>(
+    queues: &mut OrderQueues<A>,
+    names: &mut Names<Seed, A>,
+    today: u32,
+)
+    requires { IsIndexed queues.old names.old }
+    ensures indexed { IsIndexed queues.new names.new }
+    ensures left { queues.new ≡ record queues.old { orders = filter (outlives today) queues.old.orders } }
+{
+    for place in 0..names.tables() {
+        drop_named(queues, names, place, today);
+    }
+    drop_left(queues, names, today);
+}
+
+/// Takes out the orders of the member whose names are at this place, where they aren't valid beyond a day, from the last
+/// name on, since the last name moves to the place of one that leaves.
+fn drop_named<A: Allocator + Copy>(
+    queues: &mut OrderQueues<A>,
+    names: &mut Names<Seed, A>,
+    place: usize,
+    today: u32,
+)
+    requires { IsIndexed queues.old names.old }
+    ensures indexed { IsIndexed queues.new names.new }
+    ensures rest { queues.new ≡ record queues.old { orders = queues.new.orders } }
+    ensures valid { filter (outlives today) queues.new.orders ≡ filter (outlives today) queues.old.orders }
+{
+    for index in (0..names.count_at(place)).rev() {
+        if let Some(key) = names.key_at(place, index) {
+            drop_if_expired(queues, names, key, today);
+        }
+    }
+}
+
+/// Takes out the orders that aren't valid beyond a day, in one pass over the keys.
+fn drop_left<A: Allocator + Copy>(
     queues: &mut OrderQueues<A>,
     names: &mut Names<Seed, A>,
     today: u32,

@@ -1,8 +1,9 @@
 //! The orders of a book in their queues.
-ghost use Rattle.std.specs.Prelude.{◌≡◌, ◌+◌, ◌++◌, ◌∷◌, [], ◌<◌, ◌≤◌, ◌^◌, ◌&&◌, Contains, IfOk, IfSome, IsTrue, OnErr, OnOk, Some, filter, length, map, option_copied, sum_by, true};
+ghost use Rattle.std.specs.Prelude.{ℕ, List, ◌≡◌, ◌+◌, ◌++◌, ◌∷◌, [], ◌<◌, ◌≤◌, ◌^◌, ◌&&◌, Contains, IfOk, IfSome, IsTrue, OnErr, OnOk, Some, filter, length, map, option_copied, sum_by, true};
 ghost use Rattle.std.specs.List.{list_all, list_any};
+ghost use Rattle.std.specs.Option.{option_map};
 ghost use Rattle.xm_book.specs.Expiry.{is_below};
-ghost use Rattle.xm_book.specs.Fronts.{IsBestOf, IsFirstOf, better_of_two, earlier_of_two, goes_ahead, has_kind, has_kind_later, has_worse, is_any, is_earlier, is_in, is_on};
+ghost use Rattle.xm_book.specs.Fronts.{IsBestOf, IsFirstOf, IsKindOfFirst, better_of_two, earlier_of_two, goes_ahead, has_kind, has_kind_later, has_worse, is_any, is_earlier, is_in, is_on};
 ghost use Rattle.xm_book.specs.Listing.{is_other_key, keys_in, listed_entry, listed_order, reduced_at, rises};
 ghost use Rattle.xm_book.specs.Places.{place_of, same_place};
 ghost use Rattle.xm_book.specs.Queues.{units_at};
@@ -10,8 +11,11 @@ ghost use Rattle.xm_book.specs.Reserved.{Gains};
 ghost use Rattle.xm_book.specs.Slots.{is_of};
 ghost use Rattle.xm_book.specs.declared.listing.Listed.{Listed};
 ghost use Rattle.xm_queues.specs.Keys.{AreDistinct};
+ghost use Rattle.xm_queues.specs.Queue.{IsQueue, key_limit};
+ghost use Rattle.xm_queues.specs.declared.queues.Ends.{Ends};
 ghost use Rattle.xm_rules.specs.Active.{active, is_active};
 ghost use Rattle.xm_rules.specs.Commands.{is_in_range};
+ghost use Rattle.xm_rules.specs.declared.orders.OrderKind.TheVariants.{Limit};
 
 use crate::entry::Entry;
 use crate::levels::{level_for, put_level, reserve_level, set_level};
@@ -95,9 +99,7 @@ impl<A: Allocator + Copy> OrderQueues<A> {
         ensures err { OnErr result (self.new ≡ self.old) }
     {
         let orders = self.entries.len() + self.places.len() + 1;
-        let capacity = capacity_for(orders, self.entries.capacity());
-        self.links.reserve_key(capacity - 1)?;
-        self.entries.grow_to(capacity)?;
+        hold(&mut self.links, &mut self.entries, orders)?;
         reserve_level(&mut self.ladders, place, self.places.len() + 1)?;
         self.places.add(place);
         Ok(())
@@ -176,17 +178,46 @@ impl<A: Allocator + Copy> OrderQueues<A> {
     }
 }
 
-/// The capacity for so many orders: the present one where it is enough, or else at least twice that.
-fn capacity_for(orders: usize, capacity: usize) -> usize
-    requires { orders ≤ 2000000 }
-    ensures holds { orders ≤ result }
-    ensures grows { capacity ≤ result }
+/// Makes room for so many orders among entries and links, where it isn't there.
+#[inline(always)]
+fn hold<A: Allocator + Copy>(
+    links: &mut Queues<A>,
+    entries: &mut Slots<A>,
+    orders: usize,
+) -> Result<(), AllocError>
+    requires few { orders ≤ 2000000 }
+    requires fits { entries.old.capacity ≤ key_limit links.old }
+    ensures queues { (ends : Ends) (keys : List ℕ) → IsQueue links.old ends keys → IsQueue links.new ends keys }
+    ensures entries { entries.new ≡ record entries.old { capacity = entries.new.capacity } }
+    ensures grows { entries.old.capacity ≤ entries.new.capacity }
+    ensures fits { entries.new.capacity ≤ key_limit links.new }
+    ensures holds { OnOk result (orders ≤ entries.new.capacity) }
 {
-    if orders <= capacity {
-        capacity
-    } else {
-        orders.max(2 * capacity).max(4)
+    if orders <= entries.capacity() {
+        return Ok(());
     }
+    grow(links, entries, orders)
+}
+
+/// The same where it isn't there: room for at least twice as many as before.
+#[inline(never)]
+fn grow<A: Allocator + Copy>(
+    links: &mut Queues<A>,
+    entries: &mut Slots<A>,
+    orders: usize,
+) -> Result<(), AllocError>
+    requires few { orders ≤ 2000000 }
+    requires more { entries.old.capacity < orders }
+    requires fits { entries.old.capacity ≤ key_limit links.old }
+    ensures queues { (ends : Ends) (keys : List ℕ) → IsQueue links.old ends keys → IsQueue links.new ends keys }
+    ensures entries { entries.new ≡ record entries.old { capacity = entries.new.capacity } }
+    ensures grows { entries.old.capacity ≤ entries.new.capacity }
+    ensures fits { entries.new.capacity ≤ key_limit links.new }
+    ensures holds { OnOk result (orders ≤ entries.new.capacity) }
+{
+    let capacity = orders.max(2 * entries.capacity()).max(4);
+    links.reserve_key(capacity - 1)?;
+    entries.grow_to(capacity)
 }
 
 impl<A: Allocator + Copy> OrderQueues<A> {
@@ -230,6 +261,17 @@ fn better_of_two(side: Side, first: Option<Price>, second: Option<Price>) -> Opt
                 }
             }
         },
+    }
+}
+
+/// The kind of the orders at a limit, if there is one.
+#[inline(always)]
+fn limited(limit: Option<Price>) -> Option<OrderKind>
+    ensures { result ≡ option_map Limit limit }
+{
+    match limit {
+        None => None,
+        Some(limit) => Some(OrderKind::Limit(limit)),
     }
 }
 
@@ -292,6 +334,19 @@ impl<A: Allocator + Copy> OrderQueues<A> {
         match self.front(side, phase, &OrderKind::Market) {
             Some(entry) => Some(entry),
             None => self.first_limited(side, phase, &None),
+        }
+    }
+
+    /// The kind of the best active order of a side in priority. An order that has a limit isn't read.
+    #[inline(always)]
+    pub fn first_kind(&self, side: Side, phase: Phase) -> Option<OrderKind>
+        ensures kind { IsKindOfFirst (goes_ahead side) (is_on phase side is_any) self.now.orders result }
+        ensures rise { rises 0 self.now.orders self.now.adds ≡ true }
+    {
+        let _ = &self.listing;
+        match self.front(side, phase, &OrderKind::Market) {
+            Some(_entry) => Some(OrderKind::Market),
+            None => limited(self.limit_after(side, phase, &None)),
         }
     }
 

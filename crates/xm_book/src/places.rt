@@ -13,12 +13,12 @@ use xm_rules::{Order, OrderKind, Restriction, Side};
 /// index of names.
 #[derive(Clone, Copy, PartialEq, Eq, Hash, Debug)]
 pub struct Place {
-    pub side: Side,
-    pub kind: OrderKind,
-    pub restriction: Restriction,
     /// The index of the member.
     pub member: u32,
     pub reference: u32,
+    pub kind: OrderKind,
+    pub side: Side,
+    pub restriction: Restriction,
 }
 
 impl Place {

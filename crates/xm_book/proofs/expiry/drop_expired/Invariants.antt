@@ -1,14 +1,11 @@
-use Rattle.std.proofs.Common.{◌≡◌, true, filter}
-use Rattle.std.specs.List.{list_all}
-use Rattle.xm_book.specs.Expiry.{is_below, is_done, outlives}
+use Rattle.std.proofs.Common.{◌≡◌, filter}
+use Rattle.xm_book.specs.Expiry.{outlives}
 use Rattle.xm_book.specs.Indexed.{IsIndexed}
 use Rattle.xm_book.proofs.expiry.drop_expired.Given as goal
 
-abbrev pub invariant-loop-key : goal.invariant-loop-key
-invariant-loop-key g l = record {
+abbrev pub invariant-loop-place : goal.invariant-loop-place
+invariant-loop-place g l = record {
   indexed : IsIndexed l.queues l.names;
   rest : l.queues ≡ record l.initial.queues { orders = l.queues.orders };
   valid : filter (outlives l.today) l.queues.orders ≡ filter (outlives l.today) l.initial.queues.orders;
-  below : list_all (is_below l.key-end) l.queues.orders ≡ true;
-  done : list_all (is_done l.today l.key) l.queues.orders ≡ true;
 }

@@ -1,4 +1,4 @@
-use Rattle.std.proofs.Common.{◌≤◌, length, arith}
+use Rattle.std.proofs.Common.{arith}
 use Rattle.xm_book.proofs.Growing.{grown-places, grown-queued}
 use Rattle.xm_book.proofs.Keeping.{places-kept}
 use Rattle.xm_book.proofs.order_queues.OrderQueues.reserve.Goals as goal
@@ -7,13 +7,11 @@ pub invariant_of-self-in_err-reserve_level : goal.invariant_of-self-in_err-reser
 invariant_of-self-in_err-reserve_level g c =
     let q = c.self.inside in
     let kept = c.self.invariant in
-    let capacity = c.capacity_for-capacity.result in
-    let fits : capacity ≤ length c.reserve_key.new.self = omega (arith, c.in_ok-reserve_key.ensures.room) in
+    let h = c.hold.ensures in
     let e = c.reserve_level.ensures in
-    rw c.in_ok-grow_to.ensures.ok (record {
-      queued = grown-queued q.listing q.entries q.links q.ladders capacity c.reserve_key.new.self c.reserve_key.ensures.same fits c.reserve_level.new.ladders e.same e.kinds_kept kept.queued;
-      places = places-kept q.listing q.places q.entries q.ladders kept.places q.listing (omega arith) _ (omega (arith, c.capacity.ensures.capacity, c.capacity_for-capacity.ensures.grows))
-          c.reserve_level.new.ladders e.kinds_kept e.room_kept;
+    rw h.entries (record {
+      queued = grown-queued q.listing q.entries q.links q.ladders c.hold.new.entries.capacity c.hold.new.links h.queues h.fits c.reserve_level.new.ladders e.same e.kinds_kept kept.queued;
+      places = places-kept q.listing q.places q.entries q.ladders kept.places q.listing (omega arith) _ h.grows c.reserve_level.new.ladders e.kinds_kept e.room_kept;
       rise = kept.rise;
     })
 
@@ -21,15 +19,14 @@ pub invariant_of-self-2 : goal.invariant_of-self-2
 invariant_of-self-2 g c =
     let q = c.self.inside in
     let kept = c.self.invariant in
-    let capacity = c.capacity_for-capacity.result in
-    let fits : capacity ≤ length c.reserve_key.new.self = omega (arith, c.in_ok-reserve_key.ensures.room) in
+    let h = c.hold.ensures in
     let e = c.reserve_level.ensures in
     let ok = c.in_ok-reserve_level.ensures in
     let few = rw (← c.self.view_is) at c.requires in
-    rw c.in_ok-grow_to.ensures.ok (record {
-      queued = grown-queued q.listing q.entries q.links q.ladders capacity c.reserve_key.new.self c.reserve_key.ensures.same fits c.reserve_level.new.ladders e.same e.kinds_kept kept.queued;
-      places = grown-places q.listing q.entries q.links q.ladders capacity c.reserve_key.new.self c.reserve_key.ensures.same fits c.reserve_level.new.ladders e.same e.kinds_kept
+    rw h.entries (record {
+      queued = grown-queued q.listing q.entries q.links q.ladders c.hold.new.entries.capacity c.hold.new.links h.queues h.fits c.reserve_level.new.ladders e.same e.kinds_kept kept.queued;
+      places = grown-places q.listing q.entries q.links q.ladders c.hold.new.entries.capacity c.hold.new.links h.queues h.fits c.reserve_level.new.ladders e.same e.kinds_kept
           e.room_kept q.places kept.places c.args.place.now c.add.new.self c.add.ensures ok.kind (rw c.len-3.ensures at ok.room) few
-          (omega (arith, c.capacity_for-capacity.ensures.holds, c.len.ensures, c.len-2.ensures, kept.queued.count));
+          (omega (arith, c.in_ok-hold.ensures.holds, c.len.ensures, c.len-2.ensures, kept.queued.count));
       rise = kept.rise;
     })

@@ -2,7 +2,7 @@ use Rattle.std.proofs.Common.{◌≡◌, ℕ, true, refl, sym, subst, ◌∙◌,
 use Rattle.std.specs.List.{list_all}
 use Rattle.xm_book.specs.Expiry.{is_done}
 use Rattle.xm_book.proofs.Expiring.{all-valid, none-done}
-use Rattle.xm_book.proofs.expiry.drop_expired.Goals as goal
+use Rattle.xm_book.proofs.expiry.drop_left.Goals as goal
 
 pub loop-key-init : goal.loop-key-init
 loop-key-init g c = record {
