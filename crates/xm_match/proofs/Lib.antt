@@ -6,3 +6,4 @@ mod Lists
 mod NextTrade
 mod Progress
 mod Trading
+mod Unmet

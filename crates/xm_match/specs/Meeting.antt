@@ -1,5 +1,5 @@
 -- How an incoming order meets the orders of the other side, and its next trade.
-use Rattle.std.specs.Prelude.{ℕ, ◌+◌, ◌<◌, ◌≤◌, min, Bool, true, false, ◌&&◌, ◌==◌, if◌then◌else◌, List, length, Option, Some, None}
+use Rattle.std.specs.Prelude.{ℕ, ◌+◌, ◌<◌, ◌≤◌, min, Bool, true, false, ◌&&◌, ◌==◌, if◌then◌else◌, List, length, Option, Some, None, option_map}
 use Rattle.xm_book.specs.Queues.{best_order}
 use Rattle.xm_match.specs.declared.meeting.Next.{Next}
 use Rattle.xm_match.specs.declared.meeting.Next.TheVariants.{Nothing, Inside, Outside}
@@ -55,6 +55,14 @@ next_of t o = if is_met t o.kind then (if is_inside t o.kind then Inside o else 
 abbrev pub next_of_any : Terms → Option Order → Next
 next_of_any t None = Nothing
 next_of_any t (Some o) = next_of t o
+
+-- an incoming order meets the best order of the other side, which is of this kind, inside the ranges or not
+abbrev pub meets_kind : Order → Option OrderKind → Bool
+meets_kind incoming None = false
+meets_kind incoming (Some kind) = meets incoming.side incoming.kind kind
+
+abbrev pub meets_any : List Order → Order → Bool
+meets_any orders incoming = meets_kind incoming (option_map (λ (o : Order). o.kind) (best_order Continuous (opposite incoming.side) orders))
 
 -- what an incoming order meets next of which so many units are left
 abbrev pub next_met : Terms → ℕ → List Order → Next

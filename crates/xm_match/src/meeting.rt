@@ -1,6 +1,6 @@
 //! What an incoming order meets next.
 ghost use Rattle.std.specs.Prelude.{◌≡◌, ◌≤◌};
-ghost use Rattle.xm_match.specs.Meeting.{is_outside, next_met, next_of};
+ghost use Rattle.xm_match.specs.Meeting.{is_outside, next_met};
 
 use crate::terms::Terms;
 use std::alloc::Allocator;
@@ -31,7 +31,7 @@ impl Next {
 }
 
 /// What an incoming order meets next of which so many units are left: the best order of the other side, inside the ranges
-/// or not.
+/// or not. That order is read where it is met inside them, and else its kind alone is asked.
 #[inline(always)]
 pub fn next_met<A: Allocator + Copy>(book: &Book<A>, terms: &Terms, units: u32) -> Next
     requires dynamic { terms.now.widths.dynamic ≤ 999 }
@@ -41,23 +41,17 @@ pub fn next_met<A: Allocator + Copy>(book: &Book<A>, terms: &Terms, units: u32) 
     if units == 0 {
         return Next::Nothing;
     }
+    let Some(kind) = book.best_kind(terms.other_side(), Phase::Continuous) else {
+        return Next::Nothing;
+    };
+    if !terms.is_met(&kind) {
+        return Next::Nothing;
+    }
+    if !terms.is_inside(&kind) {
+        return Next::Outside;
+    }
     match book.best(terms.other_side(), Phase::Continuous) {
         None => Next::Nothing,
-        Some(best) => next_of(terms, best),
-    }
-}
-
-/// How an incoming order meets the best order of the other side.
-fn next_of(terms: &Terms, best: &Order) -> Next
-    requires dynamic { terms.now.widths.dynamic ≤ 999 }
-    requires statics { terms.now.widths.statics ≤ 999 }
-    ensures { result ≡ next_of terms.now best.now }
-{
-    if !terms.is_met(best.kind) {
-        Next::Nothing
-    } else if terms.is_inside(best.kind) {
-        Next::Inside(*best)
-    } else {
-        Next::Outside
+        Some(best) => Next::Inside(*best),
     }
 }

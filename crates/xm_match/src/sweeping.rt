@@ -1,13 +1,13 @@
 //! The sweep of continuous trading: an incoming order takes the orders of the other side, the best first.
 ghost use Rattle.std.specs.Prelude.{◌≡◌, ◌+◌, ◌++◌, ◌≤◌, length};
-ghost use Rattle.xm_match.specs.Meeting.{EachUsesUp, sweep_of, trade_with};
+ghost use Rattle.xm_match.specs.Meeting.{EachUsesUp, meets_any, sweep_of, trade_with};
 ghost use Rattle.xm_rules.specs.Sweep.{filled, is_interrupted, orders_after_sweep, rest_after, sweep_trades};
 
 use crate::meeting::{Next, next_met};
 use crate::terms::Terms;
 use std::alloc::Allocator;
 use xm_book::{Book, Trades};
-use xm_rules::{Order, Trade, TradeKind, Widths};
+use xm_rules::{Order, Phase, Trade, TradeKind, Widths};
 use xm_ticks::Price;
 
 /// What a sweep came to.
@@ -26,6 +26,49 @@ pub struct Swept {
 /// auction trade, before the first fill; their widths are in thousandths, at most 999. There is room for as many trades as
 /// there are orders. The trades bear the number of the sweep. It takes no memory.
 pub fn sweep<A: Allocator + Copy, B: Allocator>(
+    book: &mut Book<A>,
+    incoming: &Order,
+    number: u64,
+    ref1: Price,
+    ref2: Price,
+    widths: &Widths,
+    trades: &mut Trades<B>,
+) -> Swept
+    requires dynamic { widths.now.dynamic ≤ 999 }
+    requires statics { widths.now.statics ≤ 999 }
+    requires room { length book.old.orders ≤ trades.old.room }
+    ensures orders { book.new ≡ record book.old { orders = orders_after_sweep (sweep_of book.old.orders incoming.now ref1 ref2 widths.now) } }
+    ensures trades { trades.new.trades ≡ trades.old.trades ++ sweep_trades number (sweep_of book.old.orders incoming.now ref1 ref2 widths.now) }
+    ensures room { trades.new.room + length (sweep_trades number (sweep_of book.old.orders incoming.now ref1 ref2 widths.now)) ≡ trades.old.room }
+    ensures used_up { EachUsesUp number (sweep_of book.old.orders incoming.now ref1 ref2 widths.now) }
+    ensures filled { result.filled ≡ filled (sweep_of book.old.orders incoming.now ref1 ref2 widths.now) }
+    ensures rest { result.rest ≡ rest_after (sweep_of book.old.orders incoming.now ref1 ref2 widths.now) }
+    ensures interrupted { result.interrupted ≡ is_interrupted (sweep_of book.old.orders incoming.now ref1 ref2 widths.now) }
+{
+    let _ = book.len(); // What every book keeps is known of one whose length is asked.
+    if meets_any(book, incoming) {
+        return sweep_met(book, incoming, number, ref1, ref2, widths, trades);
+    }
+    Swept {
+        filled: 0,
+        rest: incoming.rest,
+        interrupted: false,
+    }
+}
+
+/// Whether an incoming order meets an order of the other side, inside the ranges or not.
+#[inline(always)]
+fn meets_any<A: Allocator + Copy>(book: &Book<A>, incoming: &Order) -> bool
+    ensures { result ≡ meets_any book.now.orders incoming.now }
+{
+    match book.best_kind(incoming.side.opposite(), Phase::Continuous) {
+        None => false,
+        Some(kind) => incoming.kind.meets(incoming.side, kind),
+    }
+}
+
+/// The same as `sweep`, trade by trade.
+fn sweep_met<A: Allocator + Copy, B: Allocator>(
     book: &mut Book<A>,
     incoming: &Order,
     number: u64,

@@ -67,10 +67,10 @@ impl Terms {
     }
 
     /// Whether the incoming order meets one of this kind.
-    pub fn is_met(&self, kind: OrderKind) -> bool
-        ensures { result ≡ is_met self.now kind }
+    pub fn is_met(&self, kind: &OrderKind) -> bool
+        ensures { result ≡ is_met self.now kind.now }
     {
-        self.incoming.kind.meets(self.incoming.side, kind)
+        self.incoming.kind.meets(self.incoming.side, *kind)
     }
 
     /// The price at which an order of this kind is met.
@@ -84,13 +84,13 @@ impl Terms {
     }
 
     /// Whether the price at which an order of this kind is met is inside both ranges.
-    pub fn is_inside(&self, kind: OrderKind) -> bool
+    pub fn is_inside(&self, kind: &OrderKind) -> bool
         requires dynamic { self.now.widths.dynamic ≤ 999 }
         requires statics { self.now.widths.statics ≤ 999 }
-        ensures { result ≡ is_inside self.now kind }
+        ensures { result ≡ is_inside self.now kind.now }
     {
         self.widths
-            .is_inside_both(self.ref1, self.ref2, self.price_met(kind))
+            .is_inside_both(self.ref1, self.ref2, self.price_met(*kind))
     }
 
     /// Whether an order of this kind is met at a price inside both ranges.
@@ -99,6 +99,6 @@ impl Terms {
         requires statics { self.now.widths.statics ≤ 999 }
         ensures { result ≡ meets_inside self.now kind.now }
     {
-        self.is_met(*kind) && self.is_inside(*kind)
+        self.is_met(kind) && self.is_inside(kind)
     }
 }

@@ -1,7 +1,7 @@
 use Rattle.std.proofs.Common.{◌≡◌}
 use Rattle.xm_match.specs.Meeting.{next_met, sweep_of, terms_of}
 use Rattle.xm_match.proofs.Progress.{Progress}
-use Rattle.xm_match.proofs.sweeping.sweep.Given as goal
+use Rattle.xm_match.proofs.sweeping.sweep_met.Given as goal
 
 abbrev pub invariant-loop-next : goal.invariant-loop-next
 invariant-loop-next g l = record {
