@@ -13,6 +13,7 @@ ghost use Rattle.xm_rules.specs.declared.settings.TheConstants.{PHASE_COMMANDS_M
 
 use crate::unsettled::{Hand, Unsettled};
 use std::alloc::Allocator;
+use std::snapshot::Snapshot;
 use xm_auction::auction_price;
 use xm_book::Place;
 use xm_rules::{Auction, CallStage, Phase};
@@ -68,7 +69,7 @@ impl<A: Allocator + Copy> Unsettled<A> {
         ensures made { Makes self.old self.new }
     {
         self.phase = phase;
-        self.hand = Hand::Played;
+        self.hand = Snapshot::of(&Hand::Played);
     }
 
     /// The stage that a call goes on in, where its price is outside a range that this stage asks.
@@ -114,7 +115,7 @@ impl<A: Allocator + Copy> Unsettled<A> {
         self.tape
             .allot(&mut self.book, auction, stage, self.sweeps, price, volume);
         self.phase = auction.next_phase();
-        self.hand = Hand::Played;
+        self.hand = Snapshot::of(&Hand::Played);
     }
 
     /// The day ends: orders and stops that aren't valid beyond it are deleted.

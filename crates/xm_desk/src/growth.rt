@@ -12,6 +12,7 @@ ghost use Rattle.xm_ticks.specs.declared.numbers.TheConstants.{MAX_PRICE};
 use crate::entries::Entry;
 use crate::unsettled::{Hand, Unsettled};
 use std::alloc::Allocator;
+use std::snapshot::Snapshot;
 use xm_book::Place;
 use xm_rules::{Command, OutOfMemory, Stop};
 
@@ -101,7 +102,7 @@ impl<A: Allocator + Copy> Unsettled<A> {
         ensures err { OnErr result (self.new ≡ self.old) }
     {
         self.tape.reserve(self.book.len() + self.stops.len() + 1)?;
-        self.hand = Hand::Spare;
+        self.hand = Snapshot::of(&Hand::Spare);
         Ok(())
     }
 
@@ -115,7 +116,7 @@ impl<A: Allocator + Copy> Unsettled<A> {
     {
         self.tape.reserve(self.book.len() + self.stops.len() + 1)?;
         self.book.reserve_for(place)?;
-        self.hand = Hand::Kept(*place);
+        self.hand = Snapshot::of(&Hand::Kept(*place));
         Ok(())
     }
 
@@ -132,7 +133,7 @@ impl<A: Allocator + Copy> Unsettled<A> {
         self.pending.reserve(self.stops.len() + 1)?;
         self.stops.reserve_one(stop)?;
         self.book.reserve_for(&Place::of(&stop.order_of_stop()))?;
-        self.hand = Hand::Held(*stop);
+        self.hand = Snapshot::of(&Hand::Held(*stop));
         Ok(())
     }
 }

@@ -19,6 +19,7 @@ ghost use Rattle.xm_rules.specs.declared.phases.Phase.TheVariants.{Call};
 use crate::entries::Entry;
 use crate::unsettled::{Hand, Unsettled};
 use std::alloc::Allocator;
+use std::snapshot::Snapshot;
 use xm_book::Place;
 use xm_match::fillable;
 use xm_rules::{Auction, CallStage, Condition, Order, Phase, Stop};
@@ -60,7 +61,7 @@ impl<A: Allocator + Copy> Unsettled<A> {
         ensures made { Makes self.old self.new }
     {
         self.stops.add(stop);
-        self.hand = Hand::Played;
+        self.hand = Snapshot::of(&Hand::Played);
     }
 
     /// An order comes in. In continuous trading a free one is executed, and its rest joins the book last; any other order
@@ -133,7 +134,7 @@ impl<A: Allocator + Copy> Unsettled<A> {
         self.phase = phase_after(self.phase, swept.interrupted);
         if swept.rest == 0 {
             self.book.release(&Place::of(order));
-            self.hand = Hand::Played;
+            self.hand = Snapshot::of(&Hand::Played);
         }
         swept.rest
     }
@@ -145,7 +146,7 @@ impl<A: Allocator + Copy> Unsettled<A> {
         ensures made { Makes self.old self.new }
     {
         self.book.add(order);
-        self.hand = Hand::Played;
+        self.hand = Snapshot::of(&Hand::Played);
     }
 
     /// Gives up the place that is kept for an order of which nothing is left.
@@ -155,7 +156,7 @@ impl<A: Allocator + Copy> Unsettled<A> {
         ensures made { Makes self.old self.new }
     {
         self.book.release(&place);
-        self.hand = Hand::Played;
+        self.hand = Snapshot::of(&Hand::Played);
     }
 }
 

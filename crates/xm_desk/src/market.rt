@@ -18,6 +18,7 @@ use crate::tape::Tape;
 use crate::unsettled::{Hand, Unsettled};
 use std::alloc::Allocator;
 use std::marker::Model;
+use std::snapshot::Snapshot;
 use xm_auction::auction_price;
 use xm_book::Book;
 use xm_names::Seed;
@@ -65,7 +66,7 @@ impl<A: Allocator + Copy> Market<A> {
                 pending: Pending::new(alloc),
                 tape: Tape::new(alloc, settings.reference),
                 sweeps: 0,
-                hand: Hand::Empty,
+                hand: Snapshot::of(&Hand::Empty),
             },
         }
     }
@@ -84,7 +85,9 @@ impl<A: Allocator + Copy> Market<A> {
         self.inside.stops.list()
     }
 
-    /// Why a command is refused, memory aside.
+    /// Why a command is refused, memory aside. Where this was part of `Desk::apply`, the command was taken apart there, byte by
+    /// byte, and put together again for the journal.
+    #[inline(never)]
     pub fn refusal_of(&self, command: &Command) -> Option<Refusal>
         ensures { result ≡ refusal_of self.now.state command.now }
     {
@@ -231,6 +234,6 @@ impl<A: Allocator + Copy> Unsettled<A> {
         ensures { self.new ≡ record self.old { state = record self.old.state { accepted = self.old.state.accepted + 1 }; hand = Empty } }
     {
         self.accepted += 1;
-        self.hand = Hand::Empty;
+        self.hand = Snapshot::of(&Hand::Empty);
     }
 }

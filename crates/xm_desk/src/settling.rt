@@ -7,6 +7,7 @@ ghost use Rattle.xm_rules.specs.Settling.{reached, released, settle};
 
 use crate::unsettled::{Hand, Unsettled};
 use std::alloc::Allocator;
+use std::snapshot::Snapshot;
 use xm_book::Place;
 use xm_rules::Stop;
 
@@ -57,7 +58,7 @@ impl<A: Allocator + Copy> Unsettled<A> {
         ensures none { IfNone result (self.new ≡ self.old) }
     {
         let stop = self.pending.pop()?;
-        self.hand = Hand::Kept(Place::of(&stop.order_of_stop()));
+        self.hand = Snapshot::of(&Hand::Kept(Place::of(&stop.order_of_stop())));
         Some(stop)
     }
 }

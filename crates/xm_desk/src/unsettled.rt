@@ -11,6 +11,7 @@ use crate::entries::Entry;
 use crate::tape::Tape;
 use std::alloc::Allocator;
 use std::marker::Model;
+use std::snapshot::Snapshot;
 use xm_book::{Book, Place};
 use xm_rules::{Auction, Command, DeskSettings, Phase, Stop};
 use xm_stops::{Pending, Stops};
@@ -44,7 +45,8 @@ pub struct Unsettled<A: Allocator + Copy> {
     pub tape: Tape<A>,
     // The number of sweeps, and of calls that traded.
     pub sweeps: u64,
-    pub hand: Hand,
+    // A snapshot has no bytes.
+    pub hand: Snapshot<Hand>,
 }
 
 impl<A: Allocator + Copy> Model for Unsettled<A> {
@@ -66,13 +68,13 @@ impl<A: Allocator + Copy> Model for Unsettled<A> {
         sweeps = u.sweeps;
       };
       pending = u.pending.stops;
-      hand = u.hand;
+      hand = u.hand.value;
     } };
 
     ghost invariant = { λ u. record {
       opening : u.tape.opening ≡ u.settings.reference;
       widths : are_widths u.settings.widths ≡ true;
-      frame : IsFramed u.accepted u.book u.stops u.pending u.tape.room u.hand;
+      frame : IsFramed u.accepted u.book u.stops u.pending u.tape.room u.hand.value;
     } };
 }
 

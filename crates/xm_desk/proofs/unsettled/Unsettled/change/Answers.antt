@@ -42,7 +42,7 @@ invariant_of-self-else-keeps_priority g c =
       opening = c.self.invariant.opening;
       widths = c.self.invariant.widths;
       frame =
-          fewer u.accepted u.stops u.pending u.book c.remove.new.self u.tape.room u.tape.room u.hand c.self.invariant.frame
+          fewer u.accepted u.stops u.pending u.book c.remove.new.self u.tape.room u.tape.room u.hand.value c.self.invariant.frame
           (ap (λ (l : TimeList). l.reserved) left) (ap (λ (l : TimeList). l.adds) left) (omega (arith, orders, few)) (omega (arith, orders, few));
     }
 
@@ -56,7 +56,7 @@ come-requires g c =
     let view : List Order → Unsettled = λ orders. record {
       state = record { settings = u.settings; accepted = u.accepted; phase = u.phase; orders = orders; stops = u.stops.stops; trades = u.tape.trades; sweeps = u.sweeps };
       pending = u.pending.stops;
-      hand = u.hand;
+      hand = u.hand.value;
     } in
     replaced-can-come v c.args.member c.args.reference c.args.quantity c.args.limit o found joins c.requires.hand c.requires.lawful c.requires.counted
     (view c.remove.new.self.orders) c.changed_order.result
@@ -74,7 +74,7 @@ returns-then-keeps_priority-clause-changed g c =
     ap (λ (l : TimeList). let w : Unsettled = record {
       state = record { settings = u.settings; accepted = u.accepted; phase = u.phase; orders = l.orders; stops = u.stops.stops; trades = u.tape.trades; sweeps = u.sweeps };
       pending = u.pending.stops;
-      hand = u.hand;
+      hand = u.hand.value;
     } in w) c.reduce.ensures.reduced
     ∙ ap reduced c.self.view_is
     ∙ kept-change v c.args.member c.args.reference c.args.quantity c.args.limit o found keeps c.requires.hand
@@ -106,9 +106,12 @@ returns-else-keeps_priority-clause-made g c =
     let view : List Order → Unsettled = λ orders. record {
       state = record { settings = u.settings; accepted = u.accepted; phase = u.phase; orders = orders; stops = u.stops.stops; trades = u.tape.trades; sweeps = u.sweeps };
       pending = u.pending.stops;
-      hand = u.hand;
+      hand = u.hand.value;
     } in
     let w = view c.remove.new.self.orders in
     let few = filter-shorter (λ (o : Order). not (is_named c.args.member c.args.reference o)) u.book.orders in
     let orders = ap (λ (l : TimeList). length l.orders) c.remove.ensures.left in
     makes-both v w c.come.new.self (makes-none v w (ap (λ (x : Unsettled). x.state.trades) c.self.view_is) (omega (arith, orders, few, ap possible_trades c.self.view_is))) c.come.ensures.made
+
+pub changed_order-requires : goal.changed_order-requires
+changed_order-requires g c = (change-accepted c.args.self.now.state c.args.member c.args.reference c.args.quantity c.args.limit c.requires.lawful).limit

@@ -10,8 +10,8 @@ add-requires-clause-room g c =
 pub invariant_of-self : goal.invariant_of-self
 invariant_of-self g c =
     let u = c.self.inside in
-    record {
+    rw c.of.ensures (record {
       opening = c.self.invariant.opening;
       widths = c.self.invariant.widths;
-      frame = holds u.accepted u.book u.stops c.add.new.self u.pending u.tape.room u.hand c.args.stop (ap (λ (v : Unsettled). v.hand) c.self.view_is ∙ c.requires.hand) c.self.invariant.frame c.add.ensures;
-    }
+      frame = holds u.accepted u.book u.stops c.add.new.self u.pending u.tape.room u.hand.value c.args.stop (ap (λ (v : Unsettled). v.hand) c.self.view_is ∙ c.requires.hand) c.self.invariant.frame c.add.ensures;
+    })

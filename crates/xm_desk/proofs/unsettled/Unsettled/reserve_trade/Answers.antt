@@ -9,16 +9,16 @@ use Rattle.xm_desk.proofs.unsettled.Unsettled.reserve_trade.Goals as goal
 pub invariant_of-self-2 : goal.invariant_of-self-2
 invariant_of-self-2 g c =
     let u = c.self.inside in
-    let hand : u.hand ≡ Empty = ap (λ (v : Unsettled). v.hand) c.self.view_is ∙ c.requires.hand in
+    let hand : u.hand.value ≡ Empty = ap (λ (v : Unsettled). v.hand) c.self.view_is ∙ c.requires.hand in
     let none = ap (λ (v : Unsettled). length v.pending) c.self.view_is ∙ ap (λ (ss : List Stop). length ss) c.requires.settled in
     let taped : c.reserve.new.self ≡ record u.tape { room = c.len.result + c.len-2.result + 1 } = search rules in
     let room = ap (λ (t : TapeView). t.room) taped in
     let enough : length u.book.orders + length u.stops.stops + length u.pending.stops + 1 ≤ c.reserve.new.self.room = omega (arith, room, none, c.len.ensures.len, c.len-2.ensures.len) in
     let opening = ap (λ (t : TapeView). t.opening) taped ∙ c.self.invariant.opening in
-    record {
+    rw c.of.ensures (record {
       opening = opening;
       widths = c.self.invariant.widths;
       frame =
-          spares u.accepted u.stops u.pending u.hand hand u.book c.reserve.new.self.room
-          (grown u.accepted u.stops u.pending u.hand hand u.book u.stops u.pending u.tape.room c.reserve.new.self.room c.self.invariant.frame refl refl (omega arith) (omega (arith, enough))) enough;
-    }
+          spares u.accepted u.stops u.pending u.hand.value hand u.book c.reserve.new.self.room
+          (grown u.accepted u.stops u.pending u.hand.value hand u.book u.stops u.pending u.tape.room c.reserve.new.self.room c.self.invariant.frame refl refl (omega arith) (omega (arith, enough))) enough;
+    })

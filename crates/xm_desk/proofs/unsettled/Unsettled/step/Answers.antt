@@ -32,7 +32,7 @@ few g c =
     let u = c.self.inside in
     let v = c.args.self.now in
     let is = c.self.view_is in
-    few-possible v u.accepted v.state.settings.limit u.tape.room u.book u.stops u.pending u.hand c.self.invariant.frame (sym (ap (λ (w : Unsettled). w.state.orders) is))
+    few-possible v u.accepted v.state.settings.limit u.tape.room u.book u.stops u.pending u.hand.value c.self.invariant.frame (sym (ap (λ (w : Unsettled). w.state.orders) is))
     (sym (ap (λ (w : Unsettled). w.state.stops) is)) (sym (ap (λ (w : Unsettled). w.pending) is)) (sym (ap (λ (w : Unsettled). w.hand) is))
     (omega (arith, c.requires.counted.accepted, ap (λ (w : Unsettled). w.state.accepted) is)) (omega (arith, c.get.ensures.value, c.get.ensures.high, ap (λ (w : Unsettled). w.state.settings.limit) is))
 

@@ -22,13 +22,13 @@ invariant_of-self g c =
     let left = c.allot.ensures.orders in
     let u : Uncrossing = uncrossing_of c.args.auction c.args.stage b.book.orders c.args.price c.args.volume in
     let orders = ap (λ (l : TimeList). length l.orders) left in
-    record {
+    rw c.of.ensures (record {
       opening = ap (λ (t : TapeView). t.opening) c.allot.ensures.trades ∙ c.self.invariant.opening;
       widths = c.self.invariant.widths;
       frame =
-          ends_call b.accepted b.stops b.pending b.book c.allot.new.book b.tape.room c.allot.new.self.room b.hand (ap (λ (v : Unsettled). v.hand) c.self.view_is ∙ c.requires.hand) c.self.invariant.frame
+          ends_call b.accepted b.stops b.pending b.book c.allot.new.book b.tape.room c.allot.new.self.room b.hand.value (ap (λ (v : Unsettled). v.hand) c.self.view_is ∙ c.requires.hand) c.self.invariant.frame
           (ap (λ (l : TimeList). l.reserved) left) (ap (λ (l : TimeList). l.adds) left) (omega (arith, orders, c.allot.ensures.used, c.allot.ensures.room)) (omega (arith, orders, fewer-orders u));
-    }
+    })
 
 pub returns-clause-made : goal.returns-clause-made
 returns-clause-made g c =
@@ -40,5 +40,5 @@ returns-clause-made g c =
       trades = made;
       appended = ap (λ (t : TapeView). t.trades) c.allot.ensures.trades ∙ ap (λ (x : Unsettled). x.state.trades ++ made) c.self.view_is;
       sized = sized-trades u (b.sweeps + 1) c.len.ensures.book.rests;
-      fewer = omega (arith, orders, c.allot.ensures.used, ap possible_trades c.self.view_is, ap trades_in c.requires.hand, ap (λ (x : Unsettled). trades_in x.hand) c.self.view_is);
+      fewer = omega (arith, orders, c.allot.ensures.used, ap possible_trades c.self.view_is, ap trades_in c.requires.hand, ap (λ (x : Unsettled). trades_in x.hand) c.self.view_is, ap trades_in c.of.ensures);
     }
