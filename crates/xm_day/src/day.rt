@@ -8,7 +8,7 @@ use crate::report::DayReport;
 use crate::statements::statement;
 use std::alloc::Global;
 use std::io;
-use xm_files::{Names, read_rows, read_segment};
+use xm_files::{Names, read_rows_and_bytes, read_segment};
 use xm_names::Seed;
 use xm_segment::SegmentConfig;
 
@@ -31,8 +31,8 @@ pub fn run_orders<R: io::Read, W: io::Write>(
     ensures ends { OrdersEnd config.now names.now (R.remaining orders.old) (W.contents out.old) (W.contents out.new) result }
     ensures untouched { IfErr result (λ fault. fault ≢ DayFault.WriteFailed → out.new ≡ out.old) }
 {
-    let rows = match read_rows(alloc, orders, names, config) {
-        Ok(rows) => rows,
+    let (rows, _bytes) = match read_rows_and_bytes(alloc, orders, names, config) {
+        Ok(read) => read,
         Err(fault) => return Err(DayFault::Orders(fault)),
     };
     let mut desks = open_desks(alloc, seed, config)?;

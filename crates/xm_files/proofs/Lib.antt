@@ -10,5 +10,4 @@ mod CsvFields
 mod LineRecords
 mod Progress
 pub mod PassedErrors
-mod ReadOrders
 mod Timetables

@@ -17,6 +17,6 @@ mod timetable;
 pub use crate::bytes::MAX_BYTES;
 pub use crate::file_faults::{FileCause, FileFault};
 pub use crate::names::Names;
-pub use crate::orders::{MAX_ROWS, read_rows};
+pub use crate::orders::{MAX_ROWS, read_rows, read_rows_and_bytes};
 pub use crate::segment::read_segment;
 pub use crate::timetable::{Round, rounds, share};

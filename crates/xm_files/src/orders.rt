@@ -46,8 +46,28 @@ pub fn read_rows<R: Read>(
     ensures fault { IfErr result (λ fault. OnFalse (is_from_outside fault.cause) (IfSome (R.remaining reader.old) (λ bytes. orders_of names.now config.now bytes ≡ Err fault))) }
     ensures outside { IfErr result (λ fault. OnTrue (is_from_outside fault.cause) (fault.line ≡ 0)) }
 {
+    let (rows, _bytes) = read_rows_and_bytes(alloc, reader, names, config)?;
+    Ok(rows)
+}
+
+/// The same, with the bytes of the file. Who runs a day keeps them to its end: a large block that is given back in the
+/// middle of it is lent anew, page by page.
+pub fn read_rows_and_bytes<R: Read>(
+    alloc: Global,
+    reader: &mut R,
+    names: &Names,
+    config: &SegmentConfig,
+) -> Result<(Vec<Row>, Vec<u8>), FileFault>
+    requires securities { length names.now.securities ≡ length config.now.securities }
+    requires members { length names.now.members ≡ config.now.members }
+    ensures read { IfOk result (λ p. IfSome (R.remaining reader.old) (λ bytes. orders_of names.now config.now bytes ≡ Ok p.0.items)) }
+    ensures few { IfOk result (λ p. length p.0.items ≤ MAX_ROWS) }
+    ensures fault { IfErr result (λ fault. OnFalse (is_from_outside fault.cause) (IfSome (R.remaining reader.old) (λ bytes. orders_of names.now config.now bytes ≡ Err fault))) }
+    ensures outside { IfErr result (λ fault. OnTrue (is_from_outside fault.cause) (fault.line ≡ 0)) }
+{
     let bytes = read_whole(alloc, reader)?;
-    parse_rows(alloc, bytes.as_slice(), names, config)
+    let rows = parse_rows(alloc, bytes.as_slice(), names, config)?;
+    Ok((rows, bytes))
 }
 
 /// The rows of a text. Lines without quotes are taken apart in place, one pass over their bytes; from the

@@ -16,7 +16,7 @@ use Rattle.xm_day.proofs.day.run_orders.Goals as goal
 pub returns-clause-ends : goal.returns-clause-ends
 returns-clause-ends g c =
     let config = c.args.config.now in
-    let rows = c.in-Ok.rows.items in
+    let rows = c.in-Ok.read.0.items in
     let report = c.in_ok-report.report in
     let taken = day-taken config c.as_mut_slice.result.now c.take_rows.new.desks c.as_slice.result.now rows report.accepted report.refused
     (c.as_mut_slice.ensures.value ∙ c.in_ok-desks.ensures.opened) c.as_slice.ensures.value c.in_ok-report.ensures.taken in
@@ -38,7 +38,7 @@ returns-clause-ends g c =
 pub returns-in_err-statement-clause-ends : goal.returns-in_err-statement-clause-ends
 returns-in_err-statement-clause-ends g c =
     let config = c.args.config.now in
-    let rows = c.in-Ok.rows.items in
+    let rows = c.in-Ok.read.0.items in
     let report = c.in_ok-report.report in
     let taken = day-taken config c.as_mut_slice.result.now c.take_rows.new.desks c.as_slice.result.now rows report.accepted report.refused
     (c.as_mut_slice.ensures.value ∙ c.in_ok-desks.ensures.opened) c.as_slice.ensures.value c.in_ok-report.ensures.taken in
@@ -54,4 +54,4 @@ returns-in_err-statement-clause-ends g c =
 pub returns-in_err-report-clause-ends : goal.returns-in_err-report-clause-ends
 returns-in_err-report-clause-ends g c =
     let Ends : Result DayReport DayFault → Type 0 = λ r. OrdersEnd c.args.config.now c.args.names.now (g.R.Read.remaining c.args.orders.now) (g.W.Write.contents c.args.out.now) (g.W.Write.contents c.args.out.now) r in
-    subst Ends (sym (is_passed c.from_residual-in_err-report.result OutOfMemory c.from_residual-in_err-report.ensures.1)) (c.in-Ok.rows.items, c.in-Ok.ensures.read, c.in_ok-desks.ensures.sound)
+    subst Ends (sym (is_passed c.from_residual-in_err-report.result OutOfMemory c.from_residual-in_err-report.ensures.1)) (c.in-Ok.read.0.items, c.in-Ok.ensures.read, c.in_ok-desks.ensures.sound)
