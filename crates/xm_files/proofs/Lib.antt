@@ -6,6 +6,7 @@ mod Documents
 mod Takes
 mod Unread
 mod PlainFields
+mod Marked
 mod CsvFields
 mod LineRecords
 mod Progress

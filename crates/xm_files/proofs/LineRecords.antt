@@ -1,5 +1,5 @@
 -- The records of a text that begins with a line without quotes.
-use Rattle.std.proofs.Common.{◌≡◌, ◌≢◌, ℕ, Bool, true, ◌==◌, get_or, suc, zero, ◌+◌, ◌<◌, ◌≤◌, false, List, [], ◌∷◌, length, Option, Some, None, refl, sym, ap, ◌∙◌, arith, add-one}
+use Rattle.std.proofs.Common.{◌≡◌, ◌≢◌, ℕ, Bool, true, ◌==◌, get_or, suc, zero, ◌+◌, ◌<◌, false, List, [], ◌∷◌, length, Option, Some, None, refl, sym, ap, ◌∙◌, arith, add-one}
 use Rattle.std.proofs.lemmas.Bool.Decides.{nat_tests}
 use Rattle.csv.specs.Machine.{Read, next_record, ends_at_end}
 use Rattle.csv.specs.Reading.{default_config, records, records_from, strip_bom}
@@ -38,25 +38,16 @@ fed-records line =
     ∙ skipped (length (10 ∷ line)) line
     ∙ same-records (suc (length (10 ∷ line))) (length line + 1) st.StartRecord line refl (omega arith) (omega arith)
 
-behind : (text more : List ℕ) (fields : List (List ℕ)) → next_record default_config st.StartRecord [] [] text ≡ Some (fields, st.StartRecord, more) → length more < length text
-behind text more fields e = let t = takes st.StartRecord text (fields, st.StartRecord, more) refl e in t.0
+pub line-shorter : (text more : List ℕ) (fields : List (List ℕ)) → ReadsLine text fields more → length more < length text
+line-shorter text more fields e = let t = takes st.StartRecord text (fields, st.StartRecord, more) refl e in t.0
 
-read-first : (text more : List ℕ) (fields : List (List ℕ)) → next_record default_config st.StartRecord [] [] text ≡ Some (fields, st.StartRecord, more) → records default_config text ≡ fields ∷ records default_config (10 ∷ more)
-read-first text more fields e =
-    let fewer = behind text more fields e in
+-- the first record of a text, and the others
+pub line-records : (text more : List ℕ) (fields : List (List ℕ)) → ReadsLine text fields more → records default_config text ≡ fields ∷ records default_config (10 ∷ more)
+line-records text more fields e =
+    let fewer = line-shorter text more fields e in
     ap (λ (k : ℕ). records_from default_config k st.StartRecord text) (add-one (length text))
     ∙ records-more (length text) st.StartRecord text (fields, st.StartRecord, more) e
     ∙ ap (λ (rest : List (List (List ℕ))). fields ∷ rest) (same-records (length text) (length more + 1) st.StartRecord more refl fewer (omega arith) ∙ sym (fed-records more))
-
--- the first record of a text, and the others
-pub line-records : (text rest : List ℕ) (fields : List (List ℕ)) → ReadsLine text fields rest → records default_config text ≡ fields ∷ records default_config rest
-line-records text rest fields r = read-first text r.0 fields r.2 ∙ ap (λ (left : List ℕ). fields ∷ records default_config left) (sym r.1)
-
-pub line-shorter : (text rest : List ℕ) (fields : List (List ℕ)) → ReadsLine text fields rest → length rest ≤ length text
-line-shorter text rest fields r =
-    let fewer = behind text r.0 fields r.2 in
-    let size = ap length r.1 in
-    omega (arith, fewer, size)
 
 -- a text that begins with a line feed begins with no byte order mark
 pub strip-fed : (line : List ℕ) → strip_bom (10 ∷ line) ≡ 10 ∷ line

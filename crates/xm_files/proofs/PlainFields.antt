@@ -9,7 +9,7 @@ use Rattle.csv.specs.Reading.{default_config}
 use Rattle.csv.specs.declared.parser.Action.TheVariants as act
 use Rattle.csv.specs.declared.parser.State.{State}
 use Rattle.csv.specs.declared.parser.State.TheVariants as st
-use Rattle.xm_files.specs.Plain.{EndsAt, EndsLine, ReadsLine, is_mark, is_plain}
+use Rattle.xm_files.specs.Plain.{EndsAt, IsBehind, IsNextMark, ReadsLine, TextFrom, is_mark, is_plain, rest_of}
 
 none-of : (a b c d : Bool) → not (a || (b || (c || d))) ≡ true → (a ≡ false) × (b ≡ false) × (c ≡ false) × (d ≡ false)
 none-of false false false false h = (refl, refl, refl, refl)
@@ -89,30 +89,26 @@ first-of text field rest ends = ap (next_record default_config st.StartRecord []
 next-of : (fields : List (List ℕ)) (text field rest : List ℕ) → EndsAt 44 text field rest → next_record default_config st.StartField fields [] text ≡ next_record default_config st.StartField (fields ++ field ∷ []) [] rest
 next-of fields text field rest ends = ap (next_record default_config st.StartField fields []) ends.0 ∙ next-field fields field rest ends.1
 
-last-of : (fields : List (List ℕ)) (text field rest : List ℕ) → (ends : EndsLine text field rest) → next_record default_config st.StartField fields [] text ≡ Some (fields ++ field ∷ [], st.StartRecord, ends.0)
-last-of fields text field rest ends =
-    ap (next_record default_config st.StartField fields []) (ends.2 ∙ ap (λ (r : List ℕ). field ++ r) ends.1) ∙ last-field fields field ends.0 ends.3
+last-of : (fields : List (List ℕ)) (text field more : List ℕ) → EndsAt 10 text field more → next_record default_config st.StartField fields [] text ≡ Some (fields ++ field ∷ [], st.StartRecord, more)
+last-of fields text field more ends = ap (next_record default_config st.StartField fields []) ends.0 ∙ last-field fields field more ends.1
 
 -- a line of twelve fields
-pub line-read : (a b c d e f g h i j k l : List ℕ) (t0 t1 t2 t3 t4 t5 t6 t7 t8 t9 t10 t11 rest : List ℕ)
+pub line-read : (a b c d e f g h i j k l : List ℕ) (t0 t1 t2 t3 t4 t5 t6 t7 t8 t9 t10 t11 more : List ℕ)
     → EndsAt 44 t0 a t1 → EndsAt 44 t1 b t2 → EndsAt 44 t2 c t3 → EndsAt 44 t3 d t4 → EndsAt 44 t4 e t5 → EndsAt 44 t5 f t6 → EndsAt 44 t6 g t7 → EndsAt 44 t7 h t8 → EndsAt 44 t8 i t9 → EndsAt 44 t9 j t10 → EndsAt 44 t10 k t11
-    → EndsLine t11 l rest → ReadsLine t0 (a ∷ b ∷ c ∷ d ∷ e ∷ f ∷ g ∷ h ∷ i ∷ j ∷ k ∷ l ∷ []) rest
-line-read a b c d e f g h i j k l t0 t1 t2 t3 t4 t5 t6 t7 t8 t9 t10 t11 rest e0 e1 e2 e3 e4 e5 e6 e7 e8 e9 e10 e11 = (
-  e11.0,
-  e11.1,
-  first-of t0 a t1 e0
-      ∙ next-of (a ∷ []) t1 b t2 e1
-      ∙ next-of (a ∷ b ∷ []) t2 c t3 e2
-      ∙ next-of (a ∷ b ∷ c ∷ []) t3 d t4 e3
-      ∙ next-of (a ∷ b ∷ c ∷ d ∷ []) t4 e t5 e4
-      ∙ next-of (a ∷ b ∷ c ∷ d ∷ e ∷ []) t5 f t6 e5
-      ∙ next-of (a ∷ b ∷ c ∷ d ∷ e ∷ f ∷ []) t6 g t7 e6
-      ∙ next-of (a ∷ b ∷ c ∷ d ∷ e ∷ f ∷ g ∷ []) t7 h t8 e7
-      ∙ next-of (a ∷ b ∷ c ∷ d ∷ e ∷ f ∷ g ∷ h ∷ []) t8 i t9 e8
-      ∙ next-of (a ∷ b ∷ c ∷ d ∷ e ∷ f ∷ g ∷ h ∷ i ∷ []) t9 j t10 e9
-      ∙ next-of (a ∷ b ∷ c ∷ d ∷ e ∷ f ∷ g ∷ h ∷ i ∷ j ∷ []) t10 k t11 e10
-      ∙ last-of (a ∷ b ∷ c ∷ d ∷ e ∷ f ∷ g ∷ h ∷ i ∷ j ∷ k ∷ []) t11 l rest e11,
-)
+    → EndsAt 10 t11 l more → ReadsLine t0 (a ∷ b ∷ c ∷ d ∷ e ∷ f ∷ g ∷ h ∷ i ∷ j ∷ k ∷ l ∷ []) more
+line-read a b c d e f g h i j k l t0 t1 t2 t3 t4 t5 t6 t7 t8 t9 t10 t11 more e0 e1 e2 e3 e4 e5 e6 e7 e8 e9 e10 e11 =
+    first-of t0 a t1 e0
+    ∙ next-of (a ∷ []) t1 b t2 e1
+    ∙ next-of (a ∷ b ∷ []) t2 c t3 e2
+    ∙ next-of (a ∷ b ∷ c ∷ []) t3 d t4 e3
+    ∙ next-of (a ∷ b ∷ c ∷ d ∷ []) t4 e t5 e4
+    ∙ next-of (a ∷ b ∷ c ∷ d ∷ e ∷ []) t5 f t6 e5
+    ∙ next-of (a ∷ b ∷ c ∷ d ∷ e ∷ f ∷ []) t6 g t7 e6
+    ∙ next-of (a ∷ b ∷ c ∷ d ∷ e ∷ f ∷ g ∷ []) t7 h t8 e7
+    ∙ next-of (a ∷ b ∷ c ∷ d ∷ e ∷ f ∷ g ∷ h ∷ []) t8 i t9 e8
+    ∙ next-of (a ∷ b ∷ c ∷ d ∷ e ∷ f ∷ g ∷ h ∷ i ∷ []) t9 j t10 e9
+    ∙ next-of (a ∷ b ∷ c ∷ d ∷ e ∷ f ∷ g ∷ h ∷ i ∷ j ∷ []) t10 k t11 e10
+    ∙ last-of (a ∷ b ∷ c ∷ d ∷ e ∷ f ∷ g ∷ h ∷ i ∷ j ∷ k ∷ []) t11 l more e11
 
 from-mark : (text : List ℕ) (n d mark : ℕ) → n < length text → get_or text n d ≡ mark → drop n text ≡ mark ∷ drop (n + 1) text
 from-mark text n d mark within is =
@@ -131,25 +127,28 @@ drop-again (suc n) m (byte ∷ text) =
 between : (text : List ℕ) (from at : ℕ) → from ≤ at → drop (at - from) (drop from text) ≡ drop at text
 between text from at below = drop-again from (at - from) text ∙ (let sum : from + (at - from) ≡ at = omega arith in ap (λ (k : ℕ). drop k text) sum)
 
--- a text from a place on, up to a line feed
-pub line-from : (text : List ℕ) (from at d : ℕ) → from ≤ at → at < length text → get_or text at d ≡ 10 → (drop at text ≡ 10 ∷ drop (at + 1) text) × (drop from text ≡ take (at - from) (drop from text) ++ drop at text)
-line-from text from at d below within is =
-    (from-mark text at d 10 within is, sym (ap (λ (rest : List ℕ). take (at - from) (drop from text) ++ rest) (sym (between text from at below)) ∙ take-append-drop (at - from) (drop from text)))
+-- what a mark is behind
+pub behind-mark : (mark : ℕ) (text : List ℕ) (at : ℕ) → at < length text → get_or text at 0 ≡ mark → IsBehind mark (record { text = text; at = at + 1 })
+behind-mark mark text at within is =
+    let place : at + 1 - 1 ≡ at = omega arith in
+    rw place (from-mark text at 0 mark within is)
+
+plain-up-to : (t : TextFrom) (place : ℕ) → IsNextMark t place → (n : ℕ) → t.at + n ≤ place → is_plain (take n (rest_of t)) ≡ true
+plain-up-to t place next zero below = refl
+plain-up-to t place next (suc n) below =
+    let within = next.within in
+    let size = length-drop t.at t.text in
+    let inside : n < length (rest_of t) = omega (arith, size, within, below) in
+    let step : suc n ≡ n + 1 = omega arith in
+    let no_mark = ap is_mark (get_or-drop t.at t.text n 0) ∙ next.before (t.at + n) (omega arith) (omega arith) in
+    rw (step, take_more (rest_of t) n 0 inside, list_all-append (λ (byte : ℕ). not (is_mark byte)) (take n (rest_of t)) (get_or (rest_of t) n 0 ∷ []), plain-up-to t place next n (omega arith), no_mark) refl
+
+-- the field before a mark
+pub field-to : (mark : ℕ) (t : TextFrom) (place : ℕ) → IsNextMark t place → get_or t.text place 0 ≡ mark → EndsAt mark (rest_of t) (take (place - t.at) (rest_of t)) (drop (place + 1) t.text)
+field-to mark t place next is =
+    let rest = ap (λ (rest : List ℕ). take (place - t.at) (rest_of t) ++ rest) (between t.text t.at place next.ahead ∙ from-mark t.text place 0 mark next.within is) in
+    (sym (take-append-drop (place - t.at) (rest_of t)) ∙ rest, plain-up-to t place next (place - t.at) (let ahead = next.ahead in omega arith))
 
 -- what is lent from a place on
 pub lent-from : (text : List ℕ) (n : ℕ) → take (length text - n) (drop n text) ≡ drop n text
 lent-from text n = ap (λ (k : ℕ). take k (drop n text)) (sym (length-drop n text)) ∙ take-length (drop n text)
-
--- a text that begins with a line feed
-pub fed-text : (text : List ℕ) (d : ℕ) → 0 < length text → get_or text 0 d ≡ 10 → text ≡ 10 ∷ drop 1 text
-fed-text text d some is = from-mark text 0 d 10 some is
-
--- one more byte that is no mark
-pub plain-more : (text : List ℕ) (from at d : ℕ) → from ≤ at → at < length text → is_mark (get_or text at d) ≡ false → is_plain (take (at - from) (drop from text)) ≡ true → is_plain (take (at + 1 - from) (drop from text)) ≡ true
-plain-more text from at d below within no_mark before =
-    let step : at + 1 - from ≡ at - from + 1 = omega arith in
-    let size = length-drop from text in
-    let inside : at - from < length (drop from text) = omega (arith, size, within, below) in
-    let same : get_or (drop from text) (at - from) d ≡ get_or text at d = get_or-drop from text (at - from) d ∙ (let sum : from + (at - from) ≡ at = omega arith in ap (λ (k : ℕ). get_or text k d) sum) in
-    let more = take_more (drop from text) (at - from) d inside ∙ ap (λ (byte : ℕ). take (at - from) (drop from text) ++ byte ∷ []) same in
-    rw (step, more, list_all-append (λ (byte : ℕ). not (is_mark byte)) (take (at - from) (drop from text)) (get_or text at d ∷ []), before, no_mark) refl

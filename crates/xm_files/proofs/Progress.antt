@@ -39,59 +39,55 @@ other-record names config line rows fields later other = rw (not-first line late
 pub no-header : (fields : List (List ℕ)) → (length fields == 12) ≡ false → is_header fields ≡ false
 no-header fields other = and_left (length fields == 12) _ other
 
--- lines were read, up to a line feed, behind which the record with this number comes
-pub record Lines (names : NameLists) (config : SegmentConfig) (all : Result (List Row) FileFault) (left : List ℕ) (line : ℕ) (rows : List Row) : Type 0 where
-  pub so_far : all ≡ rows_after names config line rows (records default_config left)
-  pub fed : (more : List ℕ) × (left ≡ 10 ∷ more)
+-- lines were read, and behind the line feed of the last one comes the record with this number
+pub record Lines (names : NameLists) (config : SegmentConfig) (all : Result (List Row) FileFault) (more : List ℕ) (line : ℕ) (rows : List Row) : Type 0 where
+  pub so_far : all ≡ rows_after names config line rows (records default_config (10 ∷ more))
   pub later : 2 ≤ line
-  pub lines : line + length left ≤ 16777218
+  pub lines : line + length more ≤ 16777217
   pub few : length rows ≤ 1000000
 
-pub lines-begin : (names : NameLists) (config : SegmentConfig) (text left : List ℕ) (rows : List Row) → rows ≡ [] → length text ≤ 16777216 → IsBehindHeader text left
-    → Lines names config (rows_of_records names config (records default_config (strip_bom text))) left 2 rows
-lines-begin names config text left rows none short h =
-    let shorter = line-shorter text left h.0 h.3 in
+pub lines-begin : (names : NameLists) (config : SegmentConfig) (text more : List ℕ) (rows : List Row) → rows ≡ [] → length text ≤ 16777216 → IsBehindHeader text more
+    → Lines names config (rows_of_records names config (records default_config (strip_bom text))) more 2 rows
+lines-begin names config text more rows none short h =
+    let shorter = line-shorter text more h.0 h.3 in
     record {
-      so_far = rw (none, h.2, line-records text left h.0 h.3, h.1) refl;
-      fed = (h.3.0, h.3.1);
+      so_far = rw (none, h.2, line-records text more h.0 h.3, h.1) refl;
       later = omega arith;
       lines = omega (arith, shorter, short);
       few = rw none (omega arith);
     }
 
 -- the record behind the line feed, and what comes after it
-next-line : (names : NameLists) (config : SegmentConfig) (all : Result (List Row) FileFault) (left text rest : List ℕ) (line : ℕ) (rows : List Row) (fields : List (List ℕ)) → Lines names config all left line rows
-    → left ≡ 10 ∷ text → ReadsLine text fields rest → length fields ≡ 12
-    → all ≡ result_then (with_rows line rows (rows_of_record names config fields)) (λ sum. rows_after names config (line + 1) sum (records default_config rest))
-next-line names config all left text rest line rows fields p fed reads twelve =
+next-line : (names : NameLists) (config : SegmentConfig) (all : Result (List Row) FileFault) (text more : List ℕ) (line : ℕ) (rows : List Row) (fields : List (List ℕ)) → Lines names config all text line rows
+    → ReadsLine text fields more → length fields ≡ 12
+    → all ≡ result_then (with_rows line rows (rows_of_record names config fields)) (λ sum. rows_after names config (line + 1) sum (records default_config (10 ∷ more)))
+next-line names config all text more line rows fields p reads twelve =
     p.so_far
-    ∙ ap (rows_after names config line rows) (ap (records default_config) fed ∙ fed-records text ∙ line-records text rest fields reads)
-    ∙ ap (λ (r : Result (List Row) FileFault). result_then r (λ sum. rows_after names config (line + 1) sum (records default_config rest))) (row-record names config line rows fields p.later twelve)
+    ∙ ap (rows_after names config line rows) (fed-records text ∙ line-records text more fields reads)
+    ∙ ap (λ (r : Result (List Row) FileFault). result_then r (λ sum. rows_after names config (line + 1) sum (records default_config (10 ∷ more)))) (row-record names config line rows fields p.later twelve)
 
-pub lines-more : (names : NameLists) (config : SegmentConfig) (all : Result (List Row) FileFault) (left text rest : List ℕ) (line : ℕ) (rows sum : List Row) (fields : List (List ℕ)) → Lines names config all left line rows
-    → left ≡ 10 ∷ text → ReadsLine text fields rest → length fields ≡ 12 → with_rows line rows (rows_of_record names config fields) ≡ Ok sum → length sum ≤ 1000000 → Lines names config all rest (line + 1) sum
-lines-more names config all left text rest line rows sum fields p fed reads twelve good few =
-    let shorter = line-shorter text rest fields reads in
-    let size = ap length fed in
+pub lines-more : (names : NameLists) (config : SegmentConfig) (all : Result (List Row) FileFault) (text more : List ℕ) (line : ℕ) (rows sum : List Row) (fields : List (List ℕ)) → Lines names config all text line rows
+    → ReadsLine text fields more → length fields ≡ 12 → with_rows line rows (rows_of_record names config fields) ≡ Ok sum → length sum ≤ 1000000 → Lines names config all more (line + 1) sum
+lines-more names config all text more line rows sum fields p reads twelve good few =
+    let shorter = line-shorter text more fields reads in
     let lines = p.lines in
     let later = p.later in
     record {
-      so_far = next-line names config all left text rest line rows fields p fed reads twelve ∙ rw good refl;
-      fed = (reads.0, reads.1);
+      so_far = next-line names config all text more line rows fields p reads twelve ∙ rw good refl;
       later = omega (arith, later);
-      lines = omega (arith, shorter, size, lines);
+      lines = omega (arith, shorter, lines);
       few = few;
     }
 
-pub lines-fault : (names : NameLists) (config : SegmentConfig) (all : Result (List Row) FileFault) (left text rest : List ℕ) (line : ℕ) (rows : List Row) (fields : List (List ℕ)) (fault : FileFault) → Lines names config all left line rows
-    → left ≡ 10 ∷ text → ReadsLine text fields rest → length fields ≡ 12 → with_rows line rows (rows_of_record names config fields) ≡ Err fault → all ≡ Err fault
-lines-fault names config all left text rest line rows fields fault p fed reads twelve bad = next-line names config all left text rest line rows fields p fed reads twelve ∙ rw bad refl
+pub lines-fault : (names : NameLists) (config : SegmentConfig) (all : Result (List Row) FileFault) (text more : List ℕ) (line : ℕ) (rows : List Row) (fields : List (List ℕ)) (fault : FileFault) → Lines names config all text line rows
+    → ReadsLine text fields more → length fields ≡ 12 → with_rows line rows (rows_of_record names config fields) ≡ Err fault → all ≡ Err fault
+lines-fault names config all text more line rows fields fault p reads twelve bad = next-line names config all text more line rows fields p reads twelve ∙ rw bad refl
 
--- CSV reads on from there
-pub lines-end : (names : NameLists) (config : SegmentConfig) (all : Result (List Row) FileFault) (left : List ℕ) (line : ℕ) (rows : List Row) → Lines names config all left line rows
+-- CSV reads on from the line feed
+pub lines-end : (names : NameLists) (config : SegmentConfig) (all : Result (List Row) FileFault) (left more : List ℕ) (line : ℕ) (rows : List Row) → Lines names config all more line rows → left ≡ 10 ∷ more
     → all ≡ rows_after names config line rows (records default_config (strip_bom left))
-lines-end names config all left line rows p =
-    p.so_far ∙ ap (λ (text : List ℕ). rows_after names config line rows (records default_config text)) (sym (ap strip_bom p.fed.1 ∙ strip-fed p.fed.0 ∙ sym p.fed.1))
+lines-end names config all left more line rows p fed =
+    p.so_far ∙ ap (λ (text : List ℕ). rows_after names config line rows (records default_config text)) (sym (ap strip_bom fed ∙ strip-fed more))
 
 -- these rows were read; the rest of the records, of which the first has this number, decides
 pub record Progress (names : NameLists) (config : SegmentConfig) (all : Result (List Row) FileFault) (reader : Reader (Bor (List ℕ))) (line : ℕ) (rows : List Row) : Type 0 where

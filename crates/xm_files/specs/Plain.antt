@@ -1,5 +1,6 @@
 -- Records without quotes, one to a line.
-use Rattle.std.specs.Prelude.{◌≡◌, ℕ, ◌==◌, Bool, true, ◌||◌, not, List, [], ◌∷◌, ◌++◌, Some}
+use Rattle.std.specs.Prelude.{◌≡◌, ℕ, ◌+◌, ◌-◌, ◌<◌, ◌≤◌, ◌==◌, Bool, true, false, ◌||◌, not, List, [], ◌∷◌, ◌++◌, Some, drop, get_or, length}
+use Rattle.std.specs.Int.{bit_at}
 use Rattle.std.specs.List.{list_all}
 use Rattle.csv.specs.Machine.{next_record}
 use Rattle.csv.specs.Reading.{default_config, strip_bom}
@@ -17,14 +18,41 @@ is_plain field = list_all (λ byte. not (is_mark byte)) field
 abbrev pub EndsAt : ℕ → List ℕ → List ℕ → List ℕ → Type 0
 EndsAt mark text field rest = (text ≡ field ++ mark ∷ rest) × (is_plain field ≡ true)
 
--- the text begins with this field, which has no mark, and goes on with a line feed
-abbrev pub EndsLine : List ℕ → List ℕ → List ℕ → Type 0
-EndsLine text field rest = (more : List ℕ) × (rest ≡ 10 ∷ more) × (text ≡ field ++ rest) × (is_plain field ≡ true)
+-- a text, and the place up to which it is read
+pub record TextFrom : Type 0 where
+  pub text : List ℕ
+  pub at : ℕ
 
--- CSV reads a record of these fields first, which a line feed ends, and the text goes on from the line feed so
+-- what isn't read yet
+abbrev pub rest_of : TextFrom → List ℕ
+rest_of t = drop t.at t.text
+
+-- the same with the byte before it
+abbrev pub left_of : TextFrom → List ℕ
+left_of t = drop (t.at - 1) t.text
+
+-- the byte before what isn't read yet is this mark
+abbrev pub IsBehind : ℕ → TextFrom → Type 0
+IsBehind mark t = left_of t ≡ mark ∷ rest_of t
+
+-- the next mark of a text stands here
+pub record IsNextMark (t : TextFrom) (place : ℕ) : Type 0 where
+  pub ahead : t.at ≤ place
+  pub within : place < length t.text
+  pub before : (k : ℕ) → t.at ≤ k → k < place → is_mark (get_or t.text k 0) ≡ false
+
+-- a text is read up to one place, and looked at up to another: each mark between them has its bit, those of the last block
+-- of 64 bytes alone, and what is read has none
+pub record IsMarked (text : List ℕ) (at end bits : ℕ) : Type 0 where
+  pub ahead : at ≤ end
+  pub within : end ≤ length text
+  pub unread : (k : ℕ) → bit_at bits k ≡ 1 → at + 64 ≤ end + k
+  pub marks : (k : ℕ) → at ≤ k → k < end → is_mark (get_or text k 0) ≡ true → (end ≤ k + 64) × (bit_at bits (k + 64 - end) ≡ 1)
+
+-- CSV reads a record of these fields first, which a line feed ends, and the text goes on so behind it
 abbrev pub ReadsLine : List ℕ → List (List ℕ) → List ℕ → Type 0
-ReadsLine text fields rest = (more : List ℕ) × (rest ≡ 10 ∷ more) × (next_record default_config state.StartRecord [] [] text ≡ Some (fields, state.StartRecord, more))
+ReadsLine text fields more = next_record default_config state.StartRecord [] [] text ≡ Some (fields, state.StartRecord, more)
 
--- the text begins with the header and has nothing before it, and goes on from the end of its line so
+-- the text begins with the line of the header and has nothing before it, and goes on so behind it
 abbrev pub IsBehindHeader : List ℕ → List ℕ → Type 0
-IsBehindHeader text left = (header : List (List ℕ)) × (is_header header ≡ true) × (strip_bom text ≡ text) × ReadsLine text header left
+IsBehindHeader text more = (header : List (List ℕ)) × (is_header header ≡ true) × (strip_bom text ≡ text) × ReadsLine text header more

@@ -6,12 +6,13 @@ ghost use Rattle.csv.specs.Reading.{default_config, records, strip_bom};
 ghost use Rattle.csv.specs.Records.{fields_of};
 ghost use Rattle.xm_files.specs.FileFaults.{is_from_outside};
 ghost use Rattle.xm_files.specs.Orders.{orders_of, rows_after, rows_of_records, with_record, with_rows};
-ghost use Rattle.xm_files.specs.Plain.{IsBehindHeader};
+ghost use Rattle.xm_files.specs.Plain.{IsBehind, IsBehindHeader, rest_of};
 ghost use Rattle.xm_files.specs.Rows.{is_header, rows_of_entry, rows_of_record, texts_of};
 
 use crate::bytes::{MAX_BYTES, read_whole};
 use crate::entries::{Entry, parse_entry};
 use crate::file_faults::{FileCause, FileFault};
+use crate::marks::Marks;
 use crate::names::Names;
 use crate::records::Fields;
 use csv::{ByteRecord, ReaderBuilder};
@@ -123,27 +124,29 @@ fn add_lines<'a>(
     ensures err { IfErr result (λ fault. fault.cause ≢ FileCause.OutOfMemory → rows_of_records names.now config.now (records default_config (strip_bom text.now)) ≡ Err fault) }
     ensures memory { IfErr result (λ fault. OnTrue (is_from_outside fault.cause) (fault.line ≡ 0)) }
 {
-    let Some(mut left) = behind_header(text) else {
+    let Some(mut marks) = behind_header(text) else {
         return Ok((text, 1));
     };
     let mut line = 2u32;
     'lines: loop {
-        let Some((fields, rest)) = Fields::behind_line_feed(left) else {
+        let left = marks.left();
+        let Some(fields) = Fields::of_line(&mut marks) else {
             return Ok((left, line));
         };
         add_record(rows, line, &fields, names, config)?;
-        left = rest;
         line += 1;
     }
 }
 
-/// What comes from the end of the header's line on, where a text begins with the header and nothing before it.
-fn behind_header(text: &[u8]) -> Option<&[u8]>
-    ensures { IfSome result (λ left. IsBehindHeader text.now left.now) }
+/// A text behind the header's line, where it begins with the header and nothing before it.
+fn behind_header(text: &[u8]) -> Option<Marks<'_>>
+    ensures header { IfSome result (λ marks. IsBehindHeader text.now (rest_of marks)) }
+    ensures behind { IfSome result (IsBehind 10) }
 {
-    let (fields, end) = Fields::of_line(text, 0)?;
-    if !text.is_empty() && text[0] != BYTE_ORDER_MARK && fields.is_header() {
-        Some(&text[end..])
+    let mut marks = Marks::of(text);
+    let fields = Fields::of_line(&mut marks)?;
+    if text[0] != BYTE_ORDER_MARK && fields.is_header() {
+        Some(marks)
     } else {
         None
     }

@@ -3,11 +3,11 @@ ghost use Rattle.std.specs.Prelude.{◌≡◌, ◌≤◌, ◌∷◌, [], drop, �
 ghost use Rattle.std.specs.List.{list_all};
 ghost use Rattle.std.specs.Str.{bytes_eq};
 ghost use Rattle.csv.specs.Records.{fields_of};
-ghost use Rattle.xm_files.specs.Plain.{ReadsLine};
+ghost use Rattle.xm_files.specs.Plain.{IsBehind, ReadsLine, rest_of};
 ghost use Rattle.xm_files.specs.Rows.{are_empty, field, is_header, texts_of, title_of};
 
 use crate::columns::Column;
-use crate::plain::{field, last_field};
+use crate::marks::Marks;
 use csv::ByteRecord;
 
 /// The fields of a record, by their columns.
@@ -51,55 +51,29 @@ impl<'a> Fields<'a> {
         })
     }
 
-    /// The record of the line behind a line feed, and what comes from the line feed on that ends it.
+    /// The record of the next line, which is read with the line feed that ends it. There is none where the line has another
+    /// number of fields than columns, a quote or a carriage return, or no line feed at its end, nor in the last bytes of a
+    /// text.
     #[inline(always)]
-    pub(crate) fn behind_line_feed(text: &'a [u8]) -> Option<(Fields<'a>, &'a [u8])>
-        ensures { IfSome result (λ p. (line : List ℕ) × (text.now ≡ 10 ∷ line) × ReadsLine line (texts_of p.0) p.1.now) }
+    pub(crate) fn of_line(line: &mut Marks<'a>) -> Option<Fields<'a>>
+        ensures text { line.new.text ≡ line.old.text }
+        ensures line { IfSome result (λ fields. ReadsLine (rest_of line.old) (texts_of fields) (rest_of line.new)) }
+        ensures behind { IfSome result (λ _. IsBehind 10 line.new) }
     {
-        if !text.is_empty() && text[0] == b'\n' {
-            let (fields, end) = Fields::of_line(text, 1)?;
-            Some((fields, &text[end..]))
-        } else {
-            None
-        }
-    }
-
-    /// The record of the line that begins at a place, and the place of the line feed that ends it. There is none
-    /// where the line has another number of fields than columns, a quote or a carriage return, or no line feed at
-    /// its end.
-    #[inline(always)]
-    pub(crate) fn of_line(text: &'a [u8], from: usize) -> Option<(Fields<'a>, usize)>
-        requires { from ≤ length text.now }
-        ensures line { IfSome result (λ p. ReadsLine (drop from text.now) (texts_of p.0) (drop p.1 text.now)) }
-        ensures within { IfSome result (λ p. p.1 ≤ length text.now) }
-    {
-        let (command, at) = field(text, from)?;
-        let (member, at) = field(text, at)?;
-        let (reference, at) = field(text, at)?;
-        let (security, at) = field(text, at)?;
-        let (side, at) = field(text, at)?;
-        let (kind, at) = field(text, at)?;
-        let (limit, at) = field(text, at)?;
-        let (trigger, at) = field(text, at)?;
-        let (quantity, at) = field(text, at)?;
-        let (validity, at) = field(text, at)?;
-        let (restriction, at) = field(text, at)?;
-        let (condition, end) = last_field(text, at)?;
-        let fields = Fields {
-            command,
-            member,
-            reference,
-            security,
-            side,
-            kind,
-            limit,
-            trigger,
-            quantity,
-            validity,
-            restriction,
-            condition,
-        };
-        Some((fields, end))
+        Some(Fields {
+            command: line.field(b',')?,
+            member: line.field(b',')?,
+            reference: line.field(b',')?,
+            security: line.field(b',')?,
+            side: line.field(b',')?,
+            kind: line.field(b',')?,
+            limit: line.field(b',')?,
+            trigger: line.field(b',')?,
+            quantity: line.field(b',')?,
+            validity: line.field(b',')?,
+            restriction: line.field(b',')?,
+            condition: line.field(b'\n')?,
+        })
     }
 
     /// The field in a column.

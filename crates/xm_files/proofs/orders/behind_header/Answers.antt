@@ -1,10 +1,9 @@
 use Rattle.std.proofs.Common.{◌≢◌, get_or, sym, rules, ◌∙◌}
 use Rattle.xm_files.proofs.LineRecords.{strip-unmarked}
-use Rattle.xm_files.proofs.PlainFields.{lent-from}
 use Rattle.xm_files.specs.Rows.{texts_of}
 use Rattle.xm_files.proofs.orders.behind_header.Goals as goal
 
-pub returns-then-is_header : goal.returns-then-is_header
-returns-then-is_header c =
+pub returns-then-is_header-clause-header : goal.returns-then-is_header-clause-header
+returns-then-is_header-clause-header c =
     let other : get_or c.args.text.now 0 0 ≢ 239 = search rules in
-    (texts_of c.in_ok-fields.fields, sym c.is_header.ensures ∙ c.if-is_header.true, strip-unmarked c.args.text.now other, rw (lent-from c.args.text.now c.in_ok-fields.end) c.in_ok-fields.ensures.line)
+    (texts_of c.in_ok-fields.fields, sym c.is_header.ensures ∙ c.if-is_header.true, strip-unmarked c.args.text.now other, rw c.of-marks.ensures at c.in_ok-fields.ensures.line)

@@ -4,5 +4,5 @@ use Rattle.xm_files.proofs.records.Fields.of_line.Goals as goal
 pub returns-clause-line : goal.returns-clause-line
 returns-clause-line c =
     line-read _ _ _ _ _ _ _ _ _ _ _ _ _ _ _ _ _ _ _ _ _ _ _ _ _
-    c.in_ok-command.ensures.field c.in_ok-member.ensures.field c.in_ok-reference.ensures.field c.in_ok-security.ensures.field c.in_ok-side.ensures.field c.in_ok-kind.ensures.field
-    c.in_ok-limit.ensures.field c.in_ok-trigger.ensures.field c.in_ok-quantity.ensures.field c.in_ok-validity.ensures.field c.in_ok-restriction.ensures.field c.in_ok-condition.ensures.field
+    c.in_ok-field.ensures.field c.in_ok-field-2.ensures.field c.in_ok-field-3.ensures.field c.in_ok-field-4.ensures.field c.in_ok-field-5.ensures.field c.in_ok-field-6.ensures.field
+    c.in_ok-field-7.ensures.field c.in_ok-field-8.ensures.field c.in_ok-field-9.ensures.field c.in_ok-field-10.ensures.field c.in_ok-field-11.ensures.field c.in_ok-field-12.ensures.field
