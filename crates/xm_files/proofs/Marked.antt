@@ -1,16 +1,16 @@
 -- The marks of a text, block by block.
-use Rattle.std.proofs.Common.{◌≡◌, ℕ, ◌+◌, ◌-◌, ◌*◌, ◌%◌, ◌^◌, ◌<◌, ◌≤◌, Bool, true, false, List, take, drop, get_or, length, refl, sym, ap, ◌∙◌, inl, inr, arith, w64, bit_and, ◌⊎◌, ◌==◌}
+use Rattle.std.proofs.Common.{◌≡◌, ℕ, ◌+◌, ◌-◌, ◌*◌, ◌%◌, ◌^◌, ◌<◌, ◌≤◌, Bool, true, false, List, take, drop, get_or, length, refl, ap, ◌∙◌, inl, inr, arith, w64, bit_and, ◌⊎◌, ◌==◌, cond, eqb, map, bit_or}
 use Rattle.std.specs.Int.{bit_at, bit_not, trailing_zeros}
 use Rattle.std.proofs.lemmas.Bool.{cases_lt, eqb-true, or_cases}
 use Rattle.std.proofs.lemmas.Nat.Bits.{bit_at-zero, bit_at-trailing_zeros, bit_at_clear_same, bit_at_clear_other}
-use Rattle.std.proofs.lemmas.List.{get_or-drop, get_or-take}
-use Rattle.std.proofs.lemmas.Simd.{get_or-chunk}
-use lib.Lanes.{chunk}
+use Rattle.std.proofs.lemmas.List.{get_or-drop, get_or-map, get_or-take, length-map}
+use Rattle.std.proofs.lemmas.Simd.{bit_mask_l, get_or-chunk, mask_l-mod}
+use lib.Lanes.{chunk, mask_l, top}
 use Rattle.xm_files.specs.Plain.{IsMarked, IsNextMark, is_mark}
 
--- nothing is looked at yet
-pub unlooked : (text : List ℕ) (at : ℕ) → at ≤ length text → IsMarked text at at 0
-unlooked text at within = record {
+-- nothing behind a block is looked at yet
+pub unlooked : (text : List ℕ) (block : ℕ) → block + 64 ≤ length text → IsMarked text (block + 64) block 0
+unlooked text block within = record {
   ahead = omega arith;
   within = within;
   unread = λ k set. absurd (let none = bit_at-zero k in omega arith);
@@ -25,37 +25,20 @@ loaded text from k below =
     rw size (get_or-chunk 0 64 (take 64 (drop from text)) k 0 below ∙ rw place (get_or-take 64 (drop from text) k 0 below ∙ get_or-drop from text k 0))
 
 -- one more block
-pub more-looked : (text : List ℕ) (at end bits : ℕ) → IsMarked text at end 0 → end + 64 ≤ length text
-    → ((k : ℕ) → k < 64 → is_mark (get_or text (end + k) 0) ≡ true → bit_at bits k ≡ 1) → IsMarked text at (end + 64) bits
-more-looked text at end bits none within block =
+pub more-looked : (text : List ℕ) (at block bits : ℕ) → IsMarked text at block 0 → block + 64 + 64 ≤ length text
+    → ((k : ℕ) → k < 64 → is_mark (get_or text (block + 64 + k) 0) ≡ true → bit_at bits k ≡ 1) → IsMarked text at (block + 64) bits
+more-looked text at block bits none within next =
     let ahead = none.ahead in
     record {
       ahead = omega arith;
       within = within;
       unread = λ k set. omega arith;
       marks = λ k from before mark.
-          elim (cases_lt k end) [
-            | inl old ↦ absurd (let was = none.marks k from old mark in let zero = bit_at-zero (k + 64 - end) in omega (arith, was.1))
+          elim (cases_lt k (block + 64)) [
+            | inl old ↦ absurd (let was = none.marks k from old mark in let zero = bit_at-zero (k - block) in omega (arith, was.1))
             | inr new ↦
-                let place : end + (k - end) ≡ k = omega arith in
-                let bit : k - end ≡ k + 64 - (end + 64) = omega arith in
-                (omega arith, ap (bit_at bits) (sym bit) ∙ block (k - end) (omega arith) (ap (λ (n : ℕ). is_mark (get_or text n 0)) place ∙ mark))
-          ];
-    }
-
--- marks that were found behind what was looked at
-pub looked-on : (text : List ℕ) (at looked end bits : ℕ) → IsMarked text at looked 0 → IsMarked text looked end bits → IsMarked text at end bits
-looked-on text at looked end bits none more =
-    let ahead = none.ahead in
-    let beyond = more.ahead in
-    record {
-      ahead = omega arith;
-      within = more.within;
-      unread = λ k set. let unread = more.unread k set in omega arith;
-      marks = λ k from before mark.
-          elim (cases_lt k looked) [
-            | inl old ↦ absurd (let was = none.marks k from old mark in let zero = bit_at-zero (k + 64 - looked) in omega (arith, was.1))
-            | inr new ↦ more.marks k new before mark
+                let place : block + 64 + (k - (block + 64)) ≡ k = omega arith in
+                (omega arith, next (k - (block + 64)) (omega arith) (ap (λ (n : ℕ). is_mark (get_or text n 0)) place ∙ mark))
           ];
     }
 
@@ -75,25 +58,52 @@ mark-is byte mark =
           ]
     ]
 
+-- a lane of a comparison, and of the four of a block with the marks
+abbrev pub hit : ℕ → ℕ → ℕ
+hit a b = cond (eqb a b) 255 0
+
+abbrev pub mark_lane : ℕ → ℕ
+mark_lane byte = bit_or (bit_or (hit byte 10) (hit byte 44)) (bit_or (hit byte 13) (hit byte 34))
+
+lane-top : (byte : ℕ) → is_mark byte ≡ true → top 7 (mark_lane byte) ≡ true
+lane-top byte mark =
+    elim (mark-is byte mark) [
+      | inl feed ↦ ap (λ (n : ℕ). top 7 (mark_lane n)) feed
+      | inr (inl return) ↦ ap (λ (n : ℕ). top 7 (mark_lane n)) return
+      | inr (inr (inl quote)) ↦ ap (λ (n : ℕ). top 7 (mark_lane n)) quote
+      | inr (inr (inr comma)) ↦ ap (λ (n : ℕ). top 7 (mark_lane n)) comma
+    ]
+
+-- the bits of a block's lanes
+pub lane-bits : (block lanes : List ℕ) → length block ≡ 64 → lanes ≡ map mark_lane block → (k : ℕ) → k < 64 → is_mark (get_or block k 0) ≡ true → bit_at (mask_l (map (top 7) lanes) % 2 ^ 64) k ≡ 1
+lane-bits block lanes long is k within mark =
+    let count = length-map block mark_lane in
+    let tops = map (top 7) (map mark_lane block) in
+    let all = length-map (map mark_lane block) (top 7) in
+    ap (λ (ls : List ℕ). bit_at (mask_l (map (top 7) ls) % 2 ^ 64) k) is
+    ∙ ap (λ (n : ℕ). bit_at n k) (mask_l-mod tops 64 (omega (arith, count, all, long)))
+    ∙ bit_mask_l tops k
+    ∙ ap (λ (b : Bool). cond b 1 0) (get_or-map (top 7) (map mark_lane block) k 0 false (omega (arith, count, long)) ∙ ap (top 7) (get_or-map mark_lane block k 0 0 (omega (arith, long))) ∙ lane-top (get_or block k 0) mark)
+
 unless-true : (b : Bool) → (b ≡ true → ⊥) → b ≡ false
 unless-true true not = absurd (not refl)
 unless-true false not = refl
 
 -- the lowest bit is the next mark
-pub next-mark : (text : List ℕ) (at end bits : ℕ) → IsMarked text at end bits → 0 < bits → bits < 2 ^ 64 → IsNextMark (record { text = text; at = at }) (end + trailing_zeros w64 bits - 64)
-next-mark text at end bits m some small =
+pub next-mark : (text : List ℕ) (at block bits : ℕ) → IsMarked text at block bits → 0 < bits → bits < 2 ^ 64 → IsNextMark (record { text = text; at = at }) (block + trailing_zeros w64 bits)
+next-mark text at block bits m some small =
     let lowest = bit_at-trailing_zeros w64 bits some small in
     let unread = m.unread (trailing_zeros w64 bits) lowest.1 in
     let below = lowest.0 in
     let within = m.within in
     record {
-      ahead = omega arith;
-      within = omega (arith, below, within, unread);
+      ahead = unread;
+      within = omega (arith, below, within);
       before = λ k from before.
           unless-true (is_mark (get_or text k 0))
           (λ mark.
           let is = m.marks k from (omega (arith, below, before)) mark in
-          let clear = lowest.2 (k + 64 - end) (omega (arith, before, is.0)) in
+          let clear = lowest.2 (k - block) (omega (arith, before, is.0)) in
           omega (arith, is.1, clear));
     }
 
@@ -110,23 +120,22 @@ cleared bits bit k within low lower set =
     ]
 
 -- what is left behind it
-pub read-on : (text : List ℕ) (at end bits : ℕ) → IsMarked text at end bits → 0 < bits → bits < 2 ^ 64
-    → IsMarked text (end + trailing_zeros w64 bits - 64 + 1) end (bit_and bits (bit_not w64 (1 * 2 ^ trailing_zeros w64 bits % 2 ^ 64)))
-read-on text at end bits m some small =
+pub read-on : (text : List ℕ) (at block bits : ℕ) → IsMarked text at block bits → 0 < bits → bits < 2 ^ 64
+    → IsMarked text (block + trailing_zeros w64 bits + 1) block (bit_and bits (bit_not w64 (1 * 2 ^ trailing_zeros w64 bits % 2 ^ 64)))
+read-on text at block bits m some small =
     let bit = trailing_zeros w64 bits in
     let lowest = bit_at-trailing_zeros w64 bits some small in
     let unread = m.unread bit lowest.1 in
     let below = lowest.0 in
-    let within = m.within in
     record {
-      ahead = omega (arith, below, unread);
-      within = within;
+      ahead = omega (arith, below);
+      within = m.within;
       unread = λ k set.
           elim (cases_lt bit k) [
-            | inl above ↦ omega (arith, above, unread)
+            | inl above ↦ omega (arith, above)
             | inr low ↦ absurd (cleared bits bit k below low lowest.2 set)
           ];
       marks = λ k from before mark.
           let is = m.marks k (omega (arith, from, unread)) before mark in
-          (is.0, bit_at_clear_other w64 bits bit below (k + 64 - end) (omega (arith, is.0, before)) (λ same. omega (arith, same, from, is.0)) ∙ is.1);
+          (is.0, bit_at_clear_other w64 bits bit below (k - block) (omega (arith, is.0, before)) (λ same. omega (arith, same, from, is.0)) ∙ is.1);
     }

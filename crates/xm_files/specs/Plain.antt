@@ -41,13 +41,13 @@ pub record IsNextMark (t : TextFrom) (place : ℕ) : Type 0 where
   pub within : place < length t.text
   pub before : (k : ℕ) → t.at ≤ k → k < place → is_mark (get_or t.text k 0) ≡ false
 
--- a text is read up to one place, and looked at up to another: each mark between them has its bit, those of the last block
--- of 64 bytes alone, and what is read has none
-pub record IsMarked (text : List ℕ) (at end bits : ℕ) : Type 0 where
-  pub ahead : at ≤ end
-  pub within : end ≤ length text
-  pub unread : (k : ℕ) → bit_at bits k ≡ 1 → at + 64 ≤ end + k
-  pub marks : (k : ℕ) → at ≤ k → k < end → is_mark (get_or text k 0) ≡ true → (end ≤ k + 64) × (bit_at bits (k + 64 - end) ≡ 1)
+-- a text is read up to one place, and its marks are looked at in all blocks of 64 bytes up to one: each mark from that place
+-- on is in this block, and has its bit; what is read has none
+pub record IsMarked (text : List ℕ) (at block bits : ℕ) : Type 0 where
+  pub ahead : at ≤ block + 64
+  pub within : block + 64 ≤ length text
+  pub unread : (k : ℕ) → bit_at bits k ≡ 1 → at ≤ block + k
+  pub marks : (k : ℕ) → at ≤ k → k < block + 64 → is_mark (get_or text k 0) ≡ true → (block ≤ k) × (bit_at bits (k - block) ≡ 1)
 
 -- CSV reads a record of these fields first, which a line feed ends, and the text goes on so behind it
 abbrev pub ReadsLine : List ℕ → List (List ℕ) → List ℕ → Type 0

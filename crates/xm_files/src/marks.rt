@@ -16,8 +16,8 @@ const BLOCK: usize = 64;
 pub(crate) struct Marks<'a> {
     text: &'a [u8],
     at: usize,
-    // The end of the last block that was looked at, and a bit for each of its marks that isn't read yet.
-    end: usize,
+    // Where the block at hand begins, and a bit for each of its marks that isn't read yet.
+    block: usize,
     bits: u64,
 }
 
@@ -28,20 +28,23 @@ impl<'a> Model for Marks<'a> {
 
     ghost view = { λ m. record { text = m.text.now; at = m.at } };
 
-    ghost invariant = { λ m. IsMarked m.text.now m.at m.end m.bits };
+    ghost invariant = { λ m. IsMarked m.text.now m.at m.block m.bits };
 }
 
 impl<'a> Marks<'a> {
-    /// A text of which nothing is read yet.
-    pub(crate) fn of(text: &'a [u8]) -> Marks<'a>
-        ensures { result ≡ record { text = text.now; at = 0 } }
+    /// A text of which nothing is read yet, or `None` where it is shorter than a block.
+    pub(crate) fn of(text: &'a [u8]) -> Option<Marks<'a>>
+        ensures { IfSome result (λ marks. marks ≡ record { text = text.now; at = 0 }) }
     {
-        Marks {
+        if text.len() < BLOCK {
+            return None;
+        }
+        Some(Marks {
             text,
             at: 0,
-            end: 0,
-            bits: 0,
-        }
+            block: 0,
+            bits: block_marks(text, 0),
+        })
     }
 
     /// What isn't read yet, with the byte before it.
@@ -73,45 +76,56 @@ impl<'a> Marks<'a> {
         ensures next { IfSome result (IsNextMark self.old) }
         ensures read { IfSome result (λ at. self.new ≡ record self.old { at = at + 1 }) }
     {
-        let (end, bits) = self.next_block()?;
+        let (block, bits) = self.ahead();
+        if bits == 0 {
+            return None;
+        }
         let bit = bits.trailing_zeros() as usize;
-        let at = end + bit - BLOCK;
-        self.end = end;
+        let at = block + bit;
+        self.block = block;
         self.bits = bits & !(1 << bit);
         self.at = at + 1;
         Some(at)
     }
 
-    /// The end of the block that has the next mark, and a bit for each of its marks that isn't read yet.
+    /// Where the block of the next mark begins, and a bit for each of its marks that isn't read yet. There is none where no
+    /// whole block has one.
     #[inline(always)]
-    fn next_block(&self) -> Option<(usize, u64)>
-        ensures marked { IfSome result (λ p. IsMarked self.now.text self.now.at p.0 p.1) }
-        ensures some { IfSome result (λ p. 0 < p.1) }
+    fn ahead(&self) -> (usize, u64)
+        ensures { IsMarked self.now.text self.now.at result.0 result.1 }
     {
         if self.bits == 0 {
-            marked_block(self.text, self.end)
+            marked_block(self.text, self.block)
         } else {
-            Some((self.end, self.bits))
+            (self.block, self.bits)
         }
     }
 }
 
-/// The first whole block from a place on that has a mark: its end, and a bit for each of its marks.
-#[inline(always)]
-fn marked_block(text: &[u8], from: usize) -> Option<(usize, u64)>
-    requires { from ≤ length text.now }
-    ensures marked { IfSome result (λ p. IsMarked text.now from p.0 p.1) }
-    ensures some { IfSome result (λ p. 0 < p.1) }
+/// The first block behind one that has a mark, or the last one: where it begins, and a bit for each of its marks.
+#[inline(never)]
+fn marked_block(text: &[u8], behind: usize) -> (usize, u64)
+    requires { behind + BLOCK ≤ length text.now }
+    ensures { IsMarked text.now (behind + BLOCK) result.0 result.1 }
 {
-    let mut end = from;
-    while text.len() - end >= BLOCK {
-        let bits = marks_of(u8x64::from_slice(&text[end..end + BLOCK]));
-        end += BLOCK;
+    let mut block = behind;
+    while text.len() - block >= 2 * BLOCK {
+        block += BLOCK;
+        let bits = block_marks(text, block);
         if bits != 0 {
-            return Some((end, bits));
+            return (block, bits);
         }
     }
-    None
+    (block, 0)
+}
+
+/// A bit for each mark of the block that begins at a place.
+#[inline(always)]
+fn block_marks(text: &[u8], block: usize) -> u64
+    requires { block + BLOCK ≤ length text.now }
+    ensures { (k : ℕ) → k < BLOCK → is_mark (get_or text.now (block + k) 0) ≡ true → bit_at result k ≡ 1 }
+{
+    marks_of(u8x64::from_slice(&text[block..block + BLOCK]))
 }
 
 /// A bit for each mark of a block.
@@ -119,16 +133,7 @@ fn marked_block(text: &[u8], from: usize) -> Option<(usize, u64)>
 fn marks_of(block: u8x64) -> u64
     ensures { (k : ℕ) → k < BLOCK → is_mark (get_or block k 0) ≡ true → bit_at result k ≡ 1 }
 {
-    places_of(block, b'\n')
-        | places_of(block, b'\r')
-        | places_of(block, b'"')
-        | places_of(block, b',')
-}
-
-/// A bit for each place of a byte in a block.
-#[inline(always)]
-fn places_of(block: u8x64, byte: u8) -> u64
-    ensures { (k : ℕ) → k < BLOCK → get_or block k 0 ≡ byte → bit_at result k ≡ 1 }
-{
-    block.simd_eq(u8x64::splat(byte)).to_bitmask()
+    let ends = block.simd_eq(u8x64::splat(b'\n')) | block.simd_eq(u8x64::splat(b','));
+    let others = block.simd_eq(u8x64::splat(b'\r')) | block.simd_eq(u8x64::splat(b'"'));
+    (ends | others).to_bitmask()
 }

@@ -127,10 +127,11 @@ fn add_lines<'a>(
     let Some(mut marks) = behind_header(text) else {
         return Ok((text, 1));
     };
+    let mut fields = Fields::empty();
     let mut line = 2u32;
     'lines: loop {
         let left = marks.left();
-        let Some(fields) = Fields::of_line(&mut marks) else {
+        let Some(()) = fields.read_line(&mut marks) else {
             return Ok((left, line));
         };
         add_record(rows, line, &fields, names, config)?;
@@ -143,8 +144,9 @@ fn behind_header(text: &[u8]) -> Option<Marks<'_>>
     ensures header { IfSome result (λ marks. IsBehindHeader text.now (rest_of marks)) }
     ensures behind { IfSome result (IsBehind 10) }
 {
-    let mut marks = Marks::of(text);
-    let fields = Fields::of_line(&mut marks)?;
+    let mut marks = Marks::of(text)?;
+    let mut fields = Fields::empty();
+    fields.read_line(&mut marks)?;
     if text[0] != BYTE_ORDER_MARK && fields.is_header() {
         Some(marks)
     } else {

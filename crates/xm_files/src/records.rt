@@ -51,29 +51,46 @@ impl<'a> Fields<'a> {
         })
     }
 
-    /// The record of the next line, which is read with the line feed that ends it. There is none where the line has another
-    /// number of fields than columns, a quote or a carriage return, or no line feed at its end, nor in the last bytes of a
-    /// text.
+    /// A record of empty fields.
+    pub(crate) fn empty() -> Fields<'a> {
+        Fields {
+            command: &[],
+            member: &[],
+            reference: &[],
+            security: &[],
+            side: &[],
+            kind: &[],
+            limit: &[],
+            trigger: &[],
+            quantity: &[],
+            validity: &[],
+            restriction: &[],
+            condition: &[],
+        }
+    }
+
+    /// The fields become those of the next line, which is read with the line feed that ends it. It is `None` where the
+    /// line has another number of fields than columns, a quote or a carriage return, or no line feed at its end, and in the
+    /// last bytes of a text.
     #[inline(always)]
-    pub(crate) fn of_line(line: &mut Marks<'a>) -> Option<Fields<'a>>
+    pub(crate) fn read_line(&mut self, line: &mut Marks<'a>) -> Option<()>
         ensures text { line.new.text ≡ line.old.text }
-        ensures line { IfSome result (λ fields. ReadsLine (rest_of line.old) (texts_of fields) (rest_of line.new)) }
+        ensures line { IfSome result (λ _. ReadsLine (rest_of line.old) (texts_of self.new) (rest_of line.new)) }
         ensures behind { IfSome result (λ _. IsBehind 10 line.new) }
     {
-        Some(Fields {
-            command: line.field(b',')?,
-            member: line.field(b',')?,
-            reference: line.field(b',')?,
-            security: line.field(b',')?,
-            side: line.field(b',')?,
-            kind: line.field(b',')?,
-            limit: line.field(b',')?,
-            trigger: line.field(b',')?,
-            quantity: line.field(b',')?,
-            validity: line.field(b',')?,
-            restriction: line.field(b',')?,
-            condition: line.field(b'\n')?,
-        })
+        self.command = line.field(b',')?;
+        self.member = line.field(b',')?;
+        self.reference = line.field(b',')?;
+        self.security = line.field(b',')?;
+        self.side = line.field(b',')?;
+        self.kind = line.field(b',')?;
+        self.limit = line.field(b',')?;
+        self.trigger = line.field(b',')?;
+        self.quantity = line.field(b',')?;
+        self.validity = line.field(b',')?;
+        self.restriction = line.field(b',')?;
+        self.condition = line.field(b'\n')?;
+        Some(())
     }
 
     /// The field in a column.

@@ -12,28 +12,28 @@ lines-init c = record {
   behind = c.in-Some.ensures.behind;
 }
 
-pub returns-in_default-of_line-clause-ok : goal.returns-in_default-of_line-clause-ok
-returns-in_default-of_line-clause-ok c =
+pub returns-in_default-read_line-clause-ok : goal.returns-in_default-read_line-clause-ok
+returns-in_default-read_line-clause-ok c =
     lines-end c.args.names.now c.args.config.now _ c.left-left.result.now (rest_of c.lines.marks) c.lines.line c.lines.rows.items c.lines.invariant.read (c.left-left.ensures ∙ c.lines.invariant.behind)
 
 pub returns-in_err-add_record-clause-err : goal.returns-in_err-add_record-clause-err
 returns-in_err-add_record-clause-err c =
-    let read = c.in-Some-of_line in
+    let read = c.in-Some-read_line in
     let fault = c.in_err-add_record.field-0.0 in
     if_passed _ c.from_residual.result fault c.from_residual.ensures.1
-    (λ h. lines-fault c.args.names.now c.args.config.now _ (rest_of c.lines.marks) (rest_of c.of_line.new.line) c.lines.line c.lines.rows.items (texts_of read.fields) fault c.lines.invariant.read read.ensures.line refl
+    (λ h. lines-fault c.args.names.now c.args.config.now _ (rest_of c.lines.marks) (rest_of c.read_line.new.line) c.lines.line c.lines.rows.items (texts_of c.read_line.new.self) fault c.lines.invariant.read read.ensures.line refl
     (c.in_err-add_record.ensures.err h))
 
 pub lines-smaller : goal.lines-smaller
 lines-smaller c =
-    let read = c.in-Some-of_line in
-    line-shorter (rest_of c.lines.marks) (rest_of c.of_line.new.line) (texts_of read.fields) read.ensures.line
+    let read = c.in-Some-read_line in
+    line-shorter (rest_of c.lines.marks) (rest_of c.read_line.new.line) (texts_of c.read_line.new.self) read.ensures.line
 
 pub lines-preserved : goal.lines-preserved
 lines-preserved c =
-    let read = c.in-Some-of_line in
+    let read = c.in-Some-read_line in
     record {
-      read = lines-more c.args.names.now c.args.config.now _ (rest_of c.lines.marks) (rest_of c.of_line.new.line) c.lines.line c.lines.rows.items c.add_record.new.rows.items (texts_of read.fields) c.lines.invariant.read read.ensures.line refl
+      read = lines-more c.args.names.now c.args.config.now _ (rest_of c.lines.marks) (rest_of c.read_line.new.line) c.lines.line c.lines.rows.items c.add_record.new.rows.items (texts_of c.read_line.new.self) c.lines.invariant.read read.ensures.line refl
           c.in_ok-add_record.ensures.ok c.in_ok-add_record.ensures.few;
       behind = read.ensures.behind;
     }

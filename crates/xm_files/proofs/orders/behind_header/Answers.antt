@@ -6,4 +6,4 @@ use Rattle.xm_files.proofs.orders.behind_header.Goals as goal
 pub returns-then-is_header-clause-header : goal.returns-then-is_header-clause-header
 returns-then-is_header-clause-header c =
     let other : get_or c.args.text.now 0 0 ≢ 239 = search rules in
-    (texts_of c.in_ok-fields.fields, sym c.is_header.ensures ∙ c.if-is_header.true, strip-unmarked c.args.text.now other, rw c.of-marks.ensures at c.in_ok-fields.ensures.line)
+    (texts_of c.read_line.new.self, sym c.is_header.ensures ∙ c.if-is_header.true, strip-unmarked c.args.text.now other, rw c.in_ok-marks.ensures at c.in_ok-read_line.ensures.line)
