@@ -1,3 +1,4 @@
+mod growths;
 mod whole_day;
 
 use crate::files::fixtures::{

@@ -96,7 +96,7 @@ use std::test::Fail;
 use xm_rules::{DeskSettings, Order, OrderKind, Restriction, Side, Validity, Widths};
 use xm_ticks::{JournalLimit, Price, TickSize};
 
-fn settings(limit: u32) -> Result<DeskSettings, Fail> {
+pub(crate) fn settings(limit: u32) -> Result<DeskSettings, Fail> {
     Ok(DeskSettings {
         today: 20260105,
         members: 2,

@@ -1,3 +1,4 @@
+mod damaged_fields;
 pub(crate) mod fixtures;
 mod order_files;
 mod segment_files;
