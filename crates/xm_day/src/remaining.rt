@@ -4,14 +4,13 @@ ghost use Rattle.std.specs.List.{flat_map};
 ghost use Rattle.xm_day.specs.Statement.{date_text, limit_text, order_line, stop_line, validity_text};
 ghost use Rattle.xm_ticks.specs.Writing.{price_text};
 
-use crate::texts::{push_number, push_party, push_text};
+use crate::texts::{push_money, push_number, push_party, push_price, push_text};
 use crate::words::{restriction_word, side_word};
 use itoa::Buffer;
 use std::alloc::Allocator;
-use std::io::{self, Write};
 use xm_files::Names;
-use xm_rules::{Order, OrderKind, Stop, Validity};
-use xm_ticks::{TickSize, write_money, write_price};
+use xm_rules::{Order, OrderKind, OutOfMemory, Stop, Validity};
+use xm_ticks::TickSize;
 
 /// The lines of some orders.
 pub(crate) fn push_orders<A: Allocator>(
@@ -19,7 +18,7 @@ pub(crate) fn push_orders<A: Allocator>(
     orders: &[Order],
     names: &Names,
     tick: TickSize,
-) -> io::Result<()>
+) -> Result<(), OutOfMemory>
     ensures { OnOk result (text.new.items ≡ text.old.items ++ flat_map (order_line names.now tick) orders.now) }
 {
     for order in orders {
@@ -34,7 +33,7 @@ fn push_order<A: Allocator>(
     order: &Order,
     names: &Names,
     tick: TickSize,
-) -> io::Result<()>
+) -> Result<(), OutOfMemory>
     ensures { OnOk result (text.new.items ≡ text.old.items ++ order_line names.now tick order.now) }
 {
     push_text(text, "ORDER ")?;
@@ -58,7 +57,7 @@ pub(crate) fn push_stops<A: Allocator>(
     stops: &[Stop],
     names: &Names,
     tick: TickSize,
-) -> io::Result<()>
+) -> Result<(), OutOfMemory>
     ensures { OnOk result (text.new.items ≡ text.old.items ++ flat_map (stop_line names.now tick) stops.now) }
 {
     for stop in stops {
@@ -73,7 +72,7 @@ fn push_stop<A: Allocator>(
     stop: &Stop,
     names: &Names,
     tick: TickSize,
-) -> io::Result<()>
+) -> Result<(), OutOfMemory>
     ensures { OnOk result (text.new.items ≡ text.old.items ++ stop_line names.now tick stop.now) }
 {
     push_text(text, "STOP ")?;
@@ -92,10 +91,14 @@ fn push_stop<A: Allocator>(
 }
 
 /// The price of a trigger in ticks.
-fn push_trigger<A: Allocator>(text: &mut Vec<u8, A>, trigger: u32, tick: TickSize) -> io::Result<()>
+fn push_trigger<A: Allocator>(
+    text: &mut Vec<u8, A>,
+    trigger: u32,
+    tick: TickSize,
+) -> Result<(), OutOfMemory>
     ensures { OnOk result (text.new.items ≡ text.old.items ++ price_text trigger tick) }
 {
-    write_money(text, i128::from(trigger) * i128::from(tick.get()))
+    push_money(text, i128::from(trigger) * i128::from(tick.get()))
 }
 
 /// The limit of an order, if it has one.
@@ -103,17 +106,17 @@ fn push_limit<A: Allocator>(
     text: &mut Vec<u8, A>,
     kind: OrderKind,
     tick: TickSize,
-) -> io::Result<()>
+) -> Result<(), OutOfMemory>
     ensures { OnOk result (text.new.items ≡ text.old.items ++ limit_text tick kind) }
 {
     match kind {
         OrderKind::Market => push_text(text, "market"),
-        OrderKind::Limit(price) => write_price(text, price, tick),
+        OrderKind::Limit(price) => push_price(text, price, tick),
     }
 }
 
 /// How long an order is valid.
-fn push_validity<A: Allocator>(text: &mut Vec<u8, A>, validity: Validity) -> io::Result<()>
+fn push_validity<A: Allocator>(text: &mut Vec<u8, A>, validity: Validity) -> Result<(), OutOfMemory>
     ensures { OnOk result (text.new.items ≡ text.old.items ++ validity_text validity) }
 {
     match validity {
@@ -125,14 +128,14 @@ fn push_validity<A: Allocator>(text: &mut Vec<u8, A>, validity: Validity) -> io:
 
 /// A date with at least eight digits.
 #[tactic(auto, using(std::proofs::lemmas::Grind::replicate_next))]
-pub(crate) fn push_date<A: Allocator>(text: &mut Vec<u8, A>, date: u32) -> io::Result<()>
+pub(crate) fn push_date<A: Allocator>(text: &mut Vec<u8, A>, date: u32) -> Result<(), OutOfMemory>
     ensures { OnOk result (text.new.items ≡ text.old.items ++ date_text date) }
 {
     let mut digits = Buffer::new();
     let digits = digits.format(date);
     for _ in digits.len()..8 {
-        write!(text, "0")?;
+        push_text(text, "0")?;
     }
-    write!(text, "{digits}")?;
+    push_text(text, digits)?;
     Ok(())
 }

@@ -9,15 +9,15 @@ ghost use Rattle.xm_ticks.specs.Writing.{AppendsPrefix};
 use crate::faults::DayFault;
 use crate::remaining::{push_date, push_orders, push_stops};
 use crate::report::DayReport;
-use crate::texts::security_name;
+use crate::texts::{push_number, push_price, push_text, security_name};
 use crate::traded::{push_members, push_nets, push_total, push_trades};
 use crate::words::phase_word;
 use std::alloc::Allocator;
-use std::io::{self, Write};
+use std::io;
 use xm_desk::Desk;
 use xm_files::Names;
-use xm_rules::Phase;
-use xm_ticks::{Price, TickSize, write_price, write_whole};
+use xm_rules::{OutOfMemory, Phase};
+use xm_ticks::{Price, TickSize, write_whole};
 
 /// Writes the statement of the desks of a segment, which are in index order.
 ///
@@ -39,23 +39,20 @@ pub fn statement<A: Allocator, B: Allocator + Copy, W: io::Write>(
         (statement names.now (map replay desks.now) report.now.accepted report.now.refused) }
     ensures faults { IfErr result IsOfWriting }
 {
-    let text = match statement_text(alloc, desks, names, report) {
-        Ok(text) => text,
-        Err(_) => return Err(DayFault::OutOfMemory),
-    };
+    let text = statement_text(alloc, desks, names, report)?;
     match write_whole(out, text.as_slice()) {
         Ok(()) => Ok(()),
         Err(_) => Err(DayFault::WriteFailed),
     }
 }
 
-/// The text of the statement. The error is always want of memory.
+/// The text of the statement.
 fn statement_text<A: Allocator, B: Allocator + Copy>(
     alloc: A,
     desks: &[Desk<B>],
     names: &Names,
     report: &DayReport,
-) -> io::Result<Vec<u8, A>>
+) -> Result<Vec<u8, A>, OutOfMemory>
     requires some { 0 < length desks.now }
     requires names { length names.now.securities ≡ length desks.now }
     ensures { IfOk result (λ text. text.items ≡ statement names.now (map replay desks.now) report.now.accepted report.now.refused) }
@@ -69,21 +66,23 @@ fn statement_text<A: Allocator, B: Allocator + Copy>(
 }
 
 /// The date.
-fn push_day<A: Allocator>(text: &mut Vec<u8, A>, date: u32) -> io::Result<()>
+fn push_day<A: Allocator>(text: &mut Vec<u8, A>, date: u32) -> Result<(), OutOfMemory>
     ensures { OnOk result (text.new.items ≡ text.old.items ++ day_line date) }
 {
-    write!(text, "DAY ")?;
+    push_text(text, "DAY ")?;
     push_date(text, date)?;
-    writeln!(text)
+    push_text(text, "\n")
 }
 
 /// How many rows were accepted and refused.
-fn push_rows<A: Allocator>(text: &mut Vec<u8, A>, report: &DayReport) -> io::Result<()>
+fn push_rows<A: Allocator>(text: &mut Vec<u8, A>, report: &DayReport) -> Result<(), OutOfMemory>
     ensures { OnOk result (text.new.items ≡ text.old.items ++ rows_line report.now.accepted report.now.refused) }
 {
-    let accepted = report.accepted;
-    let refused = report.refused;
-    writeln!(text, "ROWS {accepted} {refused}")
+    push_text(text, "ROWS ")?;
+    push_number(text, report.accepted)?;
+    push_text(text, " ")?;
+    push_number(text, report.refused)?;
+    push_text(text, "\n")
 }
 
 /// The securities, one after another.
@@ -91,7 +90,7 @@ fn push_securities<A: Allocator, B: Allocator + Copy>(
     text: &mut Vec<u8, A>,
     desks: &[Desk<B>],
     names: &Names,
-) -> io::Result<()>
+) -> Result<(), OutOfMemory>
     requires { length names.now.securities ≡ length desks.now }
     ensures text { OnOk result (text.new.items ≡ text.old.items ++ securities_text names.now 0 (map replay desks.now)) }
     ensures few { OnOk result (length desks.now < 2 ^ 32) }
@@ -108,18 +107,12 @@ fn push_security<A: Allocator, B: Allocator + Copy>(
     desk: &Desk<B>,
     names: &Names,
     index: u32,
-) -> io::Result<()>
+) -> Result<(), OutOfMemory>
     ensures { OnOk result (text.new.items ≡ text.old.items ++ security_text names.now index (replay desk.now)) }
 {
     let tick = desk.settings().tick;
-    let orders = match desk.orders() {
-        Ok(orders) => orders,
-        Err(_) => return Err(io::Error::from(io::ErrorKind::OutOfMemory)),
-    };
-    let stops = match desk.stops() {
-        Ok(stops) => stops,
-        Err(_) => return Err(io::Error::from(io::ErrorKind::OutOfMemory)),
-    };
+    let orders = desk.orders()?;
+    let stops = desk.stops()?;
     push_heading(text, desk, names, index)?;
     push_trades(text, desk.trades(), names, tick)?;
     push_orders(text, orders.as_slice(), names, tick)?;
@@ -135,7 +128,7 @@ fn push_heading<A: Allocator, B: Allocator + Copy>(
     desk: &Desk<B>,
     names: &Names,
     index: u32,
-) -> io::Result<()>
+) -> Result<(), OutOfMemory>
     ensures { OnOk result (text.new.items ≡ text.old.items ++ heading_text (name_at names.now.securities index) (replay desk.now)) }
 {
     push_security_line(text, security_name(names, index), desk.phase())?;
@@ -148,11 +141,14 @@ fn push_security_line<A: Allocator>(
     text: &mut Vec<u8, A>,
     name: &str,
     phase: Phase,
-) -> io::Result<()>
+) -> Result<(), OutOfMemory>
     ensures { OnOk result (text.new.items ≡ text.old.items ++ security_line name.now phase) }
 {
-    let phase = phase_word(phase);
-    writeln!(text, "SECURITY {name} {phase}")
+    push_text(text, "SECURITY ")?;
+    push_text(text, name)?;
+    push_text(text, " ")?;
+    push_text(text, phase_word(phase))?;
+    push_text(text, "\n")
 }
 
 /// The price of the last trade, and that of the last auction trade.
@@ -161,12 +157,12 @@ fn push_references<A: Allocator>(
     tick: TickSize,
     first: Price,
     second: Price,
-) -> io::Result<()>
+) -> Result<(), OutOfMemory>
     ensures { OnOk result (text.new.items ≡ text.old.items ++ references_line tick first second) }
 {
-    write!(text, "REFERENCES ")?;
-    write_price(text, first, tick)?;
-    write!(text, " ")?;
-    write_price(text, second, tick)?;
-    writeln!(text)
+    push_text(text, "REFERENCES ")?;
+    push_price(text, first, tick)?;
+    push_text(text, " ")?;
+    push_price(text, second, tick)?;
+    push_text(text, "\n")
 }

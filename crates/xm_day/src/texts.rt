@@ -2,18 +2,50 @@
 ghost use Rattle.std.specs.Prelude.{◌≡◌, ◌++◌, OnOk};
 ghost use Rattle.std.specs.Fmt.{decimal};
 ghost use Rattle.xm_day.specs.Statement.{name_at, party_text};
+ghost use Rattle.xm_ticks.specs.Writing.{money_text, price_text};
 
 use itoa::Buffer;
 use std::alloc::Allocator;
-use std::io;
 use xm_files::Names;
+use xm_rules::OutOfMemory;
+use xm_ticks::{Price, TickSize, write_money, write_price};
 
 /// A number.
-pub(crate) fn push_number<A: Allocator>(text: &mut Vec<u8, A>, number: u64) -> io::Result<()>
+pub(crate) fn push_number<A: Allocator>(
+    text: &mut Vec<u8, A>,
+    number: u64,
+) -> Result<(), OutOfMemory>
     ensures { OnOk result (text.new.items ≡ text.old.items ++ decimal number) }
 {
     let mut digits = Buffer::new();
     push_text(text, digits.format(number))
+}
+
+/// A price in euros.
+pub(crate) fn push_price<A: Allocator>(
+    text: &mut Vec<u8, A>,
+    price: Price,
+    tick: TickSize,
+) -> Result<(), OutOfMemory>
+    ensures { OnOk result (text.new.items ≡ text.old.items ++ price_text price tick) }
+{
+    match write_price(text, price, tick) {
+        Ok(()) => Ok(()),
+        Err(_) => Err(OutOfMemory),
+    }
+}
+
+/// Ten-thousandths of a euro, in euros.
+pub(crate) fn push_money<A: Allocator>(
+    text: &mut Vec<u8, A>,
+    money: i128,
+) -> Result<(), OutOfMemory>
+    ensures { OnOk result (text.new.items ≡ text.old.items ++ money_text money) }
+{
+    match write_money(text, money) {
+        Ok(()) => Ok(()),
+        Err(_) => Err(OutOfMemory),
+    }
 }
 
 /// A member's name and the reference that it gave an order.
@@ -22,7 +54,7 @@ pub(crate) fn push_party<A: Allocator>(
     names: &Names,
     member: u32,
     reference: u32,
-) -> io::Result<()>
+) -> Result<(), OutOfMemory>
     ensures { OnOk result (text.new.items ≡ text.old.items ++ party_text names.now member reference) }
 {
     push_text(text, member_name(names, member))?;
@@ -31,13 +63,11 @@ pub(crate) fn push_party<A: Allocator>(
 }
 
 /// Adds a text as it is, which a statement's many short pieces take less time for than for a format.
-pub(crate) fn push_text<A: Allocator>(text: &mut Vec<u8, A>, more: &str) -> io::Result<()>
+pub(crate) fn push_text<A: Allocator>(text: &mut Vec<u8, A>, more: &str) -> Result<(), OutOfMemory>
     ensures { OnOk result (text.new.items ≡ text.old.items ++ more.now) }
 {
-    match text.extend_from_slice(more.as_bytes()) {
-        Ok(()) => Ok(()),
-        Err(_) => Err(io::Error::from(io::ErrorKind::OutOfMemory)),
-    }
+    text.extend_from_slice(more.as_bytes())?;
+    Ok(())
 }
 
 /// The name of a member, or no text where there is none.

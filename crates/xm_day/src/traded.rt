@@ -6,14 +6,14 @@ ghost use Rattle.xm_rules.specs.Step.{replay};
 ghost use Rattle.xm_rules.specs.Sums.{total_money, total_quantity};
 
 use crate::sums::{cash_in, total_cash};
-use crate::texts::{member_name, push_number, push_party, push_text};
+use crate::texts::{member_name, push_money, push_number, push_party, push_price, push_text};
 use crate::words::trade_word;
 use std::alloc::Allocator;
-use std::io::{self, Write};
+use std::io::Write;
 use xm_desk::Desk;
 use xm_files::Names;
-use xm_rules::Trade;
-use xm_ticks::{TickSize, write_money, write_price};
+use xm_rules::{OutOfMemory, Trade};
+use xm_ticks::TickSize;
 
 /// The lines of some trades.
 pub(crate) fn push_trades<A: Allocator>(
@@ -21,7 +21,7 @@ pub(crate) fn push_trades<A: Allocator>(
     trades: &[Trade],
     names: &Names,
     tick: TickSize,
-) -> io::Result<()>
+) -> Result<(), OutOfMemory>
     ensures { OnOk result (text.new.items ≡ text.old.items ++ flat_map (trade_line names.now tick) trades.now) }
 {
     for trade in trades {
@@ -36,7 +36,7 @@ fn push_trade<A: Allocator>(
     trade: &Trade,
     names: &Names,
     tick: TickSize,
-) -> io::Result<()>
+) -> Result<(), OutOfMemory>
     ensures { OnOk result (text.new.items ≡ text.old.items ++ trade_line names.now tick trade.now) }
 {
     push_text(text, "TRADE ")?;
@@ -44,7 +44,7 @@ fn push_trade<A: Allocator>(
     push_text(text, " ")?;
     push_text(text, trade_word(trade.kind))?;
     push_text(text, " ")?;
-    write_price(text, trade.price, tick)?;
+    push_price(text, trade.price, tick)?;
     push_text(text, " ")?;
     push_number(text, u64::from(trade.quantity))?;
     push_text(text, " ")?;
@@ -59,7 +59,7 @@ pub(crate) fn push_nets<A: Allocator, B: Allocator + Copy>(
     text: &mut Vec<u8, A>,
     desk: &Desk<B>,
     names: &Names,
-) -> io::Result<()>
+) -> Result<(), OutOfMemory>
     ensures { OnOk result (text.new.items ≡ text.old.items ++ flat_map (net_line names.now (replay desk.now)) (member_indices names.now)) }
 {
     for member in 0..names.members() {
@@ -74,7 +74,7 @@ fn push_net<A: Allocator, B: Allocator + Copy>(
     desk: &Desk<B>,
     names: &Names,
     member: u32,
-) -> io::Result<()>
+) -> Result<(), OutOfMemory>
     ensures { OnOk result (text.new.items ≡ text.old.items ++ net_line names.now (replay desk.now) member) }
 {
     if desk.has_traded(member) {
@@ -91,11 +91,13 @@ fn push_net_position<A: Allocator>(
     name: &str,
     units: i64,
     amount: i128,
-) -> io::Result<()>
+) -> Result<(), OutOfMemory>
     ensures { OnOk result (text.new.items ≡ text.old.items ++ net_position_line name.now units amount) }
 {
-    write!(text, "NET {name} {units} ")?;
-    write_money(text, amount)?;
+    let Ok(()) = write!(text, "NET {name} {units} ") else {
+        return Err(OutOfMemory);
+    };
+    push_money(text, amount)?;
     push_text(text, "\n")
 }
 
@@ -103,7 +105,7 @@ fn push_net_position<A: Allocator>(
 pub(crate) fn push_total<A: Allocator, B: Allocator + Copy>(
     text: &mut Vec<u8, A>,
     desk: &Desk<B>,
-) -> io::Result<()>
+) -> Result<(), OutOfMemory>
     ensures { OnOk result (text.new.items ≡ text.old.items ++ total_text (replay desk.now).settings.tick (total_quantity (replay desk.now).trades) (total_money (replay desk.now).trades)) }
 {
     let totals = desk.totals();
@@ -111,7 +113,7 @@ pub(crate) fn push_total<A: Allocator, B: Allocator + Copy>(
     push_text(text, "TOTAL ")?;
     push_number(text, totals.quantity)?;
     push_text(text, " ")?;
-    write_money(text, value)?;
+    push_money(text, value)?;
     push_text(text, "\n")
 }
 
@@ -120,7 +122,7 @@ pub(crate) fn push_members<A: Allocator, B: Allocator + Copy>(
     text: &mut Vec<u8, A>,
     desks: &[Desk<B>],
     names: &Names,
-) -> io::Result<()>
+) -> Result<(), OutOfMemory>
     requires { length desks.now < 2 ^ 32 }
     ensures { OnOk result (text.new.items ≡ text.old.items ++ flat_map (member_line names.now (map replay desks.now)) (member_indices names.now)) }
 {
@@ -136,7 +138,7 @@ fn push_member<A: Allocator, B: Allocator + Copy>(
     desks: &[Desk<B>],
     names: &Names,
     member: u32,
-) -> io::Result<()>
+) -> Result<(), OutOfMemory>
     requires { length desks.now < 2 ^ 32 }
     ensures { OnOk result (text.new.items ≡ text.old.items ++ member_line names.now (map replay desks.now) member) }
 {
@@ -145,12 +147,16 @@ fn push_member<A: Allocator, B: Allocator + Copy>(
 }
 
 /// The line of a member's cash, in ten-thousandths of a euro.
-fn push_cash<A: Allocator>(text: &mut Vec<u8, A>, name: &str, amount: i128) -> io::Result<()>
+fn push_cash<A: Allocator>(
+    text: &mut Vec<u8, A>,
+    name: &str,
+    amount: i128,
+) -> Result<(), OutOfMemory>
     ensures { OnOk result (text.new.items ≡ text.old.items ++ cash_line name.now amount) }
 {
     push_text(text, "MEMBER ")?;
     push_text(text, name)?;
     push_text(text, " ")?;
-    write_money(text, amount)?;
+    push_money(text, amount)?;
     push_text(text, "\n")
 }
