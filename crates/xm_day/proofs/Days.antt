@@ -39,7 +39,7 @@ on_accepted js row j a r is passes =
     found js row j a r is ∙ ap (answered (day_of js a r) row (replay j)) passes ∙ ap (λ (ss : List State). record { states = ss; accepted = a + 1; refused = r }) (sym states)
 
 -- the day of some rows, and of more
-after_rows-append : (d : TheDay) (rows more : List Row) → after_rows d (rows ++ more) ≡ after_rows (after_rows d rows) more
+pub after_rows-append : (d : TheDay) (rows more : List Row) → after_rows d (rows ++ more) ≡ after_rows (after_rows d rows) more
 after_rows-append d [] more = refl
 after_rows-append d (row ∷ rows) more = after_rows-append (after_row d row) rows more
 
@@ -82,11 +82,7 @@ lent_back new old n kept whole =
     let none : drop (length new) old ≡ [] = drop_of_length-le old (omega arith) in
     ap (λ xs. take n (new ++ xs)) none ∙ ap (take n) (append-nil new) ∙ ap (λ (k : ℕ). take k new) (whole ∙ sym kept) ∙ take-length new
 
--- desks that were opened for a segment and took the rows are at its day
-pub day-taken : (config : SegmentConfig) (opened desks : List Journal) (taken rows : List Row) (a r : ℕ) → opened ≡ map (journal_of config) config.securities → taken ≡ rows
-    → day_of desks a r ≡ after_rows (day_of opened 0 0) taken → day_of desks a r ≡ day config rows
-day-taken config opened desks taken rows a r begin all h =
-    h
-    ∙ ap (λ (js : List Journal). after_rows (day_of js 0 0) taken) begin
-    ∙ ap (λ (ss : List State). after_rows (record { states = ss; accepted = 0; refused = 0 }) taken) (opened-day config config.securities)
-    ∙ ap (day config) all
+-- desks that were opened for a segment begin its day
+pub day-opened : (config : SegmentConfig) (opened : List Journal) → opened ≡ map (journal_of config) config.securities → day_of opened 0 0 ≡ day config []
+day-opened config opened begin =
+    ap (λ (js : List Journal). day_of js 0 0) begin ∙ ap (λ (ss : List State). record { states = ss; accepted = 0; refused = 0 }) (opened-day config config.securities)

@@ -1,6 +1,14 @@
 -- How a run of a day ends.
-use Rattle.std.proofs.Common.{◌≡◌, refl, ℕ, List, Option, None, Err}
-use Rattle.xm_day.specs.Answers.{AreRowsOf, OrdersEnd, statement_of}
+use Rattle.std.proofs.Common.{◌≡◌, refl, ℕ, ◌<◌, ◌≤◌, nat_lt, Bool, true, false, not, if◌then◌else◌, List, [], length, Option, None, Some, Result, Ok, Err, IfSome, ap, sym, subst, ◌∙◌}
+use Rattle.std.specs.Bool.{OnFalse}
+use Rattle.std.proofs.lemmas.Bool.{le-ltb, ltb-true}
+use Rattle.xm_desk.specs.declared.opening.OpenFault.{OpenFault}
+use Rattle.xm_day.specs.Answers.{AreRowsOf, HasTaken, OrdersEnd, RowsRun, statement_of}
+use Rattle.xm_day.specs.declared.desks.OpenDay.{OpenDay}
+use Rattle.xm_files.specs.Batches.{RowsLeft, rows_from}
+use Rattle.xm_files.specs.FileFaults.{is_from_outside}
+use Rattle.xm_files.specs.Orders.{orders_of}
+use Rattle.xm_files.specs.declared.file_faults.FileFault.{FileFault}
 use Rattle.xm_day.specs.Day.{day, segment_fault}
 use Rattle.xm_day.specs.Answers.{IsOfWriting}
 use Rattle.xm_files.specs.Names.{NameLists}
@@ -20,3 +28,41 @@ OrdersEnd-of_writing config names rows orders old new WriteFailed read sound is 
 OrdersEnd-of_writing config names rows orders old new (Segment fault) read sound is failed = absurd is
 OrdersEnd-of_writing config names rows orders old new (Orders fault) read sound is failed = absurd is
 OrdersEnd-of_writing config names rows orders old new (Open fault) read sound is failed = absurd is
+
+-- the rows of a file were read, and taken where that could be
+pub run-done : (config : SegmentConfig) (names : NameLists) (file : RowsLeft) (result : Result OpenDay DayFault) (rows : List Row) → rows_from names config file [] ≡ Ok rows → HasTaken config rows result → RowsRun config names file result
+run-done config names file (Ok d) rows read has = (rows, read, has)
+run-done config names file (Err (Open fault)) rows read has = (rows, read, has)
+run-done config names file (Err OutOfMemory) rows read has = (rows, read, has)
+run-done config names file (Err WriteFailed) rows read has = absurd has
+run-done config names file (Err (Segment fault)) rows read has = absurd has
+run-done config names file (Err (Orders fault)) rows read has = absurd has
+
+-- what the bytes of an order file give
+pub orders-read : (names : NameLists) (config : SegmentConfig) (file : Option (List ℕ)) (read : List ℕ) (left : RowsLeft) (rows : Result (List Row) FileFault) → IfSome file (λ bytes. read ≡ bytes) → length read ≤ 16777216
+    → left ≡ record { left = read; line = 1 } → rows_from names config left [] ≡ rows → IfSome file (λ bytes. orders_of names config bytes ≡ rows)
+orders-read names config None read left rows is short begun gives = tt
+orders-read names config (Some bytes) read left rows is short begun gives =
+    let within : nat_lt 16777216 (length read) ≡ false = le-ltb 16777216 (length read) short in
+    subst (λ (bs : List ℕ). orders_of names config bs ≡ rows) is (rw within (ap (λ (l : RowsLeft). rows_from names config l []) (sym begun) ∙ gives))
+
+if-inside : {A B : Type 0} (outside : Bool) → OnFalse outside A → (A → B) → OnFalse outside B
+if-inside true a f = tt
+if-inside false a f = f a
+
+-- the rows of a file weren't read, or couldn't be taken
+pub run-ended : (config : SegmentConfig) (names : NameLists) (orders old new : Option (List ℕ)) (left : RowsLeft) (fault : DayFault) → ((rows : Result (List Row) FileFault) → rows_from names config left [] ≡ rows → IfSome orders (λ bytes. orders_of names config bytes ≡ rows))
+    → RowsRun config names left (Err fault) → OrdersEnd config names orders old new (Err fault)
+run-ended config names orders old new left (Orders fault) gives run = record { of_bytes = if-inside (is_from_outside fault.cause) run.0 (gives (Err fault)); from_outside = run.1 }
+run-ended config names orders old new left (Open fault) gives run = (run.0, gives (Ok run.0) run.1, run.2)
+run-ended config names orders old new left OutOfMemory gives run = (run.0, gives (Ok run.0) run.1, run.2)
+run-ended config names orders old new left WriteFailed gives run = absurd run.2
+run-ended config names orders old new left (Segment fault) gives run = absurd run.2
+
+some-if : (some : Bool) (n : ℕ) (fault : OpenFault) (rest : Option OpenFault) → nat_lt 0 n ≡ some → (if not some then Some fault else rest) ≡ None → 0 < n
+some-if true n fault rest test none = ltb-true 0 n test
+some-if false n fault rest test none = cc
+
+-- a segment without a fault has a security
+pub some-security : (config : SegmentConfig) → segment_fault config ≡ None → 0 < length config.securities
+some-security config none = some-if (nat_lt 0 (length config.securities)) (length config.securities) _ _ refl none

@@ -1,8 +1,10 @@
 -- How the run of a day ends: what it answers, and what the output holds before and after. The bytes of a file may be unknown.
-use Rattle.std.specs.Prelude.{◌≡◌, ℕ, List, Option, None, Some, Result, Ok, Err, IfSome}
+use Rattle.std.specs.Prelude.{◌≡◌, ℕ, ◌+◌, List, [], length, Option, None, Some, Result, Ok, Err, IfSome}
 use Rattle.std.specs.Bool.{OnFalse, OnTrue}
 use Rattle.std.specs.Io.KnownBytes.{Appends}
-use Rattle.xm_day.specs.Day.{Day, day, segment_fault}
+use Rattle.xm_day.specs.Day.{Day, day, day_of, segment_fault}
+use Rattle.xm_day.specs.declared.desks.OpenDay.{OpenDay}
+use Rattle.xm_files.specs.Batches.{RowsLeft, rows_from}
 use Rattle.xm_files.specs.FileFaults.{is_from_outside}
 use Rattle.xm_files.specs.Names.{NameLists}
 use Rattle.xm_files.specs.Orders.{orders_of}
@@ -44,6 +46,19 @@ pub record WritesDay (config : SegmentConfig) (names : NameLists) (rows : List R
   pub written : Appends old new (statement_of names (day config rows))
   pub accepted : report.accepted ≡ (day config rows).accepted
   pub refused : report.refused ≡ (day config rows).refused
+
+-- the desks have taken these rows, unless the segment can't be opened or memory is wanting
+abbrev pub HasTaken : SegmentConfig → List Row → Result OpenDay DayFault → Type 0
+HasTaken config rows (Ok d) =
+    (segment_fault config ≡ None) × (length d.desks.items ≡ length config.securities) × (day_of d.desks.items d.report.accepted d.report.refused ≡ day config rows) × (d.report.accepted + d.report.refused ≡ length rows)
+HasTaken config rows (Err (Open fault)) = IsOpenFault config fault
+HasTaken config rows (Err OutOfMemory) = segment_fault config ≡ None
+HasTaken config rows (Err fault) = ⊥
+
+-- the desks have taken the rows of an order file, if it has no fault
+abbrev pub RowsRun : SegmentConfig → NameLists → RowsLeft → Result OpenDay DayFault → Type 0
+RowsRun config names file (Err (Orders fault)) = OnFalse (is_from_outside fault.cause) (rows_from names config file [] ≡ Err fault) × OnTrue (is_from_outside fault.cause) (fault.line ≡ 0)
+RowsRun config names file result = (rows : List Row) × (rows_from names config file [] ≡ Ok rows) × HasTaken config rows result
 
 -- how the rows of an order file are run that has no fault
 abbrev pub RowsEnd : SegmentConfig → NameLists → List Row → Option (List ℕ) → Option (List ℕ) → Result DayReport DayFault → Type 0

@@ -1,16 +1,19 @@
 //! The day of a segment, from its files to its statement.
 ghost use Rattle.std.specs.Prelude.{◌≡◌, ◌≢◌, IfErr, length};
-ghost use Rattle.xm_day.specs.Answers.{DayEnds, OrdersEnd};
+ghost use Rattle.xm_day.specs.Answers.{DayEnds, OrdersEnd, RowsRun};
 
-use crate::desks::{open_desks, take_rows};
+use crate::desks::{OpenDay, open_day, take_more};
 use crate::faults::DayFault;
 use crate::report::DayReport;
 use crate::statements::statement;
 use std::alloc::Global;
 use std::io;
-use xm_files::{Names, read_rows_and_bytes, read_segment};
+use xm_files::{Batch, Names, RowReader, read_orders, read_segment};
 use xm_names::Seed;
 use xm_segment::SegmentConfig;
+
+/// How many rows are read before they are taken, so that they are still in a near cache.
+const BATCH: usize = 512;
 
 /// Runs the day of a segment whose file is read: reads the order file, takes its rows, and writes
 /// the statement. The checks come in this order.
@@ -31,14 +34,39 @@ pub fn run_orders<R: io::Read, W: io::Write>(
     ensures ends { OrdersEnd config.now names.now (R.remaining orders.old) (W.contents out.old) (W.contents out.new) result }
     ensures untouched { IfErr result (λ fault. fault ≢ DayFault.WriteFailed → out.new ≡ out.old) }
 {
-    let (rows, _bytes) = match read_rows_and_bytes(alloc, orders, names, config) {
-        Ok(read) => read,
+    let bytes = match read_orders(alloc, orders) {
+        Ok(bytes) => bytes,
         Err(fault) => return Err(DayFault::Orders(fault)),
     };
-    let mut desks = open_desks(alloc, seed, config)?;
-    let report = take_rows(desks.as_mut_slice(), rows.as_slice())?;
-    statement(alloc, desks.as_slice(), names, &report, out)?;
-    Ok(report)
+    let mut file = RowReader::of(bytes.as_slice());
+    let day = run_rows(alloc, seed, config, names, &mut file)?;
+    statement(alloc, day.desks.as_slice(), names, &day.report, out)?;
+    Ok(day.report)
+}
+
+/// Reads the rows of an order file, batch by batch, and takes them. A fault of the file comes before any other: where the
+/// desks can't be opened or lack memory, the rest is read all the same.
+fn run_rows(
+    alloc: Global,
+    seed: Seed,
+    config: &SegmentConfig,
+    names: &Names,
+    file: &mut RowReader<'_>,
+) -> Result<OpenDay, DayFault>
+    ensures { RowsRun config.now names.now file.old result }
+{
+    let mut batch = Batch::new(alloc);
+    let mut day = open_day(alloc, seed, config);
+    'batches: loop {
+        let more = match file.read(alloc, &mut batch, BATCH, names, config) {
+            Ok(more) => more,
+            Err(fault) => return Err(DayFault::Orders(fault)),
+        };
+        day = take_more(day, batch.rows());
+        if !more {
+            return day;
+        }
+    }
 }
 
 /// Runs the day of a segment file and an order file: reads both, takes the rows on the calling

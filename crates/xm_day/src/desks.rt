@@ -1,10 +1,14 @@
 //! The desks of a segment, and the rows that they take.
-ghost use Rattle.std.specs.Prelude.{◌≡◌, ◌≢◌, ◌+◌, ◌<◌, ◌^◌, [], All, Err, IfErr, IfOk, None, OnErr, OnOk, Some, false, length, map, true};
+ghost use Rattle.std.specs.Prelude.{◌≡◌, ◌≢◌, ◌+◌, ◌<◌, ◌^◌, ◌++◌, List, [], All, Err, IfErr, IfOk, None, OnErr, OnOk, Some, false, length, map, true};
 ghost use Rattle.std.specs.List.{list_all};
+ghost use Rattle.xm_day.specs.Answers.{HasTaken};
 ghost use Rattle.xm_day.specs.Day.{Accepts, LacksMemoryAt, after_row, after_rows, day_of, journal_of, segment_fault};
 ghost use Rattle.xm_desk.specs.Opening.{are_widths};
 ghost use Rattle.xm_rules.specs.Step.{replay};
+ghost use Rattle.xm_segment.specs.declared.config.SegmentConfig.{SegmentConfig};
+ghost use Rattle.xm_segment.specs.declared.rows.Row.{Row};
 
+use crate::faults::DayFault;
 use crate::report::DayReport;
 use std::alloc::{AllocError, Allocator, Global};
 use xm_desk::{Desk, MAX_MEMBERS, OpenFault, are_widths};
@@ -89,19 +93,52 @@ fn have_widths(securities: &[SecurityConfig]) -> bool
         .all(|security| are_widths(&security.widths))
 }
 
-/// Takes rows in their order, and counts which were accepted and refused. `OutOfMemory` comes only
-/// at a row that nothing else refuses.
-pub fn take_rows<A: Allocator + Copy>(
-    desks: &mut [Desk<A>],
-    rows: &[Row],
-) -> Result<DayReport, OutOfMemory>
-    ensures taken { IfOk result (λ report. day_of desks.new report.accepted report.refused ≡ after_rows (day_of desks.old 0 0) rows.now) }
-    ensures memory { OnErr result (LacksMemoryAt (day_of desks.old 0 0) rows.now) }
+/// The desks of a segment, and how many rows they accepted and refused.
+#[derive(Drop)]
+pub(crate) struct OpenDay {
+    pub(crate) desks: Vec<Desk<Global>>,
+    pub(crate) report: DayReport,
+}
+
+/// Opens the desks of a segment for its day.
+pub(crate) fn open_day(
+    alloc: Global,
+    seed: Seed,
+    config: &SegmentConfig,
+) -> Result<OpenDay, DayFault>
+    ensures { HasTaken config.now [] result }
 {
-    let mut report = DayReport {
+    let desks = open_desks(alloc, seed, config)?;
+    let report = DayReport {
         accepted: 0,
         refused: 0,
     };
+    Ok(OpenDay { desks, report })
+}
+
+/// Takes more rows, where nothing went wrong before.
+pub(crate) fn take_more(day: Result<OpenDay, DayFault>, rows: &[Row]) -> Result<OpenDay, DayFault>
+    requires room { IfOk day (λ d. d.report.accepted + d.report.refused + length rows.now < 2 ^ 64) }
+    ensures { (config : SegmentConfig) (taken : List Row) → HasTaken config taken day → HasTaken config (taken ++ rows.now) result }
+{
+    let OpenDay { mut desks, report } = day?;
+    let report = take_rows(desks.as_mut_slice(), rows, report)?;
+    Ok(OpenDay { desks, report })
+}
+
+/// Takes rows in their order, and counts which were accepted and refused. `OutOfMemory` comes only
+/// at a row that nothing else refuses.
+fn take_rows<A: Allocator + Copy>(
+    desks: &mut [Desk<A>],
+    rows: &[Row],
+    before: DayReport,
+) -> Result<DayReport, OutOfMemory>
+    requires room { before.accepted + before.refused + length rows.now < 2 ^ 64 }
+    ensures taken { IfOk result (λ report. day_of desks.new report.accepted report.refused ≡ after_rows (day_of desks.old before.accepted before.refused) rows.now) }
+    ensures counted { IfOk result (λ report. report.accepted + report.refused ≡ before.accepted + before.refused + length rows.now) }
+    ensures memory { OnErr result (LacksMemoryAt (day_of desks.old before.accepted before.refused) rows.now) }
+{
+    let mut report = before;
     for row in rows {
         report = take_row(desks, row, report)?;
     }

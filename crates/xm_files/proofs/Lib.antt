@@ -1,3 +1,4 @@
+mod Batches
 mod Known
 mod NameFacts
 mod Values

@@ -1,15 +1,17 @@
 -- How far the rows of an order file were read.
-use Rattle.std.proofs.Common.{Bor, ◌≡◌, ℕ, ◌+◌, ◌<◌, ◌≤◌, Bool, true, false, ◌==◌, if◌then◌else◌, List, [], ◌∷◌, length, Option, Some, Result, Ok, Err, refl, ap, arith, sym, ◌∙◌}
+use Rattle.std.proofs.Common.{[], Bor, ◌≡◌, ℕ, ◌+◌, ◌<◌, ◌≤◌, Bool, true, false, ◌==◌, if◌then◌else◌, List, ◌∷◌, length, Option, Some, Result, Ok, Err, refl, ap, arith, sym, ◌∙◌}
 use Rattle.std.proofs.lemmas.Bool.{and_left}
 use Rattle.std.proofs.lemmas.Bool.Decides.{nat_tests}
 use Rattle.std.specs.Option.{option_map_or}
-use Rattle.csv.specs.Reading.{default_config, records, source_of, strip_bom, took_first, ReadRecord}
+use Rattle.csv.specs.Machine.{next_record}
+use Rattle.csv.specs.Reading.{default_config, records, records_from, source_of, strip_bom, took_first, ReadRecord}
 use Rattle.csv.specs.declared.reader.Reader.{Reader}
 use Rattle.xm_files.proofs.LineRecords.{fed-records, line-records, line-shorter, strip-fed}
 use Rattle.xm_files.proofs.Unread.{known, Unread, Next, read-next, none-left}
+use Rattle.xm_files.specs.Batches.{BeginsLines, rows_from}
 use Rattle.xm_files.specs.FileFaults.{fault_at, result_then}
 use Rattle.xm_files.specs.Names.{NameLists}
-use Rattle.xm_files.specs.Orders.{with_record, with_rows, rows_after, rows_of_records}
+use Rattle.xm_files.specs.Orders.{with_record, with_rows, rows_after}
 use Rattle.xm_files.specs.Plain.{IsBehindHeader, ReadsLine}
 use Rattle.xm_files.specs.Rows.{is_header, rows_of_record}
 use Rattle.xm_files.specs.declared.file_faults.FileCause.TheVariants.{Syntax, BadHeader}
@@ -44,17 +46,36 @@ pub record Lines (names : NameLists) (config : SegmentConfig) (all : Result (Lis
   pub so_far : all ≡ rows_after names config line rows (records default_config (10 ∷ more))
   pub later : 2 ≤ line
   pub lines : line + length more ≤ 16777217
-  pub few : length rows ≤ 1000000
 
-pub lines-begin : (names : NameLists) (config : SegmentConfig) (text more : List ℕ) (rows : List Row) → rows ≡ [] → length text ≤ 16777216 → IsBehindHeader text more
-    → Lines names config (rows_of_records names config (records default_config (strip_bom text))) more 2 rows
-lines-begin names config text more rows none short h =
+pub lines-begin : (names : NameLists) (config : SegmentConfig) (text more : List ℕ) (first line : ℕ) (rows : List Row) → BeginsLines text first more line
+    → (first ≡ 1 → length text ≤ 16777216) → first + length text ≤ 16777218 → Lines names config (rows_after names config first rows (records default_config (strip_bom text))) more line rows
+lines-begin names config text more first line rows b whole short =
+    let shorter = b.short 16777218 short (λ one. let all = whole one in omega arith) in
+    record {
+      so_far = b.same names config rows;
+      later = b.later;
+      lines = omega (arith, shorter);
+    }
+
+-- the header's line, and a line feed
+pub header-begins : (text more : List ℕ) → IsBehindHeader text more → BeginsLines text 1 more 2
+header-begins text more h =
     let shorter = line-shorter text more h.0 h.3 in
     record {
-      so_far = rw (none, h.2, line-records text more h.0 h.3, h.1) refl;
+      same = λ names config rows. rw (h.2, line-records text more h.0 h.3, h.1) refl;
       later = omega arith;
-      lines = omega (arith, shorter, short);
-      few = rw none (omega arith);
+      onward = omega arith;
+      short = λ most within whole. let below = whole refl in omega (arith, shorter, below);
+    }
+
+pub feed-begins : (text more : List ℕ) (line : ℕ) → 2 ≤ line → text ≡ 10 ∷ more → BeginsLines text line more line
+feed-begins text more line later fed =
+    let size = ap length fed in
+    record {
+      same = λ names config rows. ap (λ (t : List ℕ). rows_after names config line rows (records default_config t)) (ap strip_bom fed ∙ strip-fed more);
+      later = later;
+      onward = omega arith;
+      short = λ most within whole. omega (arith, size);
     }
 
 -- the record behind the line feed, and what comes after it
@@ -67,8 +88,8 @@ next-line names config all text more line rows fields p reads twelve =
     ∙ ap (λ (r : Result (List Row) FileFault). result_then r (λ sum. rows_after names config (line + 1) sum (records default_config (10 ∷ more)))) (row-record names config line rows fields p.later twelve)
 
 pub lines-more : (names : NameLists) (config : SegmentConfig) (all : Result (List Row) FileFault) (text more : List ℕ) (line : ℕ) (rows sum : List Row) (fields : List (List ℕ)) → Lines names config all text line rows
-    → ReadsLine text fields more → length fields ≡ 12 → with_rows line rows (rows_of_record names config fields) ≡ Ok sum → length sum ≤ 1000000 → Lines names config all more (line + 1) sum
-lines-more names config all text more line rows sum fields p reads twelve good few =
+    → ReadsLine text fields more → length fields ≡ 12 → with_rows line rows (rows_of_record names config fields) ≡ Ok sum → Lines names config all more (line + 1) sum
+lines-more names config all text more line rows sum fields p reads twelve good =
     let shorter = line-shorter text more fields reads in
     let lines = p.lines in
     let later = p.later in
@@ -76,7 +97,6 @@ lines-more names config all text more line rows sum fields p reads twelve good f
       so_far = next-line names config all text more line rows fields p reads twelve ∙ rw good refl;
       later = omega (arith, later);
       lines = omega (arith, shorter, lines);
-      few = few;
     }
 
 pub lines-fault : (names : NameLists) (config : SegmentConfig) (all : Result (List Row) FileFault) (text more : List ℕ) (line : ℕ) (rows : List Row) (fields : List (List ℕ)) (fault : FileFault) → Lines names config all text line rows
@@ -97,7 +117,6 @@ pub record Progress (names : NameLists) (config : SegmentConfig) (all : Result (
   pub so_far : all ≡ rows_after names config line rows rest
   pub counted : 1 ≤ line
   pub lines : line + length left ≤ 16777218
-  pub few : length rows ≤ 1000000
 
 -- the end of the records
 at-end : (names : NameLists) (config : SegmentConfig) (all : Result (List Row) FileFault) (old new : Reader (Bor (List ℕ))) (line : ℕ) (rows : List Row) (f : List (List ℕ)) → Progress names config all old line rows → ReadRecord known old new false f
@@ -127,8 +146,8 @@ bad-record names config all old new line rows f fault p r first bad =
 
 -- one more record
 pub progress-more : (names : NameLists) (config : SegmentConfig) (all : Result (List Row) FileFault) (old new : Reader (Bor (List ℕ))) (line : ℕ) (rows sum : List Row) (f : List (List ℕ)) → (p : Progress names config all old line rows)
-    → ReadRecord known old new true f → took_first new ≡ true → with_record names config line rows f ≡ Ok sum → length sum ≤ 1000000 → Progress names config all new (line + 1) sum
-progress-more names config all old new line rows sum f p r first good few =
+    → ReadRecord known old new true f → took_first new ≡ true → with_record names config line rows f ≡ Ok sum → Progress names config all new (line + 1) sum
+progress-more names config all old new line rows sum f p r first good =
     let n = read-next old new p.left p.rest f p.unread r first in
     let fewer = n.fewer in
     let lines = p.lines in
@@ -140,7 +159,6 @@ progress-more names config all old new line rows sum f p r first good few =
       so_far = with-next names config all old new line rows f p n ∙ rw good refl;
       counted = omega (arith, counted);
       lines = omega (arith, fewer, lines);
-      few = few;
     }
 
 shorter-source : (old new : Option (List ℕ)) (left after : List ℕ) → old ≡ Some left → new ≡ Some after → length after < length left → option_map_or length new 0 < option_map_or length old 0
@@ -152,3 +170,8 @@ pub shorter : (names : NameLists) (config : SegmentConfig) (all : Result (List R
 shorter names config all old new line rows f p r first =
     let n = read-next old new p.left p.rest f p.unread r first in
     shorter-source (source_of known old) (source_of known new) p.left n.after p.unread.source n.unread.source n.fewer
+
+-- nothing is left of a file
+pub nothing-left : (names : NameLists) (config : SegmentConfig) (rows : List Row) → rows_from names config (record { left = []; line = 2 }) rows ≡ Ok rows
+unfolding records_from strip_bom next_record
+nothing-left names config rows = refl

@@ -1,3 +1,4 @@
+pub mod Batches
 pub mod FileFaults
 pub mod Names
 pub mod Orders

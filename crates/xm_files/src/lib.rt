@@ -1,6 +1,7 @@
 //! The files that a day is read from: what the bytes of a segment file and of an order file give.
 #![tactic(auto)]
 
+mod batch;
 mod bytes;
 mod columns;
 mod entries;
@@ -14,9 +15,10 @@ mod segment;
 mod tables;
 mod timetable;
 
+pub use crate::batch::Batch;
 pub use crate::bytes::MAX_BYTES;
 pub use crate::file_faults::{FileCause, FileFault};
 pub use crate::names::Names;
-pub use crate::orders::{MAX_ROWS, read_rows, read_rows_and_bytes};
+pub use crate::orders::{MAX_ROWS, RowReader, read_orders, read_rows};
 pub use crate::segment::read_segment;
 pub use crate::timetable::{Round, rounds, share};

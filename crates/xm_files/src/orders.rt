@@ -1,14 +1,17 @@
 //! The order file.
-ghost use Rattle.std.specs.Prelude.{◌≡◌, ◌≢◌, ◌+◌, ◌<◌, ◌≤◌, ◌++◌, List, [], length, map, true, OnOk, OnErr, IfOk, IfErr, IfSome, Ok, Err, if◌then◌else◌};
+ghost use Rattle.std.specs.Prelude.{◌≡◌, ◌≢◌, ◌+◌, ◌<◌, ◌≤◌, ◌∷◌, ◌++◌, List, [], length, map, true, false, OnOk, OnErr, IfOk, IfErr, IfSome, Ok, Err, if◌then◌else◌};
 ghost use Rattle.std.specs.Bool.{OnTrue, OnFalse};
 ghost use Rattle.std.specs.List.{list_all, range_with_len};
 ghost use Rattle.csv.specs.Reading.{default_config, records, strip_bom};
 ghost use Rattle.csv.specs.Records.{fields_of};
+ghost use Rattle.xm_files.specs.Batches.{BeginsLines, rows_from, rows_so_far};
 ghost use Rattle.xm_files.specs.FileFaults.{is_from_outside};
+ghost use Rattle.xm_files.specs.Names.{NameLists};
 ghost use Rattle.xm_files.specs.Orders.{orders_of, rows_after, rows_of_records, with_record, with_rows};
 ghost use Rattle.xm_files.specs.Plain.{IsBehind, IsBehindHeader, rest_of};
 ghost use Rattle.xm_files.specs.Rows.{is_header, rows_of_entry, rows_of_record, texts_of};
 
+use crate::batch::Batch;
 use crate::bytes::{MAX_BYTES, read_whole};
 use crate::entries::{Entry, parse_entry};
 use crate::file_faults::{FileCause, FileFault};
@@ -18,6 +21,7 @@ use crate::records::Fields;
 use csv::{ByteRecord, ReaderBuilder};
 use std::alloc::{AllocError, Global};
 use std::io::Read;
+use std::marker::Model;
 use xm_rules::Command;
 use xm_segment::{Row, SegmentConfig};
 
@@ -47,51 +51,116 @@ pub fn read_rows<R: Read>(
     ensures fault { IfErr result (λ fault. OnFalse (is_from_outside fault.cause) (IfSome (R.remaining reader.old) (λ bytes. orders_of names.now config.now bytes ≡ Err fault))) }
     ensures outside { IfErr result (λ fault. OnTrue (is_from_outside fault.cause) (fault.line ≡ 0)) }
 {
-    let (rows, _bytes) = read_rows_and_bytes(alloc, reader, names, config)?;
-    Ok(rows)
+    let bytes = read_orders(alloc, reader)?;
+    let mut batch = Batch::new(alloc);
+    RowReader::of(bytes.as_slice()).read(alloc, &mut batch, MAX_ROWS + 1, names, config)?;
+    Ok(batch.into_rows())
 }
 
-/// The same, with the bytes of the file. Who runs a day keeps them to its end: a large block that is given back in the
-/// middle of it is lent anew, page by page.
-pub fn read_rows_and_bytes<R: Read>(
-    alloc: Global,
-    reader: &mut R,
-    names: &Names,
-    config: &SegmentConfig,
-) -> Result<(Vec<Row>, Vec<u8>), FileFault>
-    requires securities { length names.now.securities ≡ length config.now.securities }
-    requires members { length names.now.members ≡ config.now.members }
-    ensures read { IfOk result (λ p. IfSome (R.remaining reader.old) (λ bytes. orders_of names.now config.now bytes ≡ Ok p.0.items)) }
-    ensures few { IfOk result (λ p. length p.0.items ≤ MAX_ROWS) }
-    ensures fault { IfErr result (λ fault. OnFalse (is_from_outside fault.cause) (IfSome (R.remaining reader.old) (λ bytes. orders_of names.now config.now bytes ≡ Err fault))) }
+/// The bytes of an order file, for a `RowReader`.
+pub fn read_orders<R: Read>(alloc: Global, reader: &mut R) -> Result<Vec<u8>, FileFault>
+    ensures bytes { IfOk result (λ read. IfSome (R.remaining reader.old) (λ bytes. read.items ≡ bytes)) }
+    ensures short { IfOk result (λ read. length read.items ≤ MAX_BYTES) }
+    ensures fault { IfErr result (λ fault. OnFalse (is_from_outside fault.cause) (IfSome (R.remaining reader.old) (λ bytes. (names : NameLists) (config : SegmentConfig) → orders_of names config bytes ≡ Err fault))) }
     ensures outside { IfErr result (λ fault. OnTrue (is_from_outside fault.cause) (fault.line ≡ 0)) }
 {
-    let bytes = read_whole(alloc, reader)?;
-    let rows = parse_rows(alloc, bytes.as_slice(), names, config)?;
-    Ok((rows, bytes))
+    Ok(read_whole(alloc, reader)?)
 }
 
-/// The rows of a text. Lines without quotes are taken apart in place, one pass over their bytes; from the
-/// first record on that isn't such a line, CSV reads the rest.
-fn parse_rows(
+/// What isn't read yet of an order file.
+#[derive(Drop)]
+pub struct RowReader<'a> {
+    // The whole text at first, and then what comes from the line feed before the next record on.
+    left: &'a [u8],
+    // The number of the next record, the header being 1.
+    line: u32,
+}
+
+impl<'a> Model for RowReader<'a> {
+    ghost use Rattle.std.specs.Prelude.{◌≡◌, ◌+◌, ◌≤◌, length};
+    ghost use Rattle.xm_files.specs.Batches.{RowsLeft};
+
+    ghost Value = { RowsLeft };
+
+    ghost view = { λ r. record { left = r.left.now; line = r.line } };
+
+    ghost invariant = { λ r. record {
+      begun : 1 ≤ r.line;
+      whole : r.line ≡ 1 → length r.left.now ≤ 16777216;
+      short : r.line + length r.left.now ≤ 16777218;
+    } };
+}
+
+impl<'a> RowReader<'a> {
+    /// An order file of which nothing is read yet.
+    pub fn of(text: &'a [u8]) -> RowReader<'a>
+        requires { length text.now ≤ MAX_BYTES }
+        ensures { result ≡ record { left = text.now; line = 1 } }
+    {
+        RowReader {
+            left: text,
+            line: 1,
+        }
+    }
+
+    /// Reads on until a batch has this many rows or the file ends, and answers whether there may be more. Lines without
+    /// quotes are taken apart in place; from the first record on that isn't such a line, CSV reads the rest of the file.
+    pub fn read(
+        &mut self,
+        alloc: Global,
+        batch: &mut Batch,
+        most: usize,
+        names: &Names,
+        config: &SegmentConfig,
+    ) -> Result<bool, FileFault>
+        ensures read { OnOk result (rows_from names.now config.now self.old (rows_so_far batch.old) ≡ rows_from names.now config.now self.new (rows_so_far batch.new)) }
+        ensures ended { result ≡ Ok false → rows_from names.now config.now self.new (rows_so_far batch.new) ≡ Ok (rows_so_far batch.new) }
+        ensures earlier { OnOk result (batch.new.earlier ≡ rows_so_far batch.old) }
+        ensures few { OnOk result (length (rows_so_far batch.new) ≤ MAX_ROWS) }
+        ensures full { result ≡ Ok true → most ≤ length batch.new.rows }
+        ensures further { result ≡ Ok true → self.old.line < self.new.line }
+        ensures bounded { self.new.line ≤ 16777218 }
+        ensures err { IfErr result (λ fault. fault.cause ≢ FileCause.OutOfMemory → rows_from names.now config.now self.old (rows_so_far batch.old) ≡ Err fault) }
+        ensures memory { IfErr result (λ fault. OnTrue (is_from_outside fault.cause) (fault.line ≡ 0)) }
+    {
+        batch.begin();
+        let (left, line, full) = add_lines(batch, self.left, self.line, most, names, config)?;
+        if full {
+            self.left = left;
+            self.line = line;
+            let _ = batch.total(); // What every batch keeps is known of one whose rows are counted.
+            return Ok(true);
+        }
+        add_records(alloc, batch, left, line, names, config)?;
+        self.left = &[];
+        self.line = 2;
+        let _ = batch.total(); // What every batch keeps is known of one whose rows are counted.
+        Ok(false)
+    }
+}
+
+/// Adds the rows of the records of a text, of which the first has this number.
+fn add_records(
     alloc: Global,
+    batch: &mut Batch,
     text: &[u8],
+    first: u32,
     names: &Names,
     config: &SegmentConfig,
-) -> Result<Vec<Row>, FileFault>
-    requires { length text.now ≤ MAX_BYTES }
-    ensures ok { IfOk result (λ rows. rows_of_records names.now config.now (records default_config (strip_bom text.now)) ≡ Ok rows.items) }
-    ensures few { IfOk result (λ rows. length rows.items ≤ MAX_ROWS) }
-    ensures err { IfErr result (λ fault. fault.cause ≢ FileCause.OutOfMemory → rows_of_records names.now config.now (records default_config (strip_bom text.now)) ≡ Err fault) }
+) -> Result<(), FileFault>
+    requires begun { 1 ≤ first }
+    requires short { first + length text.now ≤ 16777218 }
+    ensures ok { OnOk result (rows_after names.now config.now first (rows_so_far batch.old) (records default_config (strip_bom text.now)) ≡ Ok (rows_so_far batch.new)) }
+    ensures earlier { OnOk result (batch.new.earlier ≡ batch.old.earlier) }
+    ensures err { IfErr result (λ fault. fault.cause ≢ FileCause.OutOfMemory → rows_after names.now config.now first (rows_so_far batch.old) (records default_config (strip_bom text.now)) ≡ Err fault) }
     ensures memory { IfErr result (λ fault. OnTrue (is_from_outside fault.cause) (fault.line ≡ 0)) }
 {
-    let mut rows = Vec::new(alloc);
-    let (left, mut line) = add_lines(&mut rows, text, names, config)?;
     let mut reader = ReaderBuilder::new()
         .has_headers(false)
         .flexible(true)
-        .from_reader(alloc, left);
+        .from_reader(alloc, text);
     let mut row = ByteRecord::new(alloc);
+    let mut line = first;
     'records: loop {
         match reader.read_byte_record(&mut row) {
             Ok(true) => {}
@@ -99,43 +168,77 @@ fn parse_rows(
                 if line == 1 {
                     return Err(fault_at(1, FileCause::BadHeader));
                 }
-                return Ok(rows);
+                return Ok(());
             }
             Err(_) => return Err(FileFault::from(FileCause::OutOfMemory)),
         }
-        add_fields(&mut rows, line, &row, names, config)?;
+        add_fields(batch, line, &row, names, config)?;
         line += 1;
     }
 }
 
-/// Adds the rows of the lines that a text begins with, as long as none has a quote or a carriage return, and
-/// each has as many fields as columns. Gives what is left of the text, and the number of its first record.
+/// Adds the rows of the lines that a text begins with, of which the first has this number, until there are as many as
+/// asked for, and as long as none has a quote or a carriage return, and each has as many fields as columns. Gives what is
+/// left of the text, the number of its first record, and whether there are as many rows.
 fn add_lines<'a>(
-    rows: &mut Vec<Row>,
+    batch: &mut Batch,
     text: &'a [u8],
+    first: u32,
+    most: usize,
     names: &Names,
     config: &SegmentConfig,
-) -> Result<(&'a [u8], u32), FileFault>
-    requires short { length text.now ≤ MAX_BYTES }
-    requires empty { rows.old.items ≡ [] }
-    ensures ok { IfOk result (λ p. rows_of_records names.now config.now (records default_config (strip_bom text.now)) ≡ rows_after names.now config.now p.1 rows.new.items (records default_config (strip_bom p.0.now))) }
-    ensures few { OnOk result (length rows.new.items ≤ MAX_ROWS) }
+) -> Result<(&'a [u8], u32, bool), FileFault>
+    requires begun { 1 ≤ first }
+    requires whole { first ≡ 1 → length text.now ≤ MAX_BYTES }
+    requires short { first + length text.now ≤ 16777218 }
+    ensures ok { IfOk result (λ p. rows_after names.now config.now first (rows_so_far batch.old) (records default_config (strip_bom text.now)) ≡ rows_after names.now config.now p.1 (rows_so_far batch.new) (records default_config (strip_bom p.0.now))) }
+    ensures earlier { OnOk result (batch.new.earlier ≡ batch.old.earlier) }
     ensures lines { IfOk result (λ p. (1 ≤ p.1) × (p.1 + length p.0.now ≤ 16777218)) }
-    ensures err { IfErr result (λ fault. fault.cause ≢ FileCause.OutOfMemory → rows_of_records names.now config.now (records default_config (strip_bom text.now)) ≡ Err fault) }
+    ensures full { IfOk result (λ p. p.2 ≡ true → (most ≤ length batch.new.rows) × (first < p.1)) }
+    ensures err { IfErr result (λ fault. fault.cause ≢ FileCause.OutOfMemory → rows_after names.now config.now first (rows_so_far batch.old) (records default_config (strip_bom text.now)) ≡ Err fault) }
     ensures memory { IfErr result (λ fault. OnTrue (is_from_outside fault.cause) (fault.line ≡ 0)) }
 {
-    let Some(mut marks) = behind_header(text) else {
-        return Ok((text, 1));
+    let Some((mut marks, mut line)) = begin_lines(text, first) else {
+        return Ok((text, first, false));
     };
     let mut fields = Fields::empty();
-    let mut line = 2u32;
     'lines: loop {
         let left = marks.left();
         let Some(()) = fields.read_line(&mut marks) else {
-            return Ok((left, line));
+            return Ok((left, line, false));
         };
-        add_record(rows, line, &fields, names, config)?;
+        add_record(batch, line, &fields, names, config)?;
         line += 1;
+        if batch.len() >= most {
+            return Ok((marks.left(), line, true));
+        }
+    }
+}
+
+/// A text behind the line feed before its first record, which has this number, or behind the header's line, and the number
+/// of the record there.
+fn begin_lines(text: &[u8], first: u32) -> Option<(Marks<'_>, u32)>
+    requires { 1 ≤ first }
+    ensures begun { IfSome result (λ p. BeginsLines text.now first (rest_of p.0) p.1) }
+    ensures behind { IfSome result (λ p. IsBehind 10 p.0) }
+{
+    if first == 1 {
+        Some((behind_header(text)?, 2))
+    } else {
+        Some((behind_line_feed(text)?, first))
+    }
+}
+
+/// A text behind the line feed that it begins with.
+fn behind_line_feed(text: &[u8]) -> Option<Marks<'_>>
+    ensures fed { IfSome result (λ marks. text.now ≡ 10 ∷ rest_of marks) }
+    ensures behind { IfSome result (IsBehind 10) }
+{
+    let mut marks = Marks::of(text)?;
+    if marks.field(b'\n')?.is_empty() {
+        Some(marks)
+    } else {
+        None
     }
 }
 
@@ -163,17 +266,16 @@ fn fault_at(line: u32, cause: FileCause) -> FileFault
 
 /// Adds the rows of the record with this number that CSV read. The first is the header.
 fn add_fields(
-    rows: &mut Vec<Row>,
+    batch: &mut Batch,
     line: u32,
     row: &ByteRecord,
     names: &Names,
     config: &SegmentConfig,
 ) -> Result<(), FileFault>
-    requires few { length rows.old.items ≤ MAX_ROWS }
     requires line { 1 ≤ line }
-    ensures ok { OnOk result (with_record names.now config.now line rows.old.items (fields_of row.now) ≡ Ok rows.new.items) }
-    ensures few { OnOk result (length rows.new.items ≤ MAX_ROWS) }
-    ensures err { IfErr result (λ fault. fault.cause ≢ FileCause.OutOfMemory → with_record names.now config.now line rows.old.items (fields_of row.now) ≡ Err fault) }
+    ensures ok { OnOk result (with_record names.now config.now line (rows_so_far batch.old) (fields_of row.now) ≡ Ok (rows_so_far batch.new)) }
+    ensures earlier { OnOk result (batch.new.earlier ≡ batch.old.earlier) }
+    ensures err { IfErr result (λ fault. fault.cause ≢ FileCause.OutOfMemory → with_record names.now config.now line (rows_so_far batch.old) (fields_of row.now) ≡ Err fault) }
     ensures memory { IfErr result (λ fault. OnTrue (is_from_outside fault.cause) (fault.line ≡ 0)) }
 {
     match Fields::of(row) {
@@ -181,7 +283,7 @@ fn add_fields(
             if line == 1 {
                 check_header(&fields)
             } else {
-                add_record(rows, line, &fields, names, config)
+                add_record(batch, line, &fields, names, config)
             }
         }
         None => {
@@ -207,23 +309,22 @@ fn check_header(fields: &Fields) -> Result<(), FileFault>
 
 /// Adds the rows of a record with this number that isn't the header.
 fn add_record(
-    rows: &mut Vec<Row>,
+    batch: &mut Batch,
     line: u32,
     fields: &Fields,
     names: &Names,
     config: &SegmentConfig,
 ) -> Result<(), FileFault>
-    requires { length rows.old.items ≤ MAX_ROWS }
-    ensures ok { OnOk result (with_rows line rows.old.items (rows_of_record names.now config.now (texts_of fields.now)) ≡ Ok rows.new.items) }
-    ensures few { OnOk result (length rows.new.items ≤ MAX_ROWS) }
-    ensures err { IfErr result (λ fault. fault.cause ≢ FileCause.OutOfMemory → with_rows line rows.old.items (rows_of_record names.now config.now (texts_of fields.now)) ≡ Err fault) }
+    ensures ok { OnOk result (with_rows line (rows_so_far batch.old) (rows_of_record names.now config.now (texts_of fields.now)) ≡ Ok (rows_so_far batch.new)) }
+    ensures earlier { OnOk result (batch.new.earlier ≡ batch.old.earlier) }
+    ensures err { IfErr result (λ fault. fault.cause ≢ FileCause.OutOfMemory → with_rows line (rows_so_far batch.old) (rows_of_record names.now config.now (texts_of fields.now)) ≡ Err fault) }
     ensures memory { IfErr result (λ fault. OnTrue (is_from_outside fault.cause) (fault.line ≡ 0)) }
 {
     let entry = parse_entry(fields, names, config).ok_or(fault_at(line, FileCause::BadField))?;
-    if MAX_ROWS - rows.len() < count_of(entry, names.securities()) as usize {
+    if MAX_ROWS - batch.total() < count_of(entry, names.securities()) as usize {
         return Err(fault_at(line, FileCause::TooManyRows));
     }
-    add_entry(rows, entry, names.securities())?;
+    add_entry(batch, entry, names.securities())?;
     Ok(())
 }
 
@@ -238,24 +339,26 @@ fn count_of(entry: Entry, securities: u32) -> u32
 }
 
 /// Adds the rows of an entry in a segment of so many securities.
-fn add_entry(rows: &mut Vec<Row>, entry: Entry, securities: u32) -> Result<(), AllocError>
-    ensures { OnOk result (rows.new.items ≡ rows.old.items ++ rows_of_entry securities entry) }
+fn add_entry(batch: &mut Batch, entry: Entry, securities: u32) -> Result<(), AllocError>
+    requires { length (rows_so_far batch.old) + length (rows_of_entry securities entry) ≤ MAX_ROWS }
+    ensures { OnOk result (batch.new ≡ record batch.old { rows = batch.old.rows ++ rows_of_entry securities entry }) }
 {
     match entry {
         Entry::One(row) => {
-            rows.push(row)?;
+            batch.push(row)?;
             Ok(())
         }
-        Entry::Each(command) => add_each(rows, command, securities),
+        Entry::Each(command) => add_each(batch, command, securities),
     }
 }
 
 /// Adds one row per security.
-fn add_each(rows: &mut Vec<Row>, command: Command, securities: u32) -> Result<(), AllocError>
-    ensures { OnOk result (rows.new.items ≡ rows.old.items ++ map (λ security. record { security = security; command = command }) (range_with_len 0 securities)) }
+fn add_each(batch: &mut Batch, command: Command, securities: u32) -> Result<(), AllocError>
+    requires { length (rows_so_far batch.old) + securities ≤ MAX_ROWS }
+    ensures { OnOk result (batch.new ≡ record batch.old { rows = batch.old.rows ++ map (λ security. record { security = security; command = command }) (range_with_len 0 securities) }) }
 {
     for security in 0..securities {
-        rows.push(Row { security, command })?;
+        batch.push(Row { security, command })?;
     }
     Ok(())
 }

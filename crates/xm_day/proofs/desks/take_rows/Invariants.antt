@@ -4,6 +4,6 @@ use Rattle.xm_day.proofs.desks.take_rows.Given as goal
 
 abbrev pub invariant-loop-row : goal.invariant-loop-row
 invariant-loop-row g l = record {
-  so_far : day_of l.desks l.report.accepted l.report.refused ≡ after_rows (day_of l.initial.desks 0 0) (take l.row-index l.rows);
-  counted : l.report.accepted + l.report.refused ≡ l.row-index;
+  so_far : day_of l.desks l.report.accepted l.report.refused ≡ after_rows (day_of l.initial.desks l.fn.before.accepted l.fn.before.refused) (take l.row-index l.rows);
+  counted : l.report.accepted + l.report.refused ≡ l.fn.before.accepted + l.fn.before.refused + l.row-index;
 }

@@ -1,27 +1,30 @@
-use Rattle.std.proofs.Common.{refl, ◌∙◌}
+use Rattle.std.proofs.Common.{◌+◌, length, refl, ap, arith, ◌∙◌}
 use Rattle.xm_files.proofs.LineRecords.{line-shorter}
 use Rattle.xm_files.proofs.PassedErrors.{if_passed}
 use Rattle.xm_files.proofs.Progress.{lines-begin, lines-end, lines-fault, lines-more}
+use Rattle.xm_files.specs.Batches.{rows_so_far}
 use Rattle.xm_files.specs.Plain.{rest_of}
 use Rattle.xm_files.specs.Rows.{texts_of}
 use Rattle.xm_files.proofs.orders.add_lines.Goals as goal
 
 pub lines-init : goal.lines-init
 lines-init c = record {
-  read = lines-begin c.args.names.now c.args.config.now c.args.text.now (rest_of c.in-Some.marks) c.args.rows.now.items c.requires.empty c.requires.short c.in-Some.ensures.header;
+  read = lines-begin c.args.names.now c.args.config.now c.args.text.now (rest_of c.in-Some.marks) c.args.first c.in-Some.line (rows_so_far c.args.batch.now) c.in-Some.ensures.begun c.requires.whole c.requires.short;
   behind = c.in-Some.ensures.behind;
+  earlier = refl;
+  onward = (c.in-Some.ensures.begun).onward;
 }
 
 pub returns-in_default-read_line-clause-ok : goal.returns-in_default-read_line-clause-ok
 returns-in_default-read_line-clause-ok c =
-    lines-end c.args.names.now c.args.config.now _ c.left-left.result.now (rest_of c.lines.marks) c.lines.line c.lines.rows.items c.lines.invariant.read (c.left-left.ensures ∙ c.lines.invariant.behind)
+    lines-end c.args.names.now c.args.config.now _ c.left-left.result.now (rest_of c.lines.marks) c.lines.line (rows_so_far c.lines.batch) c.lines.invariant.read (c.left-left.ensures ∙ c.lines.invariant.behind)
 
 pub returns-in_err-add_record-clause-err : goal.returns-in_err-add_record-clause-err
 returns-in_err-add_record-clause-err c =
     let read = c.in-Some-read_line in
     let fault = c.in_err-add_record.field-0.0 in
     if_passed _ c.from_residual.result fault c.from_residual.ensures.1
-    (λ h. lines-fault c.args.names.now c.args.config.now _ (rest_of c.lines.marks) (rest_of c.read_line.new.line) c.lines.line c.lines.rows.items (texts_of c.read_line.new.self) fault c.lines.invariant.read read.ensures.line refl
+    (λ h. lines-fault c.args.names.now c.args.config.now _ (rest_of c.lines.marks) (rest_of c.read_line.new.line) c.lines.line (rows_so_far c.lines.batch) (texts_of c.read_line.new.self) fault c.lines.invariant.read read.ensures.line refl
     (c.in_err-add_record.ensures.err h))
 
 pub lines-smaller : goal.lines-smaller
@@ -32,8 +35,26 @@ lines-smaller c =
 pub lines-preserved : goal.lines-preserved
 lines-preserved c =
     let read = c.in-Some-read_line in
+    let onward = c.lines.invariant.onward in
     record {
-      read = lines-more c.args.names.now c.args.config.now _ (rest_of c.lines.marks) (rest_of c.read_line.new.line) c.lines.line c.lines.rows.items c.add_record.new.rows.items (texts_of c.read_line.new.self) c.lines.invariant.read read.ensures.line refl
-          c.in_ok-add_record.ensures.ok c.in_ok-add_record.ensures.few;
+      read = lines-more c.args.names.now c.args.config.now _ (rest_of c.lines.marks) (rest_of c.read_line.new.line) c.lines.line (rows_so_far c.lines.batch) (rows_so_far c.add_record.new.batch) (texts_of c.read_line.new.self) c.lines.invariant.read read.ensures.line refl
+          c.in_ok-add_record.ensures.ok;
       behind = read.ensures.behind;
+      earlier = c.in_ok-add_record.ensures.earlier ∙ c.lines.invariant.earlier;
+      onward = omega (arith, onward);
     }
+
+pub returns-then-len-most-clause-ok : goal.returns-then-len-most-clause-ok
+returns-then-len-most-clause-ok c =
+    let read = c.in-Some-read_line in
+    let more = lines-more c.args.names.now c.args.config.now _ (rest_of c.lines.marks) (rest_of c.read_line.new.line) c.lines.line (rows_so_far c.lines.batch) (rows_so_far c.add_record.new.batch) (texts_of c.read_line.new.self) c.lines.invariant.read read.ensures.line refl
+    c.in_ok-add_record.ensures.ok in
+    lines-end c.args.names.now c.args.config.now _ c.left.result.now (rest_of c.read_line.new.line) (c.lines.line + 1) (rows_so_far c.add_record.new.batch) more (c.left.ensures ∙ read.ensures.behind)
+
+pub returns-then-len-most-clause-lines : goal.returns-then-len-most-clause-lines
+returns-then-len-most-clause-lines c =
+    let read = c.in-Some-read_line in
+    let more = line-shorter (rest_of c.lines.marks) (rest_of c.read_line.new.line) (texts_of c.read_line.new.self) read.ensures.line in
+    let left = ap length (c.left.ensures ∙ read.ensures.behind) in
+    let lines = c.lines.invariant.read.lines in
+    (omega arith, omega (arith, more, left, lines))

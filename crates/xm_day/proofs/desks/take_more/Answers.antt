@@ -1,0 +1,29 @@
+use Rattle.std.proofs.Common.{List, length, ap, sym, subst, ◌∙◌, arith}
+use Rattle.std.proofs.lemmas.List.{length-append}
+use Rattle.xm_rules.specs.Step.{Journal}
+use Rattle.xm_day.proofs.Days.{after_rows-append, lent_back}
+use Rattle.xm_day.specs.Answers.{HasTaken}
+use Rattle.xm_day.specs.Day.{Day, after_rows, day_of, opening_day}
+use Rattle.xm_day.proofs.desks.take_more.Goals as goal
+
+pub returns : goal.returns
+returns c = λ config taken has.
+    let old = c.in_ok-desks.field-0 in
+    let new = c.take_rows.new.desks in
+    let report = c.in_ok-report.report in
+    let rows = c.args.rows.now in
+    let before = subst (HasTaken config taken) c.in_ok-desks.was has in
+    let kept = c.take_rows.auto.desks ∙ ap length c.as_mut_slice.ensures.value in
+    let lent = lent_back new old.desks.items old.desks.len kept old.desks.ok.0 in
+    let both = length-append taken rows in
+    let counted = c.in_ok-report.ensures.counted in
+    let count = before.3 in (
+      before.0,
+      ap length lent ∙ kept ∙ before.1,
+      ap (λ (js : List Journal). day_of js report.accepted report.refused) lent
+          ∙ c.in_ok-report.ensures.taken
+          ∙ ap (λ (js : List Journal). after_rows (day_of js old.report.accepted old.report.refused) rows) c.as_mut_slice.ensures.value
+          ∙ ap (λ (d : Day). after_rows d rows) before.2
+          ∙ sym (after_rows-append (opening_day config) taken rows),
+      omega (arith, both, counted, count),
+    )

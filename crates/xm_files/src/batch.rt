@@ -1,0 +1,104 @@
+//! The rows of an order file, a batch at a time.
+ghost use Rattle.std.specs.Prelude.{◌≡◌, ◌+◌, ◌<◌, ◌≤◌, ◌∷◌, ◌++◌, [], OnOk, length};
+ghost use Rattle.xm_files.specs.Batches.{rows_so_far};
+
+use crate::orders::MAX_ROWS;
+use std::alloc::{AllocError, Global};
+use std::marker::Model;
+use std::mem;
+use std::snapshot::Snapshot;
+use xm_segment::Row;
+
+/// The batches before one. A snapshot has no bytes.
+#[derive(Drop)]
+enum Earlier {
+    Nothing,
+    Batch(Snapshot<Vec<Row>>, Snapshot<Earlier>),
+}
+
+/// The rows that were read last of an order file. How many were read before them is kept; which they were, a clause alone
+/// sees.
+#[derive(Drop)]
+pub struct Batch {
+    rows: Vec<Row>,
+    earlier: Earlier,
+    // How many rows the batches before have.
+    count: usize,
+}
+
+impl Model for Batch {
+    ghost use Rattle.std.specs.Prelude.{◌≡◌, ◌+◌, ◌≤◌, length};
+    ghost use Rattle.xm_files.specs.Batches.{RowsRead, earlier_rows};
+
+    ghost Value = { RowsRead };
+
+    ghost view = { λ b. record { earlier = earlier_rows b.earlier; rows = b.rows.items } };
+
+    ghost invariant = { λ b. record {
+      counted : b.count ≡ length (earlier_rows b.earlier);
+      few : b.count + length b.rows.items ≤ 1000000;
+    } };
+}
+
+impl Batch {
+    /// No rows.
+    pub fn new(alloc: Global) -> Batch
+        ensures { result ≡ record { earlier = []; rows = [] } }
+    {
+        Batch {
+            rows: Vec::new(alloc),
+            earlier: Earlier::Nothing,
+            count: 0,
+        }
+    }
+
+    /// The rows of the batch.
+    pub fn rows(&self) -> &[Row]
+        ensures { result.now ≡ self.now.rows }
+    {
+        self.rows.as_slice()
+    }
+
+    /// How many rows the batch has.
+    pub(crate) fn len(&self) -> usize
+        ensures { result ≡ length self.now.rows }
+    {
+        self.rows.len()
+    }
+
+    /// How many rows were read, those of the batches before among them.
+    pub(crate) fn total(&self) -> usize
+        ensures total { result ≡ length (rows_so_far self.now) }
+        ensures few { result ≤ MAX_ROWS }
+    {
+        self.count + self.rows.len()
+    }
+
+    /// Begins another batch. The room of this one stays.
+    pub(crate) fn begin(&mut self)
+        ensures { self.new ≡ record { earlier = rows_so_far self.old; rows = [] } }
+    {
+        let earlier = mem::replace(&mut self.earlier, Earlier::Nothing);
+        self.earlier = Earlier::Batch(Snapshot::of(&self.rows), Snapshot::of(&earlier));
+        self.count += self.rows.len();
+        self.rows.clear();
+    }
+
+    /// Adds a row.
+    #[inline(always)]
+    pub(crate) fn push(&mut self, row: Row) -> Result<(), AllocError>
+        requires { length (rows_so_far self.old) < MAX_ROWS }
+        ensures { OnOk result (self.new ≡ record self.old { rows = self.old.rows ++ row ∷ [] }) }
+    {
+        self.rows.push(row)?;
+        Ok(())
+    }
+
+    /// The rows of the batch, kept.
+    pub(crate) fn into_rows(self) -> Vec<Row>
+        ensures rows { result.items ≡ self.rows }
+        ensures few { length result.items ≤ MAX_ROWS }
+    {
+        self.rows
+    }
+}
