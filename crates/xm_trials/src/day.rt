@@ -1,3 +1,4 @@
+mod batches;
 mod growths;
 mod whole_day;
 
