@@ -1,6 +1,6 @@
 -- What CSV makes of fields that are written without quotes.
 use Rattle.std.proofs.Common.{◌≡◌, ℕ, zero, suc, ◌+◌, ◌-◌, ◌<◌, ◌≤◌, Bool, true, false, not, ◌||◌, ◌==◌, List, [], ◌∷◌, ◌++◌, take, drop, get_or, get_or-drop, length, length-drop, take-append-drop, Some, refl, sym, ap, ◌∙◌, append_assoc, arith}
-use Rattle.std.proofs.Math.Seq.{drop-cons, drop-nil, take-length}
+use Rattle.std.proofs.Math.Seq.{drop-cons, drop-nil}
 use Rattle.std.proofs.lemmas.Bool.{and_parts}
 use Rattle.std.proofs.lemmas.List.{append-nil, take_more}
 use Rattle.std.proofs.lemmas.List.Folds.{list_all-append}
@@ -148,7 +148,3 @@ pub field-to : (mark : ℕ) (t : TextFrom) (place : ℕ) → IsNextMark t place 
 field-to mark t place next is =
     let rest = ap (λ (rest : List ℕ). take (place - t.at) (rest_of t) ++ rest) (between t.text t.at place next.ahead ∙ from-mark t.text place 0 mark next.within is) in
     (sym (take-append-drop (place - t.at) (rest_of t)) ∙ rest, plain-up-to t place next (place - t.at) (let ahead = next.ahead in omega arith))
-
--- what is lent from a place on
-pub lent-from : (text : List ℕ) (n : ℕ) → take (length text - n) (drop n text) ≡ drop n text
-lent-from text n = ap (λ (k : ℕ). take k (drop n text)) (sym (length-drop n text)) ∙ take-length (drop n text)

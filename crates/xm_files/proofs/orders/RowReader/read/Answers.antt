@@ -21,3 +21,11 @@ returns-clause-read c =
 
 pub returns-clause-ended : goal.returns-clause-ended
 returns-clause-ended c = λ ended. nothing-left c.args.names.now c.args.config.now (rows_so_far c.add_records.new.batch)
+
+pub returns-then-full-clause-read : goal.returns-then-full-clause-read
+returns-then-full-clause-read c =
+    let names = c.args.names.now in
+    let config = c.args.config.now in
+    let file = c.self.inside in
+    let begun = ap rows_so_far c.begin.ensures ∙ append-nil (rows_so_far c.args.batch.now) in
+    rw (← c.self.view_is) (ap (λ (rows : List Row). rows_after names config file.line rows (records default_config (strip_bom file.left.now))) (sym begun) ∙ c.in_ok-left.ensures.ok)
