@@ -1,23 +1,24 @@
 -- The orders of a book at the end of a day.
-use Rattle.std.proofs.Common.{◌≡◌, ℕ, ◌+◌, Bool, true, false, ◌||◌, ◌==◌, not, List, [], ◌∷◌, length, map, filter, Contains, Option, Some, None, IsSome, if◌then◌else◌, refl, sym, ap, ◌∙◌, arith}
+use Rattle.std.proofs.Common.{◌≡◌, ℕ, ◌+◌, Bool, true, false, ◌||◌, ◌==◌, not, List, [], ◌∷◌, length, map, filter, find, option_map, Contains, Option, Some, None, IsSome, if◌then◌else◌, refl, sym, ap, ◌∙◌, arith}
 use Rattle.std.specs.List.{All, list_all}
 use Rattle.std.specs.Prelude.{nat_lt}
-use Rattle.std.proofs.lemmas.Bool.{and_from, and_parts}
+use Rattle.std.proofs.lemmas.Bool.{and_from, and_parts, false≢true}
 use Rattle.std.proofs.lemmas.Bool.Decides.{nat_tests}
 use Rattle.std.proofs.lemmas.List.Elements.{All-head, All-tail}
 use Rattle.xm_book.specs.Expiry.{is_below, is_done, outlives}
-use Rattle.xm_book.specs.Listing.{has_name, is_other_key, keys_in, listed_entry, listed_order}
+use Rattle.xm_book.specs.Listing.{has_name, is_other_key, key_of, keys_in, listed_entry, listed_order}
 use Rattle.xm_book.specs.Slots.{SlotsView, get}
 use Rattle.xm_book.specs.declared.entry.Entry.{Entry}
 use Rattle.xm_book.specs.declared.listing.Listed.{Listed}
 use Rattle.xm_book.specs.Indexed.{IsIndexed}
 use Rattle.xm_book.specs.Queued.{LiesAt, QueuedView}
-use Rattle.xm_book.proofs.Indexing.{at, unknown}
 use Rattle.xm_book.proofs.Leaving.{all-stay, filters}
 use Rattle.xm_book.proofs.Members.{Contains-here, Contains-map, Contains-there, IsMade-map, Passes-filter, find-Some, list_any-false}
+use Rattle.xm_book.specs.TimeList.{have_own_names}
+use Rattle.xm_rules.specs.Commands.{is_in_range, outlasts}
 use Rattle.xm_book.proofs.SlotKeys.{within-there}
-use Rattle.xm_book.proofs.Named.{key-once, name-once}
-use Rattle.xm_names.specs.Names.{NamesOfMember, lookup}
+use Rattle.xm_book.proofs.Named.{find-filter, key-once, length-kept, name-once, named-at, none-found, not-named, orders-kept, own_names-kept, rests-kept}
+use Rattle.xm_names.specs.Names.{NamesOfMember, Retains, lookup, room}
 use Rattle.xm_rules.specs.Orders.{is_named}
 use Rattle.xm_rules.specs.declared.orders.Order.{Order}
 use Rattle.xm_queues.specs.Keys.{AreDistinct}
@@ -99,49 +100,66 @@ none-done today (x ∷ xs) = and_from (is_done today 0 x) (list_all (is_done tod
     before : (b : Bool) → (not (nat_lt x.key 0) || b) ≡ true
     before b = grind (arith, nat_tests)
 
-named-itself : (o : Order) → is_named o.member o.reference o ≡ true
-named-itself o = grind (arith, nat_tests)
-
 other-itself : (n key : ℕ) → n ≡ key → not (n == key) ≡ false
 other-itself n key e = grind (arith, nat_tests)
 
--- ---- the order of an entry that lies in the slots
-module _ (q : QueuedView) (names : List (ℕ × NamesOfMember)) (h : IsIndexed q names) (e : Entry) where
-  abbrev member : ℕ
-  member = e.order.member
-
-  abbrev reference : ℕ
-  reference = e.order.reference
-
-  its-name : (y : Listed) → y.order ≡ e.order → has_name member reference y ≡ true
-  its-name y same = ap (is_named member reference) same ∙ named-itself e.order
-
-  -- where no order has the name, none is the same
-  pub unknown-alike : None ≡ lookup names member reference → (y : Listed) → Contains q.orders y → y.order ≡ e.order → ⊥
-  unknown-alike none y c same =
-      let fails = list_any-false (is_named member reference) (map listed_order q.orders) y.order (unknown q names h member reference none) (Contains-map listed_order q.orders y c) in
-      let k : true ≡ false = sym (its-name y same) ∙ fails in
+-- ---- the order of a key leaves
+module _ (key : ℕ) (xs : List Listed) where
+  pub gone : (x : Listed) → Contains (filter (is_other_key key) xs) x → x.key ≡ key → ⊥
+  gone x at same =
+      let passes = Passes-filter (is_other_key key) xs x at in
+      let k : true ≡ false = sym passes.passes ∙ other-itself x.key key same in
       cc
 
-  -- the name leads to its key
-  module _ (key : ℕ) (l : Some key ≡ lookup names member reference) where
-    pub its-key : (y : Listed) → Contains q.orders y → y.order ≡ e.order → y.key ≡ key
-    its-key y c same =
-        let there = at q names h member reference key l in
-        let found = find-Some (has_name member reference) q.orders there.listed there.found in
-        ap (λ (z : Listed). z.key) (name-once member reference q.orders there.listed y h.sound.names found.contains c found.passes (its-name y same)) ∙ there.key_is
+  -- those that pass a test which it fails are as before
+  pub pass-as-before : (p : Listed → Bool) → AreDistinct (keys_in xs) → Contains (keys_in xs) key → ((x : Listed) → Contains xs x → x.key ≡ key → p x ≡ false)
+      → filter p (filter (is_other_key key) xs) ≡ filter p xs
+  pass-as-before p d at fails =
+      let made = IsMade-map (λ (x : Listed). x.key) xs key at in
+      ap (λ (n : ℕ). filter p (filter (is_other_key n) xs)) (sym made.made) ∙ others-pass p xs made.from d made.contains (fails made.from made.contains made.made)
 
-    -- what outlives it is as before
-    pub leaves-valid : (p : Listed → Bool) → AreDistinct (keys_in q.orders) → Contains (map listed_entry q.orders) e → ((y : Listed) → y.order ≡ e.order → p y ≡ false)
-        → filter p (filter (is_other_key key) q.orders) ≡ filter p q.orders
-    leaves-valid p d held fails =
-        let made = IsMade-map listed_entry q.orders e held in
-        let same : made.from.order ≡ e.order = ap (λ (x : Entry). x.order) made.made in
-        ap (λ (n : ℕ). filter p (filter (is_other_key n) q.orders)) (sym (its-key made.from made.contains same)) ∙ others-pass p q.orders made.from d made.contains (fails made.from same)
+-- ---- the name of each order that is left
+module _ (p : Listed → Bool) (xs : List Listed) (own : have_own_names (map listed_order xs) ≡ true) (m r : ℕ) where
+  abbrev is_it : Listed → Bool
+  is_it = has_name m r
 
-    -- and no order is left that is the same
-    pub none-alike : (y : Listed) → Contains (filter (is_other_key key) q.orders) y → y.order ≡ e.order → ⊥
-    none-alike y c same =
-        let passes = Passes-filter (is_other_key key) q.orders y c in
-        let k : true ≡ false = sym passes.passes ∙ other-itself y.key key (its-key y passes.contains same) in
-        cc
+  abbrev key_if : Bool → Option ℕ → Option ℕ
+  key_if b o = if b then o else None
+
+  out : (b : Bool) (o : Option Listed) → option_map (λ (x : Listed). x.key) (if b then o else None) ≡ key_if b (option_map (λ (x : Listed). x.key) o)
+  out true o = refl
+  out false o = refl
+
+  key-none : key_of m r xs ≡ None → key_of m r (filter p xs) ≡ None
+  key-none none =
+      let fails = list_any-false (is_named m r) (map listed_order xs) in
+      let unnamed = none-found (is_named m r) (map listed_order xs) (not-named m r xs none) in
+      ap (option_map (λ (x : Listed). x.key)) (find-filter p is_it false xs (λ x at named. absurd (false≢true (sym (fails x.order unnamed (Contains-map listed_order xs x at)) ∙ named))))
+
+  key-some : (key : ℕ) (b : Bool) → key_of m r xs ≡ Some key → ((x : Listed) → Contains xs x → x.key ≡ key → b ≡ p x) → key_of m r (filter p xs) ≡ key_if b (Some key)
+  key-some key b some says =
+      let at = named-at m r key xs some in
+      let it = find-Some is_it xs at.listed at.found in
+      ap (option_map (λ (x : Listed). x.key)) (find-filter p is_it b xs (λ x there named. ap p (name-once m r xs at.listed x own it.contains there it.passes named) ∙ sym (says at.listed it.contains at.key_is)))
+      ∙ out b (find is_it xs) ∙ ap (key_if b) some
+
+  pub key-left : (answers : ℕ → Bool → Type 0) → ((key : ℕ) (b : Bool) → answers key b → (x : Listed) → Contains xs x → x.key ≡ key → b ≡ p x)
+      → (old new : Option ℕ) → old ≡ key_of m r xs → Retains answers old new → new ≡ key_of m r (filter p xs)
+  key-left answers says None new is left = left ∙ sym (key-none (sym is))
+  key-left answers says (Some key) new is left = left.2 ∙ sym (key-some key left.0 (sym is) (says key left.0 left.1))
+
+-- the names lead to the keys of the orders that are left
+pub indexed-left : (today : ℕ) (q : QueuedView) (names names' : List (ℕ × NamesOfMember)) → IsIndexed q names → ((m r : ℕ) → lookup names' m r ≡ key_of m r (filter (outlives today) q.orders)) → ((m : ℕ) → room names' m ≡ room names m)
+    → IsIndexed (record q { orders = filter (outlives today) q.orders }) names'
+indexed-left today q names names' h named same =
+    let left = orders-kept (λ (o : Order). outlasts today o.validity) q.orders in
+    let os = map listed_order q.orders in
+    record {
+      named = named;
+      names_room = λ m. omega (arith, same m, h.names_room m);
+      sound = record {
+        names = ap have_own_names left ∙ own_names-kept (λ (o : Order). outlasts today o.validity) os h.sound.names;
+        rests = ap (list_all (λ (o : Order). is_in_range o.rest)) left ∙ rests-kept (λ (o : Order). is_in_range o.rest) (λ (o : Order). outlasts today o.validity) os h.sound.rests;
+        within = omega (arith, h.sound.within, ap length left, length-kept (λ (o : Order). outlasts today o.validity) os);
+      };
+    }

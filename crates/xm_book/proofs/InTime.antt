@@ -1,21 +1,23 @@
 -- The entries of a book, sorted by the numbers of their adds, are its orders in time order.
-use Rattle.std.proofs.Common.{◌≡◌, ℕ, zero, suc, ◌+◌, ◌<◌, ◌≤◌, Bool, true, false, ◌==◌, if◌then◌else◌, List, [], ◌∷◌, length, get_or, map, filter, count_by, cond, Contains, Option, Some, None, is_some, IfSome, refl, sym, ap, ◌∙◌, subst, ◌⊎◌, inl, inr, arith}
+use Rattle.std.proofs.Common.{◌≡◌, ℕ, zero, suc, ◌+◌, ◌<◌, ◌≤◌, Bool, true, false, ◌==◌, if◌then◌else◌, List, [], ◌∷◌, length, get_or, set, map, filter, find, count_by, cond, Contains, Option, Some, None, is_some, IsSome, IfSome, eqb-true, eq-eqb, refl, sym, ap, ◌∙◌, subst, ◌⊎◌, inl, inr, arith}
 use Rattle.std.specs.List.{All, filter_map, remove}
 use Rattle.std.specs.List.Sorted.{IsNonDecreasingBy, IsPermutation}
 use Rattle.std.specs.Prelude.{nat_le}
-use Rattle.std.proofs.lemmas.Bool.{and_parts, leb-true}
-use Rattle.std.proofs.lemmas.List.{length-map}
+use Rattle.std.proofs.lemmas.Bool.{and_parts, false≢true, leb-true}
+use Rattle.std.proofs.lemmas.List.{get_or-set_other, length-map}
 use Rattle.std.proofs.lemmas.List.Elements.{All-cons, All-contains, All-filter, All-nil, All-weaker}
 use Rattle.std.proofs.lemmas.List.Sorted.{Contains-permutation, IsPermutation-cons, IsPermutation-refl, IsPermutation-remove, IsPermutation-trans, length_permutation, sum_by-IsPermutation}
 use Rattle.std.proofs.lemmas.List.Sums.{length-filter, sum_by-cons}
-use Rattle.xm_book.specs.Listing.{listed_entry, listed_order, rises}
+use Rattle.xm_book.specs.Listing.{keys_in, listed_entry, listed_order, rises}
 use Rattle.xm_book.specs.Queued.{LiesAt}
 use Rattle.xm_book.specs.Slots.{SlotsView, entries_of, get, is_of, used}
 use Rattle.xm_book.specs.TimeList.{references_of}
 use Rattle.xm_book.specs.declared.entry.Entry.{Entry}
 use Rattle.xm_book.specs.declared.listing.Listed.{Listed}
 use Rattle.xm_book.proofs.Joining.{same_some}
-use Rattle.xm_book.proofs.Members.{Contains-cases, Contains-filter, Contains-here, Contains-none, Contains-there, IsMade-map, Passes-filter}
+use Rattle.xm_book.proofs.Members.{Contains-cases, Contains-filter, Contains-here, Contains-map, Contains-none, Contains-there, IsMade, IsMade-map, Passes-filter, find-Some, list_any-false}
+use Rattle.xm_book.proofs.Named.{none-found}
+use Rattle.xm_book.proofs.SlotKeys.{count-set, one_if, within-there}
 use Rattle.xm_rules.specs.declared.orders.Order.{Order}
 
 -- ---- lists in which a number rises strictly
@@ -33,20 +35,42 @@ module _ {X : Type 0} (n : X → ℕ) where
       rising_if true rest = (All-filter p (λ (y : X). n x < n y) xs r.0, rest)
       rising_if false rest = rest
 
-  -- as many elements as a list that rises has, with each of its own among them, are that list in another order
+  -- what comes after an element of a list that rises is another one
+  others-stay : (t : X) (ts ys : List X) (x : X) → All (λ (y : X). n t < n y) ts → Contains ts x → (t ≡ x) ⊎ Contains ys x → Contains ys x
+  others-stay t ts ys x higher in_ts (inl same) = absurd (let later = All-contains (λ (y : X). n t < n y) ts x higher in_ts in let equal = ap n same in omega arith)
+  others-stay t ts ys x higher in_ts (inr there) = there
+
+  -- a list that has each element of one that rises is that one's head, and a list that has each element of its tail
+  record Has (t : X) (ts es : List X) : Type 0 where
+    rest : List X
+    moved : IsPermutation es (t ∷ rest)
+    longer : length es ≡ length rest + 1
+    all : (x : X) → Contains ts x → Contains rest x
+
+  has : (t : X) (ts es : List X) → IsRising (t ∷ ts) → ((x : X) → Contains (t ∷ ts) x → Contains es x) → Has t ts es
+  has t ts es r all =
+      let at = all t (Contains-here t ts) in
+      let moved : IsPermutation es (t ∷ remove es at.0) = IsPermutation-remove es at.0 t at.1 (sym at.2) in
+      let shorter = length_permutation es (t ∷ remove es at.0) moved in
+      record {
+        rest = remove es at.0;
+        moved = moved;
+        longer = omega (arith, shorter);
+        all = λ x in_ts. others-stay t ts (remove es at.0) x r.0 in_ts (Contains-cases t (remove es at.0) x (Contains-permutation es (t ∷ remove es at.0) x moved (all x (Contains-there t ts x in_ts))));
+      }
+
+  -- it is no shorter
+  no-shorter : (ts es : List X) → IsRising ts → ((x : X) → Contains ts x → Contains es x) → length ts ≤ length es
+  no-shorter [] es r all = omega arith
+  no-shorter (t ∷ ts) es r all = let h = has t ts es r all in omega (arith, h.longer, no-shorter ts h.rest r.1 h.all)
+
+  -- and as long, it is that one in another order
   rearranged : (ts es : List X) → IsRising ts → ((x : X) → Contains ts x → Contains es x) → length es ≡ length ts → IsPermutation es ts
   rearranged [] [] r all len = IsPermutation-refl []
   rearranged [] (e ∷ es) r all len = absurd (omega arith)
   rearranged (t ∷ ts) es r all len =
-      let at = all t (Contains-here t ts) in
-      let moved : IsPermutation es (t ∷ remove es at.0) = IsPermutation-remove es at.0 t at.1 (sym at.2) in
-      let shorter = length_permutation es (t ∷ remove es at.0) moved in
-      let rest = rearranged ts (remove es at.0) r.1 (λ x in_ts. still (remove es at.0) x in_ts (Contains-cases t (remove es at.0) x (Contains-permutation es (t ∷ remove es at.0) x moved (all x (Contains-there t ts x in_ts))))) (omega arith) in
-      IsPermutation-trans es (t ∷ remove es at.0) (t ∷ ts) moved (IsPermutation-cons t (remove es at.0) ts rest)
-    where
-      still : (ys : List X) (x : X) → Contains ts x → (t ≡ x) ⊎ Contains ys x → Contains ys x
-      still ys x in_ts (inl same) = absurd (let later = All-contains (λ (y : X). n t < n y) ts x r.0 in_ts in let equal = ap n same in omega arith)
-      still ys x in_ts (inr there) = there
+      let h = has t ts es r all in
+      IsPermutation-trans es (t ∷ h.rest) (t ∷ ts) h.moved (IsPermutation-cons t h.rest ts (rearranged ts h.rest r.1 h.all (omega (arith, h.longer))))
 
   up-tail : (z : X) (zs : List X) → IsNonDecreasingBy n (z ∷ zs) → IsNonDecreasingBy n zs
   up-tail z zs up i j d le lt = up (suc i) (suc j) d (omega arith) (omega arith)
@@ -144,6 +168,32 @@ module _ (xs : List Listed) (adds : ℕ) (slots : SlotsView) (lie : All (LiesAt 
   pub held-in-time : (key : ℕ) (slot : Option Entry) → slot ≡ get slots key → IfSome slot (Contains all_in_time)
   held-in-time key None here = tt
   held-in-time key (Some e) here = Contains-permutation (entries_in slots.slots) all_in_time e same-orders (entry-there slots.slots key e (sym here))
+
+  -- and the key is that of an order: without it, there would be fewer entries than orders
+  pub key-listed : (key : ℕ) (slot : Option Entry) → slot ≡ get slots key → IsSome slot → Contains (keys_in xs) key
+  key-listed key None here some = absurd (cc)
+  key-listed key (Some e) here some = by_key (find at_key xs) refl
+    where
+      at_key : Listed → Bool
+      at_key x = x.key == key
+
+      left : List (Option Entry)
+      left = set slots.slots key None
+
+      by_key : (o : Option Listed) → find at_key xs ≡ o → Contains (keys_in xs) key
+      by_key (Some x) f = (let at = find-Some at_key xs x f in subst (λ (n : ℕ). Contains (keys_in xs) n) (eqb-true x.key key at.passes) (Contains-map (λ (y : Listed). y.key) xs x at.contains))
+      by_key None f =
+          let within = within-there slots.slots key (subst (λ (o : Option Entry). IsSome o) here some) in
+          let fewer = count-set slots.slots key None within in
+          let was = ap one_if here in
+          let all = no-shorter time_of all_in_time (entries_in left) (times-rise 0 adds xs rise) (λ e at. still-there e (IsMade-map listed_entry xs e at)) in
+          absurd (omega (arith, count, fewer, was, all, entries-length left, length-map xs listed_entry))
+        where
+          still-there : (e : Entry) → IsMade (λ x. listed_entry x) xs e → Contains (entries_in left) e
+          still-there e made =
+              entry-there left made.from.key e
+              (get_or-set_other slots.slots key made.from.key None None (λ same. (let apart = list_any-false at_key xs made.from (none-found at_key xs f) made.contains in false≢true (sym apart ∙ eq-eqb made.from.key key same)))
+              ∙ All-contains (LiesAt slots) xs made.from lie made.contains ∙ ap (λ (x : Entry). Some x) made.made)
 
   -- sorted, they are in time order, those of a member as well as all
   pub in-time : (member : Option ℕ) (zs : List Entry) → IsPermutation (entries_of member slots) zs → IsNonDecreasingBy time_of zs → zs ≡ filter (is_of member) all_in_time

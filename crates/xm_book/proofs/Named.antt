@@ -10,7 +10,7 @@ use Rattle.std.proofs.lemmas.List.Sums.{count_by-le-length, length-filter}
 use Rattle.xm_book.specs.Listing.{has_name, is_other_key, key_of, keys_in, listed_order, reduced_at}
 use Rattle.xm_book.specs.TimeList.{have_own_names}
 use Rattle.xm_book.specs.declared.listing.Listed.{Listed}
-use Rattle.xm_book.proofs.Members.{Contains-cases, Contains-map, Contains-none, find-Some, find-none, list_any-false}
+use Rattle.xm_book.proofs.Members.{Contains-cases, Contains-here, Contains-there, Contains-map, Contains-none, find-Some, find-none, list_any-false}
 use Rattle.xm_queues.specs.Keys.{AreDistinct}
 use Rattle.xm_rules.specs.Commands.{is_in_range}
 use Rattle.xm_rules.specs.Orders.{is_named, removed, with_rest, without_member}
@@ -248,10 +248,10 @@ rests-kept q p (o ∷ os) h = kept_if (p o) parts.0 (rests-kept q p os parts.1)
 pub length-kept : {X : Type 0} (p : X → Bool) (xs : List X) → length (filter p xs) ≤ length xs
 length-kept p xs = omega (arith, length-filter p xs, count_by-le-length p xs)
 
-find-filter : {X : Type 0} (p q : X → Bool) (b : Bool) → ((x : X) → q x ≡ true → p x ≡ b) → (xs : List X) → find q (filter p xs) ≡ (if b then find q xs else None)
-find-filter p q true h [] = refl
-find-filter p q false h [] = refl
-find-filter {X} p q b h (x ∷ xs) = found_if b (q x) (p x) refl refl (h x) (find-filter p q b h xs)
+pub find-filter : {X : Type 0} (p q : X → Bool) (b : Bool) (xs : List X) → ((x : X) → Contains xs x → q x ≡ true → p x ≡ b) → find q (filter p xs) ≡ (if b then find q xs else None)
+find-filter p q true [] h = refl
+find-filter p q false [] h = refl
+find-filter {X} p q b (x ∷ xs) h = found_if b (q x) (p x) refl refl (h x (Contains-here x xs)) (find-filter p q b xs (λ y at. h y (Contains-there x xs y at)))
   where
     found_if : (b c d : Bool) → q x ≡ c → p x ≡ d → (q x ≡ true → p x ≡ b) → find q (filter p xs) ≡ (if b then find q xs else None) → find q (filter p (x ∷ xs)) ≡ (if b then find q (x ∷ xs) else None)
     found_if true true true ec ed h rest = rw (ed, ec) refl
@@ -263,7 +263,7 @@ find-filter {X} p q b h (x ∷ xs) = found_if b (q x) (p x) refl refl (h x) (fin
 
 pub key_of-others : (m r member reference : ℕ) (xs : List Listed) → key_of member reference (filter (others m r) xs) ≡ (if (member == m) && (reference == r) then None else key_of member reference xs)
 key_of-others m r member reference xs =
-    ap key_in (find-filter (others m r) (has_name member reference) (not ((member == m) && (reference == r))) stays xs) ∙ turned ((member == m) && (reference == r))
+    ap key_in (find-filter (others m r) (has_name member reference) (not ((member == m) && (reference == r))) xs (λ x at. stays x)) ∙ turned ((member == m) && (reference == r))
   where
     stays : (x : Listed) → has_name member reference x ≡ true → others m r x ≡ not ((member == m) && (reference == r))
     stays x e = (λ i. not (((named-is member reference x.order e).0 i == m) && ((named-is member reference x.order e).1 i == r)))

@@ -21,11 +21,11 @@ distinct-front (k ∷ ks) key d =
     here_or_later (inl same) absent = d.0 (subst (λ (n : ℕ). Contains (ks ++ key ∷ []) n) (sym same) (Contains-push ks key))
     here_or_later (inr later) absent = absent later
 
-abbrev one_if : Option Entry → ℕ
+abbrev pub one_if : Option Entry → ℕ
 one_if o = cond (is_some o) 1 0
 
 -- one entry more or less under a key
-count-set : (es : List (Option Entry)) (key : ℕ) (slot : Option Entry) → key < length es
+pub count-set : (es : List (Option Entry)) (key : ℕ) (slot : Option Entry) → key < length es
     → count_by is_some (set es key slot) + one_if (get_or es key None) ≡ count_by is_some es + one_if slot
 count-set es key slot within = sum_by-set one_if es key slot None within
 

@@ -1,17 +1,18 @@
 //! The end of a day.
-ghost use Rattle.std.specs.Prelude.{◌≡◌, ◌+◌, Bool, true, filter};
+ghost use Rattle.std.specs.Prelude.{◌≡◌, ◌+◌, ℕ, Bool, Contains, true, filter};
 ghost use Rattle.std.specs.List.{list_all};
 ghost use Rattle.xm_book.specs.Expiry.{is_done, outlives};
 ghost use Rattle.xm_book.specs.Indexed.{IsIndexed};
+ghost use Rattle.xm_book.specs.Listing.{key_of};
 ghost use Rattle.xm_book.specs.declared.listing.Listed.{Listed};
+ghost use Rattle.xm_names.specs.Names.{lookup, room};
 
 use crate::order_queues::OrderQueues;
 use std::alloc::Allocator;
 use xm_names::{Names, Seed};
 
-/// Takes out the orders that aren't valid beyond a day, with their names: first member by member, and then, in one pass over
-/// the keys, those that are left. Few are; but the names of a member lie together, and by their keys each would be looked
-/// up in another member's table.
+/// Takes out the orders that aren't valid beyond a day, with their names. The names go member by member, as they lie
+/// together, and then the orders by their keys: by its name, each order would be looked up in another member's table.
 pub fn drop_expired<A: Allocator + Copy>(
     queues: &mut OrderQueues<A>,
     names: &mut Names<Seed, A>,
@@ -21,56 +22,34 @@ pub fn drop_expired<A: Allocator + Copy>(
     ensures indexed { IsIndexed queues.new names.new }
     ensures left { queues.new ≡ record queues.old { orders = filter (outlives today) queues.old.orders } }
 {
-    for place in 0..names.tables() {
-        drop_named(queues, names, place, today);
-    }
-    drop_left(queues, names, today);
+    drop_names(queues, names, today);
+    drop_orders(queues, today);
 }
 
-/// Takes out the orders of the member whose names are at this place, where they aren't valid beyond a day, from the last
-/// name on, since the last name moves to the place of one that leaves.
-fn drop_named<A: Allocator + Copy>(
-    queues: &mut OrderQueues<A>,
-    names: &mut Names<Seed, A>,
-    place: usize,
-    today: u32,
-)
-    requires { IsIndexed queues.old names.old }
-    ensures indexed { IsIndexed queues.new names.new }
-    ensures rest { queues.new ≡ record queues.old { orders = queues.new.orders } }
-    ensures valid { filter (outlives today) queues.new.orders ≡ filter (outlives today) queues.old.orders }
+/// Keeps the names of the orders that are valid beyond a day.
+fn drop_names<A: Allocator + Copy>(queues: &OrderQueues<A>, names: &mut Names<Seed, A>, today: u32)
+    requires { IsIndexed queues.now names.old }
+    ensures names { (m r : ℕ) → lookup names.new m r ≡ key_of m r (filter (outlives today) queues.now.orders) }
+    ensures room { (m : ℕ) → room names.new m ≡ room names.old m }
 {
-    for index in (0..names.count_at(place)).rev() {
-        if let Some(key) = names.key_at(place, index) {
-            drop_if_expired(queues, names, key, today);
-        }
-    }
+    names.retain(
+        &|key: usize| -> bool
+            ensures { (x : Listed) → Contains queues.entry.now.orders x → x.key ≡ key → result ≡ outlives today x }
+        { is_valid_beyond(queues, key, today) },
+    );
 }
 
 /// Takes out the orders that aren't valid beyond a day, in one pass over the keys.
-fn drop_left<A: Allocator + Copy>(
-    queues: &mut OrderQueues<A>,
-    names: &mut Names<Seed, A>,
-    today: u32,
-)
-    requires { IsIndexed queues.old names.old }
-    ensures indexed { IsIndexed queues.new names.new }
-    ensures left { queues.new ≡ record queues.old { orders = filter (outlives today) queues.old.orders } }
+fn drop_orders<A: Allocator + Copy>(queues: &mut OrderQueues<A>, today: u32)
+    ensures { queues.new ≡ record queues.old { orders = filter (outlives today) queues.old.orders } }
 {
     for key in 0..queues.key_limit() {
-        drop_if_expired(queues, names, key, today);
+        drop_if_expired(queues, key, today);
     }
 }
 
 /// Takes out the order of a key, where it has one that isn't valid beyond a day.
-fn drop_if_expired<A: Allocator + Copy>(
-    queues: &mut OrderQueues<A>,
-    names: &mut Names<Seed, A>,
-    key: usize,
-    today: u32,
-)
-    requires { IsIndexed queues.old names.old }
-    ensures indexed { IsIndexed queues.new names.new }
+fn drop_if_expired<A: Allocator + Copy>(queues: &mut OrderQueues<A>, key: usize, today: u32)
     ensures rest { queues.new ≡ record queues.old { orders = queues.new.orders } }
     ensures valid { filter (outlives today) queues.new.orders ≡ filter (outlives today) queues.old.orders }
     ensures done { list_all (is_done today key) queues.old.orders ≡ true → list_all (is_done today (key + 1)) queues.new.orders ≡ true }
@@ -79,11 +58,18 @@ fn drop_if_expired<A: Allocator + Copy>(
     let Some(entry) = queues.get(key) else {
         return;
     };
-    let order = entry.order;
-    if order.validity.outlasts(today) {
+    if entry.order.validity.outlasts(today) {
         return;
     }
-    if let Some(key) = names.remove(order.member, order.reference) {
-        queues.take(key);
+    queues.take(key);
+}
+
+/// Whether the order of a key is valid beyond a day.
+fn is_valid_beyond<A: Allocator + Copy>(queues: &OrderQueues<A>, key: usize, today: u32) -> bool
+    ensures { (x : Listed) → Contains queues.now.orders x → x.key ≡ key → result ≡ outlives today x }
+{
+    match queues.get(key) {
+        Some(entry) => entry.order.validity.outlasts(today),
+        None => false,
     }
 }

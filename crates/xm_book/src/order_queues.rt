@@ -1,5 +1,5 @@
 //! The orders of a book in their queues.
-ghost use Rattle.std.specs.Prelude.{ℕ, List, ◌≡◌, ◌+◌, ◌++◌, ◌∷◌, [], ◌<◌, ◌≤◌, ◌^◌, ◌&&◌, Contains, IfOk, IfSome, IsTrue, OnErr, OnOk, Some, filter, length, map, option_copied, sum_by, true};
+ghost use Rattle.std.specs.Prelude.{ℕ, List, ◌≡◌, ◌+◌, ◌++◌, ◌∷◌, [], ◌<◌, ◌≤◌, ◌^◌, ◌&&◌, Contains, IfOk, IfSome, IsSome, IsTrue, OnErr, OnOk, Some, filter, length, map, option_copied, sum_by, true};
 ghost use Rattle.std.specs.List.{list_all, list_any};
 ghost use Rattle.std.specs.Option.{option_map};
 ghost use Rattle.xm_book.specs.Expiry.{is_below};
@@ -79,6 +79,7 @@ impl<A: Allocator + Copy> OrderQueues<A> {
     pub fn get(&self, key: usize) -> Option<&Entry>
         ensures there { (x : Listed) → Contains self.now.orders x → x.key ≡ key → option_copied result ≡ Some (listed_entry x) }
         ensures held { IfSome (option_copied result) (Contains (map listed_entry self.now.orders)) }
+        ensures key { IsSome (option_copied result) → Contains (keys_in self.now.orders) key }
     {
         self.entries.get(key)
     }

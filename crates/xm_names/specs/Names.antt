@@ -1,5 +1,5 @@
 -- The names of members: a member's own references, each with a key.
-use Rattle.std.specs.Prelude.{◌≡◌, ℕ, nat_eq, List, length, Option, Some, None, option_map, slice_get}
+use Rattle.std.specs.Prelude.{◌≡◌, ℕ, Bool, if◌then◌else◌, nat_eq, List, Option, Some, None, slice_get}
 use Rattle.std.specs.Map as map
 
 -- the keys of one member's references, and how many names more there is room for
@@ -19,15 +19,10 @@ abbrev pub room_among : Option NamesOfMember → ℕ
 room_among None = 0
 room_among (Some names) = names.room
 
--- the key of a name of a table, by its position there
-abbrev pub key_in : Option (ℕ × NamesOfMember) → ℕ → Option ℕ
-key_in None index = None
-key_in (Some table) index = option_map (λ (name : ℕ × ℕ). name.1) (slice_get table.1.entries index)
-
--- how many names a table has
-abbrev pub count_in : Option (ℕ × NamesOfMember) → ℕ
-count_in None = 0
-count_in (Some table) = length table.1.entries
+-- a key that passes a test stays, and another goes
+abbrev pub Retains : (ℕ → Bool → Type 0) → Option ℕ → Option ℕ → Type 0
+Retains answers None left = left ≡ None
+Retains answers (Some key) left = (passes : Bool) × answers key passes × (left ≡ (if passes then Some key else None))
 
 -- the names of a member, where it has had any
 abbrev pub names_of : List (ℕ × NamesOfMember) → ℕ → Option NamesOfMember

@@ -1,7 +1,7 @@
 //! The names of one member.
 ghost use Rattle.std.specs.Prelude.{◌≡◌, ℕ, ◌+◌, ◌-◌, ◌<◌, ◌==◌, [], None, Some, IfNone, IfSome, OnErr, OnOk, if◌then◌else◌, length, slice_get};
 ghost use Rattle.std.specs.Option.{option_map};
-ghost use Rattle.xm_names.specs.Names.{key_of};
+ghost use Rattle.xm_names.specs.Names.{Retains, key_of};
 
 use indexmap::IndexMap;
 use std::alloc::{AllocError, Allocator};
@@ -14,18 +14,25 @@ pub struct MemberNames<S: BuildHasher, A: Allocator> {
     keys: IndexMap<u32, usize, S, A>,
     // For so many more names there is room in `keys`.
     room: usize,
+    // No reference in `keys` is higher. So a member whose references rise, as most do, has each new one known as new
+    // without a look at `keys`.
+    highest: u32,
 }
 
 impl<S: BuildHasher, A: Allocator> Model for MemberNames<S, A> {
-    ghost use Rattle.std.specs.Prelude.{◌≤◌};
+    ghost use Rattle.std.specs.Prelude.{◌≡◌, ◌<◌, ◌≤◌, ℕ, None, nat_eq};
     ghost use Rattle.indexmap.specs.IndexMap.{spare};
+    ghost use Rattle.std.specs.Map.{lookup};
     ghost use Rattle.xm_names.specs.Names.{NamesOfMember};
 
     ghost Value = { NamesOfMember };
 
     ghost view = { λ n. record { entries = n.keys.entries; room = n.room } };
 
-    ghost invariant = { λ n. n.room ≤ spare n.keys };
+    ghost invariant = { λ n. record {
+      room : n.room ≤ spare n.keys;
+      highest : (r : ℕ) → n.highest < r → lookup (nat_eq r) n.keys.entries ≡ None;
+    } };
 }
 
 impl<S: BuildHasher, A: Allocator + Copy> MemberNames<S, A> {
@@ -36,6 +43,7 @@ impl<S: BuildHasher, A: Allocator + Copy> MemberNames<S, A> {
         MemberNames {
             keys: IndexMap::with_hasher(alloc, hasher),
             room: 0,
+            highest: 0,
         }
     }
 
@@ -64,24 +72,10 @@ impl<S: BuildHasher, A: Allocator> MemberNames<S, A> {
     pub fn get(&self, reference: u32) -> Option<usize>
         ensures { result ≡ key_of reference self.now }
     {
-        self.keys.get(&reference).copied()
-    }
-
-    /// How many names there are.
-    pub fn len(&self) -> usize
-        ensures { result ≡ length self.now.entries }
-    {
-        self.keys.len()
-    }
-
-    /// The key of the name at a position.
-    pub fn key_at(&self, index: usize) -> Option<usize>
-        ensures { result ≡ option_map (λ (name : ℕ × ℕ). name.1) (slice_get self.now.entries index) }
-    {
-        match self.keys.get_index(index) {
-            Some((_reference, key)) => Some(*key),
-            None => None,
+        if self.highest < reference {
+            return None;
         }
+        self.keys.get(&reference).copied()
     }
 
     /// Gives a reference that has none a key, in reserved room.
@@ -92,6 +86,7 @@ impl<S: BuildHasher, A: Allocator> MemberNames<S, A> {
         ensures room { self.new.room ≡ self.old.room - 1 }
     {
         self.keys.insert(reference, key).unwrap();
+        self.highest = self.highest.max(reference);
         self.room -= 1;
     }
 
@@ -102,6 +97,24 @@ impl<S: BuildHasher, A: Allocator> MemberNames<S, A> {
         ensures room { self.new.room ≡ self.old.room }
     {
         self.keys.swap_remove(&reference)
+    }
+
+    /// Keeps the references whose keys pass a test, in one pass.
+    pub fn retain<F: Fn(usize) -> bool>(&mut self, passes: &F)
+        requires { (key : ℕ) → F.pre passes.now key }
+        ensures keys { (r : ℕ) → Retains (F.post passes.now) (key_of r self.old) (key_of r self.new) }
+        ensures room { self.new.room ≡ self.old.room }
+    {
+        if self.keys.len() == 0 {
+            return;
+        }
+        self.keys.retain(
+            |_reference: &u32, key: &mut usize| -> bool
+                requires { F.pre passes.now key.old }
+                ensures passes { F.post passes.entry.now key.old result }
+                ensures key { key.new ≡ key.old }
+            { passes(*key) },
+        );
     }
 
     /// Takes any one reference out, and answers it with its key.

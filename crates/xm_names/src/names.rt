@@ -1,8 +1,8 @@
 //! The names of all members.
 #![tactic(auto, unfolding(crate::specs::Names::lookup, crate::specs::Names::room))]
 
-ghost use Rattle.std.specs.Prelude.{◌≡◌, ℕ, ◌+◌, ◌-◌, ◌<◌, ◌==◌, ◌&&◌, None, Some, IfNone, IfSome, OnErr, OnOk, if◌then◌else◌, length, slice_get};
-ghost use Rattle.xm_names.specs.Names.{StandsAt, count_in, key_in, lookup, names_of, room};
+ghost use Rattle.std.specs.Prelude.{◌≡◌, ℕ, true, ◌+◌, ◌-◌, ◌<◌, ◌==◌, ◌&&◌, None, Some, IfNone, IfSome, OnErr, OnOk, if◌then◌else◌, slice_get};
+ghost use Rattle.xm_names.specs.Names.{Retains, StandsAt, key_of, lookup, names_of, room};
 
 use crate::member_names::MemberNames;
 use indexmap::IndexMap;
@@ -163,31 +163,25 @@ impl<S: BuildHasher, A: Allocator> Names<S, A> {
         }
     }
 
-    /// How many members have a table.
-    pub fn tables(&self) -> usize
-        ensures { result ≡ length self.now }
+    /// Keeps the names whose keys pass a test, in one pass over all of them. The room stays.
+    pub fn retain<F: Fn(usize) -> bool>(&mut self, passes: &F)
+    where
+        S: Drop,
+        requires { (key : ℕ) → F.pre passes.now key }
+        ensures names { (m r : ℕ) → Retains (F.post passes.now) (lookup self.old m r) (lookup self.new m r) }
+        ensures room { (m : ℕ) → room self.new m ≡ room self.old m }
     {
-        self.members.len()
-    }
-
-    /// How many names the table at a position has.
-    pub fn count_at(&self, place: usize) -> usize
-        ensures { result ≡ count_in (slice_get self.now place) }
-    {
-        match self.members.get_index(place) {
-            Some((_member, names)) => names.len(),
-            None => 0,
-        }
-    }
-
-    /// The key of the name at a position of the table at a position.
-    pub fn key_at(&self, place: usize, index: usize) -> Option<usize>
-        ensures { result ≡ key_in (slice_get self.now place) index }
-    {
-        match self.members.get_index(place) {
-            Some((_member, names)) => names.key_at(index),
-            None => None,
-        }
+        self.members.retain(
+            |_member: &u32, names: &mut MemberNames<S, A>| -> bool
+                requires { (key : ℕ) → F.pre passes.now key }
+                ensures stays { result ≡ true }
+                ensures keys { (r : ℕ) → Retains (F.post passes.entry.now) (key_of r names.old) (key_of r names.new) }
+                ensures room { names.new.room ≡ names.old.room }
+            {
+                names.retain(passes);
+                true
+            },
+        );
     }
 
     /// Takes any one name of this member out, and answers its reference and its key, or `None` where the member has no name.

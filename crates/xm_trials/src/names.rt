@@ -85,6 +85,12 @@ impl<A: Allocator> Beside<A> {
         }
     }
 
+    /// Keeps the names of most keys.
+    fn retain(&mut self) {
+        self.names.retain(&|key: usize| key % 16 != 0);
+        self.list.retain(|named| named.key % 16 != 0);
+    }
+
     fn compare(&self, rt: &impl Abort) {
         for named in self.list.iter() {
             assert_eq!(rt;
@@ -103,7 +109,7 @@ fn names_are_those_of_a_list(rt: HostRuntime) {
         state = state.wrapping_mul(1_664_525).wrapping_add(1_013_904_223);
         let member = (state >> 16) % 3 * 7919;
         let reference = (state >> 20) % 40;
-        match (state >> 26) % 8 {
+        match (state >> 26) % 9 {
             0..=4 => {
                 let named = Named {
                     member,
@@ -114,6 +120,7 @@ fn names_are_those_of_a_list(rt: HostRuntime) {
             }
             5 => beside.remove(&rt, member, reference),
             6 => assert!(rt; beside.reserve(member).is_ok()),
+            7 => beside.retain(),
             _ => {
                 beside.pop(&rt, member);
             }

@@ -1,12 +1,10 @@
 use Rattle.std.proofs.Common.{◌≡◌, true, filter}
 use Rattle.std.specs.List.{list_all}
 use Rattle.xm_book.specs.Expiry.{is_below, is_done, outlives}
-use Rattle.xm_book.specs.Indexed.{IsIndexed}
-use Rattle.xm_book.proofs.expiry.drop_left.Given as goal
+use Rattle.xm_book.proofs.expiry.drop_orders.Given as goal
 
 abbrev pub invariant-loop-key : goal.invariant-loop-key
 invariant-loop-key g l = record {
-  indexed : IsIndexed l.queues l.names;
   rest : l.queues ≡ record l.initial.queues { orders = l.queues.orders };
   valid : filter (outlives l.today) l.queues.orders ≡ filter (outlives l.today) l.initial.queues.orders;
   below : list_all (is_below l.key-end) l.queues.orders ≡ true;

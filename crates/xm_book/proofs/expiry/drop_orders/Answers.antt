@@ -2,19 +2,18 @@ use Rattle.std.proofs.Common.{◌≡◌, ℕ, true, refl, sym, subst, ◌∙◌,
 use Rattle.std.specs.List.{list_all}
 use Rattle.xm_book.specs.Expiry.{is_done}
 use Rattle.xm_book.proofs.Expiring.{all-valid, none-done}
-use Rattle.xm_book.proofs.expiry.drop_left.Goals as goal
+use Rattle.xm_book.proofs.expiry.drop_orders.Goals as goal
 
 pub loop-key-init : goal.loop-key-init
 loop-key-init g c = record {
-  indexed = c.requires;
   rest = refl;
   valid = refl;
   below = c.key_limit-key-end.ensures;
   done = none-done c.args.today c.args.queues.now.orders;
 }
 
-pub returns-clause-left : goal.returns-clause-left
-returns-clause-left g c =
+pub returns : goal.returns
+returns g c =
     let at = c.loop-key in
     let limit = c.key_limit-key-end.result in
     let last : at.key ≡ limit = omega (arith, c.loop-key-test.false, at.auto.key-end) in
