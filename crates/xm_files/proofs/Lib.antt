@@ -1,4 +1,5 @@
 mod Batches
+mod Hinted
 mod Known
 mod NameFacts
 mod Values

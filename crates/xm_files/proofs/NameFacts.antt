@@ -70,17 +70,10 @@ prefix-within : {A : Type 0} (p : A → Bool) (xs : List A) → prefix_len p xs 
 prefix-within p [] = omega arith
 prefix-within p (x ∷ xs) = within-if (p x) (prefix_len p xs) (length xs) (prefix-within p xs)
 
-some-place : (t : Bool) (n i : ℕ) → cond t (Some n) None ≡ Some i → i ≡ n
-some-place true n i h = cc
-some-place false n i h = cc
-
 no-place : (t : Bool) (n m : ℕ) → nat_lt n m ≡ t → n ≤ m → cond t (Some n) None ≡ None → m ≡ n
 no-place true n m e h none = cc
 no-place false n m e h none = grind (arith, nat_tests)
 
--- the place of the first that passes is the place, or the length
-pub position-Some : {A : Type 0} (p : A → Bool) (xs : List A) (i : ℕ) → Some i ≡ position p xs → i ≡ position_or_len p xs
-position-Some p xs i e = some-place (nat_lt (position_or_len p xs) (length xs)) (position_or_len p xs) i (sym e)
-
+-- where none passes, the place is the length
 pub position-None : {A : Type 0} (p : A → Bool) (xs : List A) → None ≡ position p xs → length xs ≡ position_or_len p xs
 position-None p xs e = no-place (nat_lt (position_or_len p xs) (length xs)) (position_or_len p xs) (length xs) refl (prefix-within (λ x. not (p x)) xs) (sym e)

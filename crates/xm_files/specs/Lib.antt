@@ -1,5 +1,6 @@
 pub mod Batches
 pub mod FileFaults
+pub mod Hints
 pub mod Names
 pub mod Orders
 pub mod Plain

@@ -1,7 +1,8 @@
 //! The names of a segment.
-ghost use Rattle.std.specs.Prelude.{◌≡◌, ◌≢◌, ◌<◌, ◌≤◌, [], ◌∷◌, ◌++◌, length, true, false, slice_get, position, option_map, OnOk, OnErr, IfErr, IfSome};
-ghost use Rattle.std.specs.List.{position_or_len};
+ghost use Rattle.std.specs.Prelude.{ℕ, List, ◌≡◌, ◌≢◌, ◌<◌, ◌≤◌, [], ◌∷◌, ◌++◌, length, true, false, slice_get, position, option_map, OnOk, OnErr, IfErr, IfSome, Some};
+ghost use Rattle.std.specs.List.{All, position_or_len};
 ghost use Rattle.std.specs.Str.{bytes_eq};
+ghost use Rattle.xm_files.specs.Hints.{LeadsInto, packed};
 ghost use Rattle.xm_files.specs.Names.{is_among};
 
 use crate::bytes::MAX_BYTES;
@@ -15,21 +16,34 @@ use std::marker::Model;
 const MOST_NAMES: usize = MAX_BYTES;
 
 /// How many places there are for hints.
-const HINTS: usize = 2048;
+const HINTS: usize = 1024;
+
+/// The most bytes of a name that has a hint, which no name of a segment file exceeds.
+const SHORT: usize = 12;
+
+/// The index of the name that has so many bytes and packs to this number.
+#[derive(Clone, Copy)]
+struct Hint {
+    number: u128,
+    length: u32,
+    index: u32,
+}
 
 /// Distinct names in index order, at most `MOST_NAMES`, found by their bytes. A clause sees the list
 /// of their bytes.
 ///
-/// The place of a name among the hints has its index, or that of a later name with this place. So most
-/// names are found by one comparison, and a hint that misleads costs one.
+/// The place of a short name among the hints has its own, or that of a later name with this place. So
+/// most names are found by a look at one hint.
 #[derive(Drop)]
 pub(crate) struct NameList {
     names: IndexSet<String, BuildHasherDefault<FoldHasher>>,
-    hints: [u32; HINTS],
+    hints: [Hint; HINTS],
 }
 
 impl Model for NameList {
     ghost use Rattle.std.specs.Prelude.{◌≡◌, ℕ, ◌≤◌, List, map, length, string_bytes, true};
+    ghost use Rattle.std.specs.List.{All};
+    ghost use Rattle.xm_files.specs.Hints.{LeadsInto};
     ghost use Rattle.xm_files.specs.Segment.{are_distinct};
 
     ghost Value = { List (List ℕ) };
@@ -39,6 +53,7 @@ impl Model for NameList {
     ghost invariant = { λ n. record {
       few : length n.names.keys ≤ 16777216;
       distinct : are_distinct (map string_bytes n.names.keys) ≡ true;
+      hints : All (LeadsInto (map string_bytes n.names.keys)) n.hints;
     } };
 }
 
@@ -49,7 +64,7 @@ impl NameList {
     {
         NameList {
             names: IndexSet::with_hasher(alloc, BuildHasherDefault::new()),
-            hints: [0; HINTS],
+            hints: no_hints(),
         }
     }
 
@@ -75,23 +90,12 @@ impl NameList {
     fn index_of(&self, bytes: &[u8]) -> u32
         ensures { result ≡ position_or_len (bytes_eq bytes.now) self.now }
     {
-        let hint = self.hints[place_of(bytes)];
-        if self.has_name(hint, bytes) {
-            return hint;
+        if let Some(index) = hinted(&self.hints, bytes) {
+            return index;
         }
         match self.position(bytes) {
             Some(index) => index,
             None => self.len(),
-        }
-    }
-
-    /// Whether the name with this index has these bytes.
-    fn has_name(&self, index: u32, bytes: &[u8]) -> bool
-        ensures { result ≡ true → position_or_len (bytes_eq bytes.now) self.now ≡ index }
-    {
-        match self.names.get_index(index as usize) {
-            Some(name) => name.as_bytes() == bytes,
-            None => false,
         }
     }
 
@@ -122,23 +126,74 @@ impl NameList {
         if self.names.len() == MOST_NAMES {
             return Err(FileCause::OutOfMemory);
         }
-        let (place, index) = (place_of(name.as_bytes()), self.len());
+        let (bytes, index) = (name.as_bytes(), self.len());
         let name = String::from_str(alloc, name)?;
         self.names.insert(name)?;
-        self.hints[place] = index;
+        add_hint(&mut self.hints, bytes, index);
         Ok(())
     }
 }
 
-/// The place of a name among the hints.
-fn place_of(name: &[u8]) -> usize
+/// Hints of no name.
+fn no_hints() -> [Hint; HINTS]
+    ensures { All (LeadsInto []) result }
+{
+    let too_long = Hint {
+        number: 0,
+        length: SHORT as u32 + 1,
+        index: 0,
+    };
+    [too_long; HINTS]
+}
+
+/// The index of a name, where its hint is there.
+#[inline(always)]
+fn hinted(hints: &[Hint; HINTS], name: &[u8]) -> Option<u32>
+    ensures { (names : List (List ℕ)) → All (LeadsInto names) hints.now → IfSome result (λ index. slice_get names index ≡ Some name.now) }
+{
+    if name.len() > SHORT {
+        return None;
+    }
+    let number = packed(name);
+    let hint = hints[place_of(number)];
+    if hint.number == number && hint.length as usize == name.len() {
+        Some(hint.index)
+    } else {
+        None
+    }
+}
+
+/// Notes the index of a name that comes last, where it is short.
+fn add_hint(hints: &mut [Hint; HINTS], name: &[u8], index: u32)
+    ensures { (names : List (List ℕ)) → length names ≡ index → All (LeadsInto names) hints.old → All (LeadsInto (names ++ name.now ∷ [])) hints.new }
+{
+    if name.len() <= SHORT {
+        let number = packed(name);
+        hints[place_of(number)] = Hint {
+            number,
+            length: name.len() as u32,
+            index,
+        };
+    }
+}
+
+/// The number that the bytes of a short name write. No other name of as many bytes writes it.
+fn packed(name: &[u8]) -> u128
+    requires { length name.now ≤ SHORT }
+    ensures { result ≡ packed name.now }
+{
+    let mut number = 0u128;
+    for byte in name {
+        number = number * 256 + u128::from(*byte);
+    }
+    number
+}
+
+/// The place among the hints of a name that packs to this number.
+fn place_of(number: u128) -> usize
     ensures { result < HINTS }
 {
-    let mut sum = 0usize;
-    for byte in name {
-        sum = sum.wrapping_mul(31).wrapping_add(usize::from(*byte));
-    }
-    sum % HINTS
+    (number.wrapping_mul(0x9e37_79b9_7f4a_7c15) / (1 << 40) % HINTS as u128) as usize
 }
 
 /// The names of the members and the securities of a segment, in index order. A clause sees the

@@ -1,8 +1,9 @@
-use Rattle.std.proofs.Common.{rules, ◌≡◌, map, false, string_bytes, refl, sym, ap, ◌∙◌}
-use Rattle.std.specs.List.{list_any}
+use Rattle.std.proofs.Common.{rules, ◌≡◌, ℕ, List, [], ◌∷◌, ◌++◌, map, false, string_bytes, refl, sym, subst, ap, ◌∙◌}
+use Rattle.std.specs.List.{All, list_any}
 use Rattle.std.specs.Str.{bytes_eq}
 use Rattle.xm_files.proofs.Distinct.{distinct-push}
 use Rattle.xm_files.proofs.NameFacts.{list_any-map, bytes-insert_key}
+use Rattle.xm_files.specs.Hints.{LeadsInto}
 use Rattle.xm_files.specs.Names.{is_among}
 use Rattle.xm_files.proofs.names.NameList.add.Goals as goal
 
@@ -26,5 +27,7 @@ invariant_of-self-2 c =
     let fresh : is_among c.args.name.now old ≡ false = list_any-map (bytes_eq c.args.name.now) string_bytes c.self.inside.names.keys ∙ none in
     record {
       few = search rules;
+      hints = rw (ap (map string_bytes) c.in_ok-insert.ensures.keys ∙ bytes-insert_key c.self.inside.names.keys c.in_ok-name.name c.args.name.now c.in_ok-name.ensures.ok none)
+          (subst (λ (bytes : List ℕ). All (LeadsInto (old ++ bytes ∷ [])) c.add_hint.new.hints) c.as_bytes-bytes.ensures.value (c.add_hint.ensures old (search rules) c.self.invariant.hints));
       distinct = rw (ap (map string_bytes) c.in_ok-insert.ensures.keys ∙ bytes-insert_key c.self.inside.names.keys c.in_ok-name.name c.args.name.now c.in_ok-name.ensures.ok none) (distinct-push old c.args.name.now c.self.invariant.distinct fresh);
     }
