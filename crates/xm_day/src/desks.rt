@@ -147,6 +147,7 @@ fn take_rows<A: Allocator + Copy>(
 
 /// Takes a row, and counts it in a report. One of an unknown security is refused. `OutOfMemory`
 /// comes only where nothing else refuses it.
+#[inline(always)]
 fn take_row<A: Allocator + Copy>(
     desks: &mut [Desk<A>],
     row: &Row,
