@@ -24,7 +24,7 @@ use xm_ticks::Price;
 /// reserved and the number of adds so far.
 pub struct Book<A: Allocator + Copy> {
     queues: OrderQueues<A>,
-    names: Names<Seed, A>,
+    names: Names<A>,
 }
 
 // In a function of its own, so that whoever drops a book proves one call.

@@ -9,13 +9,13 @@ ghost use Rattle.xm_names.specs.Names.{lookup, room};
 
 use crate::order_queues::OrderQueues;
 use std::alloc::Allocator;
-use xm_names::{Names, Seed};
+use xm_names::Names;
 
 /// Takes out the orders that aren't valid beyond a day, with their names. The names go member by member, as they lie
 /// together, and then the orders by their keys: by its name, each order would be looked up in another member's table.
 pub fn drop_expired<A: Allocator + Copy>(
     queues: &mut OrderQueues<A>,
-    names: &mut Names<Seed, A>,
+    names: &mut Names<A>,
     today: u32,
 )
     requires { IsIndexed queues.old names.old }
@@ -27,7 +27,7 @@ pub fn drop_expired<A: Allocator + Copy>(
 }
 
 /// Keeps the names of the orders that are valid beyond a day.
-fn drop_names<A: Allocator + Copy>(queues: &OrderQueues<A>, names: &mut Names<Seed, A>, today: u32)
+fn drop_names<A: Allocator + Copy>(queues: &OrderQueues<A>, names: &mut Names<A>, today: u32)
     requires { IsIndexed queues.now names.old }
     ensures names { (m r : ℕ) → lookup names.new m r ≡ key_of m r (filter (outlives today) queues.now.orders) }
     ensures room { (m : ℕ) → room names.new m ≡ room names.old m }

@@ -1,3 +1,7 @@
+mod Buckets
 mod Entries
+mod Joined
+mod Placed
 mod Retained
+mod Splitting
 mod Tables

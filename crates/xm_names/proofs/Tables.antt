@@ -49,6 +49,9 @@ module _ {S : Type 0} (m : IndexMap ℕ NamesOfMember S) (member i : ℕ) (s : S
   pub table-is : (x : NamesOfMember) → Some x ≡ slice_get (values_of m.entries) i → x ≡ s.table
   table-is x e = some_is x s.table (e ∙ value_at m.entries i member s.table s.at)
 
+  pub table-at : (k : ℕ) (x : NamesOfMember) → slice_get m.entries i ≡ Some (k, x) → x ≡ s.table
+  table-at k x e = ap (λ (y : ℕ × NamesOfMember). y.1) (some_is (k, x) (member, s.table) (sym e ∙ s.at))
+
   pub unchanged : (x' : NamesOfMember) → x' ≡ s.table → set_value_at m.entries i x' ≡ m.entries
   unchanged x' e = ap (set_value_at m.entries i) e ∙ set_same m.entries i member s.table s.at
 

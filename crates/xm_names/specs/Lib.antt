@@ -1,1 +1,3 @@
+pub mod Buckets
 pub mod Names
+pub mod Tables

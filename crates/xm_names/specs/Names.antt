@@ -1,15 +1,22 @@
 -- The names of members: a member's own references, each with a key.
 use Rattle.std.specs.Prelude.{◌≡◌, ℕ, Bool, if◌then◌else◌, nat_eq, List, Option, Some, None, slice_get}
 use Rattle.std.specs.Map as map
+use Rattle.xm_names.specs.Tables.{TableView, table_key}
 
--- the keys of one member's references, and how many names more there is room for
+-- the keys of one member's references, in a table and, of those that found no place there, in a list, and how many names
+-- more there is room for
 pub record NamesOfMember : Type 0 where
-  pub entries : List (ℕ × ℕ)
+  pub table : TableView
+  pub rest : List (ℕ × ℕ)
   pub room : ℕ
+
+abbrev pub first_of : Option ℕ → Option ℕ → Option ℕ
+first_of None other = other
+first_of (Some key) other = Some key
 
 -- the key of a reference
 abbrev pub key_of : ℕ → NamesOfMember → Option ℕ
-key_of reference names = map.lookup (nat_eq reference) names.entries
+key_of reference names = first_of (table_key names.table reference) (map.lookup (nat_eq reference) names.rest)
 
 abbrev pub key_among : ℕ → Option NamesOfMember → Option ℕ
 key_among reference None = None

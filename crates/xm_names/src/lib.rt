@@ -1,9 +1,12 @@
 //! The key of each member and reference, with room that is reserved by member.
 #![tactic(auto)]
 
+mod bucket;
 mod member_names;
 mod names;
 mod seed;
+mod slot;
+mod table;
 
 pub use crate::names::Names;
 pub use crate::seed::{Seed, SeededHasher};

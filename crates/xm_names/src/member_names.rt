@@ -1,47 +1,54 @@
 //! The names of one member.
-ghost use Rattle.std.specs.Prelude.{◌≡◌, ℕ, ◌+◌, ◌-◌, ◌<◌, ◌==◌, [], None, Some, IfNone, IfSome, OnErr, OnOk, if◌then◌else◌, length, slice_get};
-ghost use Rattle.std.specs.Option.{option_map};
+ghost use Rattle.std.specs.Prelude.{◌≡◌, ℕ, ◌+◌, ◌-◌, ◌<◌, ◌==◌, None, Some, IfNone, IfSome, OnErr, OnOk, if◌then◌else◌, nat_eq};
 ghost use Rattle.xm_names.specs.Names.{Retains, key_of};
+ghost use Rattle.std.specs.Map as map;
 
+use crate::seed::Seed;
+use crate::table::NameTable;
 use indexmap::IndexMap;
 use std::alloc::{AllocError, Allocator};
-use std::hash::BuildHasher;
 use std::marker::Model;
 
 /// The key of each reference of one member, and room for more of them.
 #[derive(Drop)]
-pub struct MemberNames<S: BuildHasher, A: Allocator> {
-    keys: IndexMap<u32, usize, S, A>,
-    // For so many more names there is room in `keys`.
+pub struct MemberNames<A: Allocator> {
+    table: NameTable<A>,
+    // The names that found no place in the table.
+    rest: IndexMap<u32, usize, Seed, A>,
+    // For so many more names there is room in `rest`.
     room: usize,
-    // No reference in `keys` is higher. So a member whose references rise, as most do, has each new one known as new
-    // without a look at `keys`.
+    // No reference is higher. So a member whose references rise, as most do, has each new one known as new without a look
+    // at the others.
     highest: u32,
 }
 
-impl<S: BuildHasher, A: Allocator> Model for MemberNames<S, A> {
-    ghost use Rattle.std.specs.Prelude.{◌≡◌, ◌<◌, ◌≤◌, ℕ, None, nat_eq};
+impl<A: Allocator> Model for MemberNames<A> {
+    ghost use Rattle.std.specs.Prelude.{◌≡◌, ◌<◌, ◌≤◌, ℕ, None, IsSome, nat_eq};
     ghost use Rattle.indexmap.specs.IndexMap.{spare};
     ghost use Rattle.std.specs.Map.{lookup};
-    ghost use Rattle.xm_names.specs.Names.{NamesOfMember};
+    ghost use Rattle.xm_names.specs.Names.{NamesOfMember, key_of};
+    ghost use Rattle.xm_names.specs.Tables.{table_key};
 
     ghost Value = { NamesOfMember };
 
-    ghost view = { λ n. record { entries = n.keys.entries; room = n.room } };
+    ghost view = { λ n. record { table = n.table; rest = n.rest.entries; room = n.room } };
 
     ghost invariant = { λ n. record {
-      room : n.room ≤ spare n.keys;
-      highest : (r : ℕ) → n.highest < r → lookup (nat_eq r) n.keys.entries ≡ None;
+      room : n.room ≤ spare n.rest;
+      apart : (r : ℕ) → IsSome (table_key n.table r) → lookup (nat_eq r) n.rest.entries ≡ None;
+      highest : (r : ℕ) → n.highest < r → key_of r (record { table = n.table; rest = n.rest.entries; room = n.room }) ≡ None;
     } };
 }
 
-impl<S: BuildHasher, A: Allocator + Copy> MemberNames<S, A> {
+impl<A: Allocator + Copy> MemberNames<A> {
     /// No name and no room, which takes no memory.
-    pub fn new(alloc: A, hasher: S) -> MemberNames<S, A>
-        ensures { result ≡ record { entries = []; room = 0 } }
+    pub fn new(alloc: A, seed: Seed) -> MemberNames<A>
+        ensures keys { (r : ℕ) → key_of r result ≡ None }
+        ensures room { result.room ≡ 0 }
     {
         MemberNames {
-            keys: IndexMap::with_hasher(alloc, hasher),
+            table: NameTable::new(alloc, seed),
+            rest: IndexMap::with_hasher(alloc, seed),
             room: 0,
             highest: 0,
         }
@@ -49,17 +56,19 @@ impl<S: BuildHasher, A: Allocator + Copy> MemberNames<S, A> {
 
     /// Makes room for one name more.
     pub fn reserve(&mut self) -> Result<(), AllocError>
-        ensures ok { OnOk result (self.new ≡ record self.old { room = self.old.room + 1 }) }
+        ensures keys { (r : ℕ) → key_of r self.new ≡ key_of r self.old }
+        ensures room { OnOk result (self.new.room ≡ self.old.room + 1) }
         ensures err { OnErr result (self.new ≡ self.old) }
     {
         let room = self.room.checked_add(1).ok_or(AllocError)?;
-        self.keys.reserve(room)?;
+        self.rest.reserve(room)?;
+        self.table.fit(self.rest.len())?;
         self.room = room;
         Ok(())
     }
 }
 
-impl<S: BuildHasher, A: Allocator> MemberNames<S, A> {
+impl<A: Allocator> MemberNames<A> {
     /// Gives up the room for one name.
     pub fn release(&mut self)
         requires { 0 < self.old.room }
@@ -75,7 +84,21 @@ impl<S: BuildHasher, A: Allocator> MemberNames<S, A> {
         if self.highest < reference {
             return None;
         }
-        self.keys.get(&reference).copied()
+        match self.table.get(reference) {
+            Some(key) => Some(key),
+            None => self.get_rest(reference),
+        }
+    }
+
+    /// The key of a reference that found no place in the table.
+    #[inline(always)]
+    fn get_rest(&self, reference: u32) -> Option<usize>
+        ensures { result ≡ map.lookup (nat_eq reference) self.now.rest }
+    {
+        if self.rest.len() == 0 {
+            return None;
+        }
+        self.rest.get(&reference).copied()
     }
 
     /// Gives a reference that has none a key, in reserved room.
@@ -85,7 +108,9 @@ impl<S: BuildHasher, A: Allocator> MemberNames<S, A> {
         ensures keys { (r : ℕ) → key_of r self.new ≡ (if r == reference then Some key else key_of r self.old) }
         ensures room { self.new.room ≡ self.old.room - 1 }
     {
-        self.keys.insert(reference, key).unwrap();
+        if !self.table.put(reference, key) {
+            self.rest.insert(reference, key).unwrap();
+        }
         self.highest = self.highest.max(reference);
         self.room -= 1;
     }
@@ -96,7 +121,15 @@ impl<S: BuildHasher, A: Allocator> MemberNames<S, A> {
         ensures keys { (r : ℕ) → key_of r self.new ≡ (if r == reference then None else key_of r self.old) }
         ensures room { self.new.room ≡ self.old.room }
     {
-        self.keys.swap_remove(&reference)
+        match self.table.take(reference) {
+            Some(key) => Some(key),
+            None => {
+                if self.rest.len() == 0 {
+                    return None;
+                }
+                self.rest.swap_remove(&reference)
+            }
+        }
     }
 
     /// Keeps the references whose keys pass a test, in one pass.
@@ -105,10 +138,11 @@ impl<S: BuildHasher, A: Allocator> MemberNames<S, A> {
         ensures keys { (r : ℕ) → Retains (F.post passes.now) (key_of r self.old) (key_of r self.new) }
         ensures room { self.new.room ≡ self.old.room }
     {
-        if self.keys.len() == 0 {
+        self.table.retain(passes);
+        if self.rest.len() == 0 {
             return;
         }
-        self.keys.retain(
+        self.rest.retain(
             |_reference: &u32, key: &mut usize| -> bool
                 requires { F.pre passes.now key.old }
                 ensures passes { F.post passes.entry.now key.old result }
@@ -125,6 +159,9 @@ impl<S: BuildHasher, A: Allocator> MemberNames<S, A> {
         ensures keys { IfSome result (λ name. (r : ℕ) → key_of r self.new ≡ (if r == name.0 then None else key_of r self.old)) }
         ensures room { self.new.room ≡ self.old.room }
     {
-        self.keys.pop()
+        match self.table.pop() {
+            Some(name) => Some(name),
+            None => self.rest.pop(),
+        }
     }
 }

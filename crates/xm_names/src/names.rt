@@ -5,9 +5,9 @@ ghost use Rattle.std.specs.Prelude.{◌≡◌, ℕ, true, ◌+◌, ◌-◌, ◌<
 ghost use Rattle.xm_names.specs.Names.{Retains, StandsAt, key_of, lookup, names_of, room};
 
 use crate::member_names::MemberNames;
+use crate::seed::Seed;
 use indexmap::IndexMap;
 use std::alloc::{AllocError, Allocator};
-use std::hash::BuildHasher;
 use std::marker::Model;
 
 /// The members below this one are found without a hash. They are as many as a market has.
@@ -16,14 +16,14 @@ const PLACED: usize = 1024;
 /// The key of each member and reference, found by both, and by member alone. The order in which a member's names come out
 /// is open. Each member that has had a name keeps its table.
 #[derive(Drop)]
-pub struct Names<S: BuildHasher, A: Allocator> {
-    members: IndexMap<u32, MemberNames<S, A>, S, A>,
+pub struct Names<A: Allocator> {
+    members: IndexMap<u32, MemberNames<A>, Seed, A>,
     // For each member below `PLACED`, where its table was put among `members`. A member that stands there isn't looked for
     // by its hash.
     places: Vec<usize, A>,
 }
 
-impl<S: BuildHasher, A: Allocator> Model for Names<S, A> {
+impl<A: Allocator> Model for Names<A> {
     ghost use Rattle.std.specs.Prelude.{ℕ, List};
     ghost use Rattle.xm_names.specs.Names.{NamesOfMember};
 
@@ -32,14 +32,14 @@ impl<S: BuildHasher, A: Allocator> Model for Names<S, A> {
     ghost view = { λ n. n.members.entries };
 }
 
-impl<S: BuildHasher + Copy, A: Allocator + Copy> Names<S, A> {
+impl<A: Allocator + Copy> Names<A> {
     /// No name and no room, which takes no memory.
-    pub fn new(alloc: A, hasher: S) -> Names<S, A>
+    pub fn new(alloc: A, seed: Seed) -> Names<A>
         ensures names { (m r : ℕ) → lookup result m r ≡ None }
         ensures room { (m : ℕ) → room result m ≡ 0 }
     {
         Names {
-            members: IndexMap::with_hasher(alloc, hasher),
+            members: IndexMap::with_hasher(alloc, seed),
             places: Vec::new(alloc),
         }
     }
@@ -73,7 +73,7 @@ impl<S: BuildHasher + Copy, A: Allocator + Copy> Names<S, A> {
     }
 }
 
-impl<S: BuildHasher, A: Allocator> Names<S, A> {
+impl<A: Allocator> Names<A> {
     /// Makes room for the places.
     fn reserve_places(&mut self) -> Result<(), AllocError>
         ensures { self.new ≡ self.old }
@@ -165,14 +165,12 @@ impl<S: BuildHasher, A: Allocator> Names<S, A> {
 
     /// Keeps the names whose keys pass a test, in one pass over all of them. The room stays.
     pub fn retain<F: Fn(usize) -> bool>(&mut self, passes: &F)
-    where
-        S: Drop,
         requires { (key : ℕ) → F.pre passes.now key }
         ensures names { (m r : ℕ) → Retains (F.post passes.now) (lookup self.old m r) (lookup self.new m r) }
         ensures room { (m : ℕ) → room self.new m ≡ room self.old m }
     {
         self.members.retain(
-            |_member: &u32, names: &mut MemberNames<S, A>| -> bool
+            |_member: &u32, names: &mut MemberNames<A>| -> bool
                 requires { (key : ℕ) → F.pre passes.now key }
                 ensures stays { result ≡ true }
                 ensures keys { (r : ℕ) → Retains (F.post passes.entry.now) (key_of r names.old) (key_of r names.new) }

@@ -1,6 +1,7 @@
 //! The seed of a hash table.
-ghost use Rattle.std.specs.Prelude.{◌+◌, ◌*◌, ◌/◌, ◌%◌, ◌^◌};
+ghost use Rattle.std.specs.Prelude.{◌≡◌, ◌+◌, ◌*◌, ◌/◌, ◌%◌, ◌^◌};
 ghost use Rattle.std.specs.List.{fold};
+ghost use Rattle.xm_names.specs.Tables.{hash};
 
 use std::hash::{BuildHasher, Hasher};
 use std::random::RandomSource;
@@ -33,6 +34,17 @@ impl Seed {
             factor: u64::from_le_bytes(factor),
             summand: u64::from_le_bytes(summand),
         }
+    }
+}
+
+impl Seed {
+    /// The hash of a number: the upper half of its product with one random number and its sum with another.
+    #[inline(always)]
+    pub(crate) fn hash(&self, number: u32) -> u64
+        ensures { result ≡ hash self.now number }
+    {
+        let product = u64::from(number).wrapping_mul(self.factor);
+        product.wrapping_add(self.summand) >> 32
     }
 }
 

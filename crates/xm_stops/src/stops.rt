@@ -21,7 +21,7 @@ use xm_ticks::Price;
 /// The held stops of one security. A clause sees them in order of entry, with the stop for which there is room.
 pub struct Stops<A: Allocator + Copy> {
     queues: StopQueues<A>,
-    names: Names<Seed, A>,
+    names: Names<A>,
 }
 
 // In a function of its own, so that whoever drops stops proves one call.

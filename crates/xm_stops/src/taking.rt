@@ -15,7 +15,7 @@ ghost use Rattle.xm_stops.specs.declared.taking.Reason.TheVariants.{Expired, Rea
 use crate::entry_queue::EntryQueue;
 use crate::stop_queues::StopQueues;
 use std::alloc::Allocator;
-use xm_names::{Names, Seed};
+use xm_names::Names;
 use xm_ticks::Price;
 
 /// Why stops leave.
@@ -30,7 +30,7 @@ pub enum Reason {
 /// Takes the stops out that leave for a reason, with their names, and puts them behind the pending ones in order of entry.
 pub fn take_leaving<A: Allocator + Copy>(
     queues: &mut StopQueues<A>,
-    names: &mut Names<Seed, A>,
+    names: &mut Names<A>,
     reason: Reason,
     pending: &mut EntryQueue<A>,
 )
@@ -50,7 +50,7 @@ pub fn take_leaving<A: Allocator + Copy>(
 /// Takes the stops out that leave for a reason, with their names, in some order.
 fn drain<A: Allocator + Copy>(
     queues: &mut StopQueues<A>,
-    names: &mut Names<Seed, A>,
+    names: &mut Names<A>,
     reason: Reason,
     pending: &mut EntryQueue<A>,
 )
@@ -69,7 +69,7 @@ fn drain<A: Allocator + Copy>(
 /// Takes the stops out that the last price has reached, trigger by trigger.
 fn drain_reached<A: Allocator + Copy>(
     queues: &mut StopQueues<A>,
-    names: &mut Names<Seed, A>,
+    names: &mut Names<A>,
     last: Price,
     pending: &mut EntryQueue<A>,
 )
@@ -87,7 +87,7 @@ fn drain_reached<A: Allocator + Copy>(
 /// Takes the stops out that aren't valid beyond a day, in one pass over the keys.
 fn drain_expired<A: Allocator + Copy>(
     queues: &mut StopQueues<A>,
-    names: &mut Names<Seed, A>,
+    names: &mut Names<A>,
     today: u32,
     pending: &mut EntryQueue<A>,
 )
@@ -119,7 +119,7 @@ fn has_expired<A: Allocator + Copy>(queues: &StopQueues<A>, key: usize, today: u
 #[inline(always)]
 fn take_at<A: Allocator + Copy>(
     queues: &mut StopQueues<A>,
-    names: &mut Names<Seed, A>,
+    names: &mut Names<A>,
     key: usize,
     pending: &mut EntryQueue<A>,
 )

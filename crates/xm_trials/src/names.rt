@@ -1,8 +1,7 @@
 //! Names by member and reference, beside a plain list.
 use std::alloc::{AllocError, Allocator, Global};
-use std::hash::{BuildHasherDefault, FoldHasher};
 use std::process::Abort;
-use xm_names::Names;
+use xm_names::{Names, Seed};
 use xm_refusing::Refusing;
 
 /// A name with its key.
@@ -16,14 +15,14 @@ struct Named {
 /// Names, and the list of those that are in them.
 #[derive(Drop)]
 struct Beside<A: Allocator> {
-    names: Names<BuildHasherDefault<FoldHasher>, A>,
+    names: Names<A>,
     list: Vec<Named>,
 }
 
 impl<A: Allocator + Copy> Beside<A> {
     fn new(alloc: A, plain: Global) -> Beside<A> {
         Beside {
-            names: Names::new(alloc, BuildHasherDefault::new()),
+            names: Names::new(alloc, Seed::fixed()),
             list: Vec::new(plain),
         }
     }

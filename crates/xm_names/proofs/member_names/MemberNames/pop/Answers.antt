@@ -1,11 +1,15 @@
-use Rattle.std.proofs.Common.{◌≡◌, None, IfSome, nat_eq}
+use Rattle.std.proofs.Common.{◌≡◌, ℕ, None, Some, Option, IfSome, nat_eq, ap, ◌∙◌}
 use Rattle.std.specs.Map.{lookup}
+use Rattle.xm_names.specs.Names.{first_of, key_of}
 use Rattle.xm_names.proofs.Entries.{popped_key, some_gives}
 use Rattle.xm_names.proofs.member_names.MemberNames.pop.Goals as goal
 
-pub returns-clause-key : goal.returns-clause-key
-returns-clause-key g c =
-    let absent : IfSome c.pop.result (λ name. lookup (nat_eq name.0) c.pop.new.self.entries ≡ None) =
-    some_gives c.pop.result _ _ (λ name updates. updates.1) c.pop.ensures.updates in
+pub returns-in-None-clause-key : goal.returns-in-None-clause-key
+returns-in-None-clause-key g c =
+    let n = c.self.inside in
+    let absent : IfSome c.pop-in-None.result (λ name. lookup (nat_eq name.0) c.pop-in-None.new.self.entries ≡ None) =
+    some_gives c.pop-in-None.result _ _ (λ name updates. updates.1) c.pop-in-None.ensures.updates in
     rw (← c.self.view_is)
-    (popped_key c.self.inside.keys.entries c.pop.new.self.entries c.pop.result c.pop.ensures.entries absent)
+    (some_gives c.pop-in-None.result _ (λ name. key_of name.0 (record { table = n.table; rest = n.rest.entries; room = n.room }) ≡ Some name.1)
+    (λ name key. ap (λ (o : Option ℕ). first_of o (lookup (nat_eq name.0) n.rest.entries)) (c.in-None.ensures.none name.0) ∙ key)
+    (popped_key n.rest.entries c.pop-in-None.new.self.entries c.pop-in-None.result c.pop-in-None.ensures.entries absent))

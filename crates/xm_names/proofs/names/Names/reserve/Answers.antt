@@ -1,6 +1,6 @@
 use Rattle.std.proofs.Common.{rules, ◌+◌, ap, ◌∙◌}
 use Rattle.xm_names.specs.Names.{NamesOfMember, StandsAt, key_of}
-use Rattle.xm_names.proofs.Entries.{either, error_gives, ok_gives}
+use Rattle.xm_names.proofs.Entries.{error_gives, ok_gives}
 use Rattle.xm_names.proofs.Tables.{lookup-same, room-with, table-is, unchanged}
 use Rattle.xm_names.proofs.names.Names.reserve.Goals as goal
 
@@ -10,8 +10,7 @@ returns-in-Some-clause-names g c =
     let stands : StandsAt m.entries c.args.member c.in-Some.place = rw c.self.view_is c.in-Some.ensures.some in
     let table = table-is m c.args.member c.in-Some.place stands c.unwrap.result.now (search rules) in
     rw (← c.self.view_is)
-    (lookup-same m c.args.member c.in-Some.place stands c.get_index_mut.ensures.unique c.reserve.new.self
-    (λ r. either c.reserve.result (λ more. ap (key_of r) (more ∙ (λ i. record (table i) { room = c.unwrap.result.now.room + 1 }))) (λ same. ap (key_of r) (same ∙ table)) c.reserve.ensures.ok c.reserve.ensures.err))
+    (lookup-same m c.args.member c.in-Some.place stands c.get_index_mut.ensures.unique c.reserve.new.self (λ r. c.reserve.ensures.keys r ∙ ap (key_of r) table))
 
 pub returns-in-Some-clause-room : goal.returns-in-Some-clause-room
 returns-in-Some-clause-room g c =
@@ -21,7 +20,7 @@ returns-in-Some-clause-room g c =
     rw (← c.self.view_is)
     (ok_gives c.reserve.result
     (λ more. room-with m c.args.member c.in-Some.place stands c.get_index_mut.ensures.unique c.reserve.new.self (λ n. n + 1)
-    (ap (λ (x : NamesOfMember). x.room) more ∙ ap (λ (x : NamesOfMember). x.room + 1) table)) c.reserve.ensures.ok)
+    (more ∙ ap (λ (x : NamesOfMember). x.room + 1) table)) c.reserve.ensures.room)
 
 pub returns-in-Some-clause-err : goal.returns-in-Some-clause-err
 returns-in-Some-clause-err g c =

@@ -1,0 +1,42 @@
+-- The names of a bucket.
+use Rattle.std.specs.Prelude.{◌≡◌, ℕ, Bool, true, false, ◌==◌, ◌&&◌, not, List, [], ◌∷◌, find, Option, None}
+use Rattle.std.specs.Option.{option_map}
+use Rattle.xm_names.specs.declared.slot.Slot.{Slot}
+use Rattle.xm_names.specs.declared.slot.TheConstants.{VACANT}
+
+-- the slot has no name
+abbrev pub is_vacant : Slot → Bool
+is_vacant s = s.key == VACANT
+
+-- the slot has a name
+abbrev pub is_named : Slot → Bool
+is_named s = not (is_vacant s)
+
+-- the slot has the name of this reference
+abbrev pub has : ℕ → Slot → Bool
+has r s = (s.reference == r) && is_named s
+
+-- the key that slots give a reference
+abbrev pub key_in : ℕ → List Slot → Option ℕ
+key_in r slots = option_map (λ (s : Slot). s.key) (find (has r) slots)
+
+-- no two slots have the name of one reference
+abbrev pub AreApart : List Slot → Type 0
+AreApart [] = Unit {0}
+AreApart (s ∷ ss) = ((r : ℕ) → has r s ≡ true → find (has r) ss ≡ None) × AreApart ss
+
+-- what a slot becomes: the same, or one without a name
+abbrev pub IsLeft : Bool → Slot → Slot → Type 0
+IsLeft true s t = t ≡ s
+IsLeft false s t = is_vacant t ≡ true
+
+-- a slot stays where a test passes, and has no name where its own fails
+pub record LeavesSlot (answers : Slot → Bool → Type 0) (s t : Slot) : Type 0 where
+  pub stays : Bool
+  pub answered : is_vacant s ≡ false → answers s stays
+  pub left : IsLeft stays s t
+
+-- each slot of a list
+abbrev pub Leaves : (Slot → Bool → Type 0) → List Slot → List Slot → Type 0
+Leaves answers [] left = left ≡ []
+Leaves answers (s ∷ ss) left = (t : Slot) × (ts : List Slot) × (left ≡ t ∷ ts) × LeavesSlot answers s t × Leaves answers ss ts

@@ -1,0 +1,52 @@
+//! One slot of a bucket.
+ghost use Rattle.std.specs.Prelude.{◌≡◌, true};
+ghost use Rattle.xm_names.specs.Buckets.{LeavesSlot, has, is_vacant};
+
+/// The key of no name.
+pub const VACANT: u32 = u32::MAX;
+
+/// A reference and its key, or no name, in eight bytes: `VACANT` is the key of none.
+#[derive(Clone, Copy)]
+pub struct Slot {
+    pub reference: u32,
+    pub key: u32,
+}
+
+impl Slot {
+    /// A slot without a name.
+    pub fn vacant() -> Slot
+        ensures { is_vacant result ≡ true }
+    {
+        Slot {
+            reference: 0,
+            key: VACANT,
+        }
+    }
+
+    /// Whether the slot has no name.
+    pub fn is_vacant(&self) -> bool
+        ensures { result ≡ is_vacant self.now }
+    {
+        self.key == VACANT
+    }
+
+    /// Whether the slot has the name of this reference.
+    pub fn has(&self, reference: u32) -> bool
+        ensures { result ≡ has reference self.now }
+    {
+        self.reference == reference && !self.is_vacant()
+    }
+
+    /// The slot, which loses its name where that fails a test.
+    #[inline(always)]
+    pub fn retained<F: Fn(Slot) -> bool>(self, passes: &F) -> Slot
+        requires { F.pre passes.now self }
+        ensures { LeavesSlot (F.post passes.now) self result }
+    {
+        if self.is_vacant() || passes(self) {
+            self
+        } else {
+            Slot::vacant()
+        }
+    }
+}
