@@ -1,5 +1,5 @@
 -- The names of members: a member's own references, each with a key.
-use Rattle.std.specs.Prelude.{◌≡◌, ℕ, Bool, if◌then◌else◌, nat_eq, List, Option, Some, None, slice_get}
+use Rattle.std.specs.Prelude.{◌≡◌, ℕ, Bool, false, if◌then◌else◌, nat_eq, nat_lt, List, Option, Some, None, slice_get}
 use Rattle.std.specs.Map as map
 use Rattle.xm_names.specs.Tables.{TableView, table_key}
 
@@ -48,3 +48,11 @@ lookup names member reference = key_among reference (names_of names member)
 -- how many names of this member more there is room for
 unfoldable pub room : List (ℕ × NamesOfMember) → ℕ → ℕ
 room names member = room_among (names_of names member)
+
+abbrev pub exceeds : ℕ → Option ℕ → Bool
+exceeds reference None = false
+exceeds reference (Some noted) = nat_lt noted reference
+
+-- a reference is above the highest one that is noted of a member
+abbrev pub is_above : List ℕ → ℕ → ℕ → Bool
+is_above highest member reference = exceeds reference (slice_get highest member)

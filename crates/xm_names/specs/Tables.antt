@@ -1,12 +1,16 @@
 -- The table of a member's names, by buckets.
-use Rattle.std.specs.Prelude.{◌≡◌, ℕ, ◌+◌, ◌*◌, ◌%◌, ◌/◌, ◌^◌, ◌<◌, ◌≤◌, List, Option, Some, None, IsSome, slice_get}
+use Rattle.std.specs.Prelude.{◌≡◌, ℕ, ◌+◌, ◌*◌, ◌%◌, ◌/◌, ◌^◌, ◌<◌, ◌≤◌, List, Option, Some, None, IsSome, bit_xor, slice_get}
 use Rattle.xm_names.specs.Buckets.{key_in}
 use Rattle.xm_names.specs.declared.seed.Seed.{Seed}
 use Rattle.xm_names.specs.declared.slot.Slot.{Slot}
 
--- the hash of a number of four bytes
+-- a number's product with one random number and its sum with another, in 64 bits
+abbrev pub sum_of : Seed → ℕ → ℕ
+sum_of seed number = (number * seed.factor % 2 ^ 64 + seed.summand) % 2 ^ 64
+
+-- the hash of a number: the upper half of the product of that sum, its halves joined by bits, with the first number
 abbrev pub hash : Seed → ℕ → ℕ
-hash seed number = (number * seed.factor % 2 ^ 64 + seed.summand) % 2 ^ 64 / 2 ^ 32
+hash seed number = bit_xor (sum_of seed number) (sum_of seed number / 2 ^ 32) * seed.factor % 2 ^ 64 / 2 ^ 32
 
 -- buckets, with what says in which of them a reference is at home
 pub record TableView : Type 0 where

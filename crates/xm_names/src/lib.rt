@@ -3,6 +3,7 @@
 
 mod bucket;
 mod member_names;
+mod members;
 mod names;
 mod seed;
 mod slot;

@@ -13,13 +13,12 @@ use std::marker::Model;
 #[derive(Drop)]
 pub struct MemberNames<A: Allocator> {
     table: NameTable<A>,
+    // So many names may come.
+    room: usize,
+    // For so many names `rest` is known to have room, all of them without a place in the table.
+    ready: usize,
     // The names that found no place in the table.
     rest: IndexMap<u32, usize, Seed, A>,
-    // For so many more names there is room in `rest`.
-    room: usize,
-    // No reference is higher. So a member whose references rise, as most do, has each new one known as new without a look
-    // at the others.
-    highest: u32,
 }
 
 impl<A: Allocator> Model for MemberNames<A> {
@@ -34,9 +33,9 @@ impl<A: Allocator> Model for MemberNames<A> {
     ghost view = { λ n. record { table = n.table; rest = n.rest.entries; room = n.room } };
 
     ghost invariant = { λ n. record {
-      room : n.room ≤ spare n.rest;
+      room : n.room ≤ n.ready;
+      ready : n.ready ≤ spare n.rest;
       apart : (r : ℕ) → IsSome (table_key n.table r) → lookup (nat_eq r) n.rest.entries ≡ None;
-      highest : (r : ℕ) → n.highest < r → key_of r (record { table = n.table; rest = n.rest.entries; room = n.room }) ≡ None;
     } };
 }
 
@@ -48,9 +47,9 @@ impl<A: Allocator + Copy> MemberNames<A> {
     {
         MemberNames {
             table: NameTable::new(alloc, seed),
-            rest: IndexMap::with_hasher(alloc, seed),
             room: 0,
-            highest: 0,
+            ready: 0,
+            rest: IndexMap::with_hasher(alloc, seed),
         }
     }
 
@@ -60,10 +59,25 @@ impl<A: Allocator + Copy> MemberNames<A> {
         ensures room { OnOk result (self.new.room ≡ self.old.room + 1) }
         ensures err { OnErr result (self.new ≡ self.old) }
     {
+        if self.room < self.ready {
+            self.room += 1;
+            return Ok(());
+        }
+        self.make_ready()
+    }
+
+    /// The same, where all names that `rest` is known to have room for may come already.
+    #[inline(never)]
+    fn make_ready(&mut self) -> Result<(), AllocError>
+        ensures keys { (r : ℕ) → key_of r self.new ≡ key_of r self.old }
+        ensures room { OnOk result (self.new.room ≡ self.old.room + 1) }
+        ensures err { OnErr result (self.new ≡ self.old) }
+    {
         let room = self.room.checked_add(1).ok_or(AllocError)?;
         self.rest.reserve(room)?;
         self.table.fit(self.rest.len())?;
         self.room = room;
+        self.ready = room;
         Ok(())
     }
 }
@@ -81,9 +95,6 @@ impl<A: Allocator> MemberNames<A> {
     pub fn get(&self, reference: u32) -> Option<usize>
         ensures { result ≡ key_of reference self.now }
     {
-        if self.highest < reference {
-            return None;
-        }
         match self.table.get(reference) {
             Some(key) => Some(key),
             None => self.get_rest(reference),
@@ -110,8 +121,8 @@ impl<A: Allocator> MemberNames<A> {
     {
         if !self.table.put(reference, key) {
             self.rest.insert(reference, key).unwrap();
+            self.ready -= 1;
         }
-        self.highest = self.highest.max(reference);
         self.room -= 1;
     }
 
@@ -161,7 +172,11 @@ impl<A: Allocator> MemberNames<A> {
     {
         match self.table.pop() {
             Some(name) => Some(name),
-            None => self.rest.pop(),
+            None => {
+                // So the next one that may come has the table asked whether it has too many buckets.
+                self.ready = self.room;
+                self.rest.pop()
+            }
         }
     }
 }

@@ -1,35 +1,34 @@
 //! The names of all members.
-#![tactic(auto, unfolding(crate::specs::Names::lookup, crate::specs::Names::room))]
+ghost use Rattle.std.specs.Prelude.{◌≡◌, ℕ, List, true, false, ◌+◌, ◌-◌, ◌<◌, ◌==◌, ◌&&◌, None, Some, IfNone, IfSome, IsTrue, OnErr, OnOk, if◌then◌else◌};
+ghost use Rattle.xm_names.specs.Names.{Retains, is_above, lookup, room};
 
-ghost use Rattle.std.specs.Prelude.{◌≡◌, ℕ, true, ◌+◌, ◌-◌, ◌<◌, ◌==◌, ◌&&◌, None, Some, IfNone, IfSome, OnErr, OnOk, if◌then◌else◌, slice_get};
-ghost use Rattle.xm_names.specs.Names.{Retains, StandsAt, key_of, lookup, names_of, room};
-
-use crate::member_names::MemberNames;
+use crate::members::Members;
 use crate::seed::Seed;
-use indexmap::IndexMap;
 use std::alloc::{AllocError, Allocator};
 use std::marker::Model;
 
-/// The members below this one are found without a hash. They are as many as a market has.
-const PLACED: usize = 1024;
+/// Of the members below this one the highest reference is noted. They are as many as a market has.
+const NOTED: usize = 1024;
 
 /// The key of each member and reference, found by both, and by member alone. The order in which a member's names come out
-/// is open. Each member that has had a name keeps its table.
+/// is open.
 #[derive(Drop)]
 pub struct Names<A: Allocator> {
-    members: IndexMap<u32, MemberNames<A>, Seed, A>,
-    // For each member below `PLACED`, where its table was put among `members`. A member that stands there isn't looked for
-    // by its hash.
-    places: Vec<usize, A>,
+    members: Members<A>,
+    // For each member below `NOTED`, a reference that none of its own is above. So a member whose references rise, as most
+    // do, has each new one known as new without a look at the others.
+    highest: Vec<u32, A>,
 }
 
 impl<A: Allocator> Model for Names<A> {
-    ghost use Rattle.std.specs.Prelude.{ℕ, List};
-    ghost use Rattle.xm_names.specs.Names.{NamesOfMember};
+    ghost use Rattle.std.specs.Prelude.{◌≡◌, ℕ, List, None, true};
+    ghost use Rattle.xm_names.specs.Names.{NamesOfMember, is_above, lookup};
 
     ghost Value = { List (ℕ × NamesOfMember) };
 
-    ghost view = { λ n. n.members.entries };
+    ghost view = { λ n. n.members };
+
+    ghost invariant = { λ n. (m r : ℕ) → is_above n.highest.items m r ≡ true → lookup n.members m r ≡ None };
 }
 
 impl<A: Allocator + Copy> Names<A> {
@@ -39,8 +38,8 @@ impl<A: Allocator + Copy> Names<A> {
         ensures room { (m : ℕ) → room result m ≡ 0 }
     {
         Names {
-            members: IndexMap::with_hasher(alloc, seed),
-            places: Vec::new(alloc),
+            members: Members::new(alloc, seed),
+            highest: Vec::new(alloc),
         }
     }
 
@@ -50,70 +49,23 @@ impl<A: Allocator + Copy> Names<A> {
         ensures room { OnOk result ((m : ℕ) → room self.new m ≡ (if m == member then room self.old m + 1 else room self.old m)) }
         ensures err { OnErr result (self.new ≡ self.old) }
     {
-        match self.place(member) {
-            Some(place) => self.members.get_index_mut(place).unwrap().reserve(),
-            None => self.begin(member),
+        if self.highest.is_empty() {
+            self.begin()?;
         }
-    }
-
-    /// Makes the table of a member that has none, with room for a name.
-    fn begin(&mut self, member: u32) -> Result<(), AllocError>
-        requires { names_of self.old member ≡ None }
-        ensures names { (m r : ℕ) → lookup self.new m r ≡ lookup self.old m r }
-        ensures room { OnOk result ((m : ℕ) → room self.new m ≡ (if m == member then room self.old m + 1 else room self.old m)) }
-        ensures err { OnErr result (self.new ≡ self.old) }
-    {
-        let mut names = MemberNames::new(*self.members.allocator(), *self.members.hasher());
-        names.reserve()?;
-        self.reserve_places()?;
-        let place = self.members.len();
-        self.members.insert(member, names)?;
-        self.note(member, place);
-        Ok(())
+        self.members.reserve(member)
     }
 }
 
 impl<A: Allocator> Names<A> {
-    /// Makes room for the places.
-    fn reserve_places(&mut self) -> Result<(), AllocError>
+    /// Makes room for the highest references, where no member has had a name.
+    fn begin(&mut self) -> Result<(), AllocError>
         ensures { self.new ≡ self.old }
     {
-        if self.places.is_empty() {
-            self.places.resize(PLACED, usize::MAX)
+        if self.members.is_empty() {
+            self.highest.resize(NOTED, 0)
         } else {
             Ok(())
         }
-    }
-
-    /// Notes where the table of a member is, if there is room for it.
-    fn note(&mut self, member: u32, place: usize)
-        ensures { self.new ≡ self.old }
-    {
-        if let Some(known) = self.places.get_mut(member as usize) {
-            *known = place;
-        }
-    }
-
-    /// Where the table of a member is among `members`.
-    #[inline(always)]
-    fn place(&self, member: u32) -> Option<usize>
-        ensures some { IfSome result (StandsAt self.now member) }
-        ensures none { IfNone result (names_of self.now member ≡ None) }
-    {
-        match self.known_place(member) {
-            Some(place) => Some(place),
-            None => self.members.get_index_of(&member),
-        }
-    }
-
-    /// The same, where it was noted.
-    #[inline(always)]
-    fn known_place(&self, member: u32) -> Option<usize>
-        ensures { IfSome result (StandsAt self.now member) }
-    {
-        let place = *self.places.get(member as usize)?;
-        let (other, _names) = self.members.get_index(place)?;
-        if *other == member { Some(place) } else { None }
     }
 
     /// Gives up the room for one name of this member.
@@ -122,18 +74,17 @@ impl<A: Allocator> Names<A> {
         ensures names { (m r : ℕ) → lookup self.new m r ≡ lookup self.old m r }
         ensures room { (m : ℕ) → room self.new m ≡ (if m == member then room self.old m - 1 else room self.old m) }
     {
-        if let Some(place) = self.place(member) {
-            self.members.get_index_mut(place).unwrap().release();
-        }
+        self.members.release(member);
     }
 
     /// The key of a name.
     pub fn get(&self, member: u32, reference: u32) -> Option<usize>
         ensures { result ≡ lookup self.now member reference }
     {
-        let place = self.place(member)?;
-        let (_member, names) = self.members.get_index(place)?;
-        names.get(reference)
+        if is_above(&self.highest, member, reference) {
+            return None;
+        }
+        self.members.get(member, reference)
     }
 
     /// Gives a name that is not there its key, in room that was reserved for its member.
@@ -143,12 +94,8 @@ impl<A: Allocator> Names<A> {
         ensures names { (m r : ℕ) → lookup self.new m r ≡ (if m == member && r == reference then Some key else lookup self.old m r) }
         ensures room { (m : ℕ) → room self.new m ≡ (if m == member then room self.old m - 1 else room self.old m) }
     {
-        if let Some(place) = self.place(member) {
-            self.members
-                .get_index_mut(place)
-                .unwrap()
-                .insert(reference, key);
-        }
+        note(&mut self.highest, member, reference);
+        self.members.insert(member, reference, key);
     }
 
     /// Takes a name out, and answers its key. The room stays.
@@ -157,10 +104,7 @@ impl<A: Allocator> Names<A> {
         ensures names { (m r : ℕ) → lookup self.new m r ≡ (if m == member && r == reference then None else lookup self.old m r) }
         ensures room { (m : ℕ) → room self.new m ≡ room self.old m }
     {
-        match self.place(member) {
-            Some(place) => self.members.get_index_mut(place).unwrap().remove(reference),
-            None => None,
-        }
+        self.members.remove(member, reference)
     }
 
     /// Keeps the names whose keys pass a test, in one pass over all of them. The room stays.
@@ -169,17 +113,7 @@ impl<A: Allocator> Names<A> {
         ensures names { (m r : ℕ) → Retains (F.post passes.now) (lookup self.old m r) (lookup self.new m r) }
         ensures room { (m : ℕ) → room self.new m ≡ room self.old m }
     {
-        self.members.retain(
-            |_member: &u32, names: &mut MemberNames<A>| -> bool
-                requires { (key : ℕ) → F.pre passes.now key }
-                ensures stays { result ≡ true }
-                ensures keys { (r : ℕ) → Retains (F.post passes.entry.now) (key_of r names.old) (key_of r names.new) }
-                ensures room { names.new.room ≡ names.old.room }
-            {
-                names.retain(passes);
-                true
-            },
-        );
+        self.members.retain(passes);
     }
 
     /// Takes any one name of this member out, and answers its reference and its key, or `None` where the member has no name.
@@ -191,9 +125,28 @@ impl<A: Allocator> Names<A> {
         ensures unchanged { IfNone result (self.new ≡ self.old) }
         ensures room { (m : ℕ) → room self.new m ≡ room self.old m }
     {
-        match self.place(member) {
-            Some(place) => self.members.get_index_mut(place).unwrap().pop(),
-            None => None,
-        }
+        self.members.pop(member)
+    }
+}
+
+/// Whether a reference is above the highest that is noted of a member.
+#[inline(always)]
+fn is_above(highest: &[u32], member: u32, reference: u32) -> bool
+    ensures { result ≡ is_above highest.now member reference }
+{
+    match highest.get(member as usize) {
+        Some(noted) => *noted < reference,
+        None => false,
+    }
+}
+
+/// Notes a reference of a member, if it is the highest.
+#[inline(always)]
+fn note<A: Allocator>(highest: &mut Vec<u32, A>, member: u32, reference: u32)
+    ensures still { (m r : ℕ) → is_above highest.new.items m r ≡ true → is_above highest.old.items m r ≡ true }
+    ensures other { (m r : ℕ) → is_above highest.new.items m r ≡ true → (m == member && r == reference) ≡ false }
+{
+    if let Some(noted) = highest.get_mut(member as usize) {
+        *noted = (*noted).max(reference);
     }
 }

@@ -1,13 +1,13 @@
 //! The seed of a hash table.
-ghost use Rattle.std.specs.Prelude.{◌≡◌, ◌+◌, ◌*◌, ◌/◌, ◌%◌, ◌^◌};
+ghost use Rattle.std.specs.Prelude.{◌≡◌, ◌+◌, ◌*◌, ◌%◌, ◌^◌};
 ghost use Rattle.std.specs.List.{fold};
 ghost use Rattle.xm_names.specs.Tables.{hash};
 
 use std::hash::{BuildHasher, Hasher};
 use std::random::RandomSource;
 
-/// How the names of a table are hashed. Whoever picks references without knowing the seed can't make them collide: of a
-/// drawn seed, any two references have one hash with a chance of one in 2^32. No answer depends on it.
+/// How the names of a table are hashed: by two random numbers, so that whoever picks references without knowing them can't
+/// tell which share a bucket, and references at even distances don't crowd either. No answer depends on it.
 #[derive(Clone, Copy)]
 pub struct Seed {
     factor: u64,
@@ -38,13 +38,14 @@ impl Seed {
 }
 
 impl Seed {
-    /// The hash of a number: the upper half of its product with one random number and its sum with another.
+    /// The hash of a number, of 32 bits. One product alone leaves even distances even, so its halves are joined by bits
+    /// before the second.
     #[inline(always)]
-    pub(crate) fn hash(&self, number: u32) -> u64
+    pub(crate) fn hash(&self, number: u64) -> u64
         ensures { result ≡ hash self.now number }
     {
-        let product = u64::from(number).wrapping_mul(self.factor);
-        product.wrapping_add(self.summand) >> 32
+        let sum = number.wrapping_mul(self.factor).wrapping_add(self.summand);
+        (sum ^ (sum >> 32)).wrapping_mul(self.factor) >> 32
     }
 }
 
@@ -61,7 +62,7 @@ impl BuildHasher for Seed {
     }
 }
 
-/// The hash of a number of four bytes: the upper half of its product with one random number and its sum with another.
+/// The hash of a number of up to eight bytes.
 #[derive(Clone, Copy)]
 pub struct SeededHasher {
     seed: Seed,
@@ -72,11 +73,10 @@ pub struct SeededHasher {
 impl Hasher for SeededHasher {
     ghost write = { λ s bytes. record s { number = fold (λ number byte. (number * 256 + byte) % 2 ^ 64) s.number bytes } };
 
-    ghost finish = { λ s. (s.number * s.seed.factor % 2 ^ 64 + s.seed.summand) % 2 ^ 64 / 2 ^ 32 };
+    ghost finish = { λ s. hash s.seed s.number };
 
     fn finish(&self) -> u64 {
-        let product = self.number.wrapping_mul(self.seed.factor);
-        product.wrapping_add(self.seed.summand) >> 32
+        self.seed.hash(self.number)
     }
 
     fn write(&mut self, bytes: &[u8]) {

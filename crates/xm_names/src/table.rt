@@ -59,7 +59,7 @@ impl<A: Allocator> NameTable<A> {
     fn home(&self, reference: u32) -> usize
         ensures { result ≡ home self.now reference }
     {
-        (self.seed.hash(reference) >> self.shift) as usize
+        (self.seed.hash(u64::from(reference)) >> self.shift) as usize
     }
 
     /// The key of a reference.
@@ -254,7 +254,7 @@ impl<A: Allocator + Copy> NameTable<A> {
             &|slot: Slot| -> bool
                 requires { shift ≤ 32 }
                 ensures { result ≡ (hash seed slot.reference / 2 ^ shift == at) }
-            { (seed.hash(slot.reference) >> shift) as usize == at },
+            { (seed.hash(u64::from(slot.reference)) >> shift) as usize == at },
         )
     }
 }

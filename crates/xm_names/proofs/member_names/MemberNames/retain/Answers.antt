@@ -1,6 +1,6 @@
 use Rattle.std.proofs.Common.{rules, ℕ, nat_eq, arith}
 use Rattle.std.specs.Map.{lookup}
-use Rattle.xm_names.specs.Names.{Retains, first_of}
+use Rattle.xm_names.specs.Names.{Retains}
 use Rattle.xm_names.specs.Tables.{table_key}
 use Rattle.xm_names.proofs.Joined.{retains-first, still-none, was-some}
 use Rattle.xm_names.proofs.Retained.{retained}
@@ -21,10 +21,8 @@ invariant_of-self-2 g c =
     let A = goal.F-post g c.args.passes.now in
     let later : (r : ℕ) → Retains A (lookup (nat_eq r) n.rest.entries) (lookup (nat_eq r) c.retain-2.new.self.entries) =
     λ r. retained A _ _ (λ k v b w f call. search rules) r _ _ c.len.ensures.unique c.retain-2.ensures.filtered in
-    let both : (r : ℕ) → Retains A (first_of (table_key n.table r) (lookup (nat_eq r) n.rest.entries)) (first_of (table_key c.retain.new.self r) (lookup (nat_eq r) c.retain-2.new.self.entries)) =
-    λ r. retains-first A (table_key n.table r) (table_key c.retain.new.self r) (lookup (nat_eq r) n.rest.entries) (lookup (nat_eq r) c.retain-2.new.self.entries) (c.retain.ensures r) (later r) (c.self.invariant.apart r) in
     record {
-      room = omega (arith, c.self.invariant.room, c.retain-2.ensures.room.0);
+      room = c.self.invariant.room;
+      ready = omega (arith, c.self.invariant.ready, c.retain-2.ensures.room.0);
       apart = λ r some. still-none A (lookup (nat_eq r) n.rest.entries) (lookup (nat_eq r) c.retain-2.new.self.entries) (c.self.invariant.apart r (was-some A (table_key n.table r) (table_key c.retain.new.self r) (c.retain.ensures r) some)) (later r);
-      highest = λ r above. still-none A _ _ (c.self.invariant.highest r above) (both r);
     }

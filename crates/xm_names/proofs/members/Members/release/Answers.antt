@@ -1,7 +1,7 @@
 use Rattle.std.proofs.Common.{rules, ◌-◌, ap, ◌∙◌, arith}
 use Rattle.xm_names.specs.Names.{NamesOfMember, StandsAt, key_of}
 use Rattle.xm_names.proofs.Tables.{lookup-same, own-room, room-with, table-is}
-use Rattle.xm_names.proofs.names.Names.release.Goals as goal
+use Rattle.xm_names.proofs.members.Members.release.Goals as goal
 
 pub release-requires : goal.release-requires
 release-requires g c =

@@ -1,6 +1,6 @@
 use Rattle.std.proofs.Common.{rules}
 use Rattle.xm_names.proofs.Retained.{names-retained, room-retained}
-use Rattle.xm_names.proofs.names.Names.retain.Goals as goal
+use Rattle.xm_names.proofs.members.Members.retain.Goals as goal
 
 pub returns-clause-names : goal.returns-clause-names
 returns-clause-names g c m r =

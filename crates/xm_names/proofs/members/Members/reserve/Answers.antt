@@ -2,7 +2,7 @@ use Rattle.std.proofs.Common.{rules, ◌+◌, ap, ◌∙◌}
 use Rattle.xm_names.specs.Names.{NamesOfMember, StandsAt, key_of}
 use Rattle.xm_names.proofs.Entries.{error_gives, ok_gives}
 use Rattle.xm_names.proofs.Tables.{lookup-same, room-with, table-is, unchanged}
-use Rattle.xm_names.proofs.names.Names.reserve.Goals as goal
+use Rattle.xm_names.proofs.members.Members.reserve.Goals as goal
 
 pub returns-in-Some-clause-names : goal.returns-in-Some-clause-names
 returns-in-Some-clause-names g c =

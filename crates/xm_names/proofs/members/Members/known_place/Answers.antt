@@ -1,6 +1,6 @@
 use Rattle.std.proofs.Common.{rules, ◌≡◌, ℕ, Some, sym, ap, ◌∙◌, slice_get}
 use Rattle.xm_names.specs.Names.{NamesOfMember, names_of}
-use Rattle.xm_names.proofs.names.Names.known_place.Goals as goal
+use Rattle.xm_names.proofs.members.Members.known_place.Goals as goal
 
 pub returns-then-other-member : goal.returns-then-other-member
 returns-then-other-member g c =

@@ -1,5 +1,5 @@
 use Rattle.xm_names.proofs.Tables.{stands-if}
-use Rattle.xm_names.proofs.names.Names.place.Goals as goal
+use Rattle.xm_names.proofs.members.Members.place.Goals as goal
 
 pub returns-in-None-clause-some : goal.returns-in-None-clause-some
 returns-in-None-clause-some g c =

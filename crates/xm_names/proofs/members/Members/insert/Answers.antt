@@ -1,7 +1,7 @@
 use Rattle.std.proofs.Common.{rules, ℕ, ◌-◌, ◌==◌, if◌then◌else◌, Option, Some, sym, ap, ◌∙◌, arith}
 use Rattle.xm_names.specs.Names.{NamesOfMember, StandsAt, key_of}
 use Rattle.xm_names.proofs.Tables.{lookup-with, own-key, own-room, room-with, table-is}
-use Rattle.xm_names.proofs.names.Names.insert.Goals as goal
+use Rattle.xm_names.proofs.members.Members.insert.Goals as goal
 
 pub insert-requires-clause-room : goal.insert-requires-clause-room
 insert-requires-clause-room g c =

@@ -2,7 +2,7 @@ use Rattle.std.proofs.Common.{rules, ℕ, ◌==◌, if◌then◌else◌, Option,
 use Rattle.xm_names.specs.Names.{NamesOfMember, StandsAt, key_of}
 use Rattle.xm_names.proofs.Entries.{none_gives, some_gives}
 use Rattle.xm_names.proofs.Tables.{lookup-with, own-key, room-same, table-is, unchanged}
-use Rattle.xm_names.proofs.names.Names.pop.Goals as goal
+use Rattle.xm_names.proofs.members.Members.pop.Goals as goal
 
 pub returns-in-Some-clause-none : goal.returns-in-Some-clause-none
 returns-in-Some-clause-none g c =

@@ -1,7 +1,7 @@
 use Rattle.std.proofs.Common.{rules, ℕ, ◌==◌, if◌then◌else◌, Option, None, sym, ap, ◌∙◌}
 use Rattle.xm_names.specs.Names.{NamesOfMember, StandsAt, key_of}
 use Rattle.xm_names.proofs.Tables.{lookup-with, own-key, room-same, table-is}
-use Rattle.xm_names.proofs.names.Names.remove.Goals as goal
+use Rattle.xm_names.proofs.members.Members.remove.Goals as goal
 
 pub returns-in-Some-clause-key : goal.returns-in-Some-clause-key
 returns-in-Some-clause-key g c =

@@ -1,7 +1,7 @@
 use Rattle.std.proofs.Common.{rules, ◌≡◌, Some, slice_get, sym, ap, ◌∙◌}
 use Rattle.xm_names.specs.Names.{StandsAt, key_of}
 use Rattle.xm_names.proofs.Tables.{own-key, table-at}
-use Rattle.xm_names.proofs.names.Names.get.Goals as goal
+use Rattle.xm_names.proofs.members.Members.get.Goals as goal
 
 pub returns : goal.returns
 returns g c =
