@@ -1,5 +1,5 @@
 -- The names of a bucket.
-use Rattle.std.specs.Prelude.{◌≡◌, ℕ, Bool, true, false, ◌==◌, ◌&&◌, not, List, [], ◌∷◌, find, Option, None}
+use Rattle.std.specs.Prelude.{◌≡◌, ℕ, Bool, true, false, ◌==◌, ◌&&◌, if◌then◌else◌, not, List, [], ◌∷◌, find, Option, None}
 use Rattle.std.specs.Option.{option_map}
 use Rattle.xm_names.specs.declared.slot.Slot.{Slot}
 use Rattle.xm_names.specs.declared.slot.TheConstants.{VACANT}
@@ -15,6 +15,10 @@ is_named s = not (is_vacant s)
 -- the slot has the name of this reference
 abbrev pub has : ℕ → Slot → Bool
 has r s = (s.reference == r) && is_named s
+
+-- the key that a slot gives a reference, or that of no name
+abbrev pub key_for : ℕ → Slot → ℕ
+key_for r s = if s.reference == r then s.key else VACANT
 
 -- the key that slots give a reference
 abbrev pub key_in : ℕ → List Slot → Option ℕ

@@ -44,9 +44,14 @@ impl Bucket {
     pub fn get(&self, reference: u32) -> Option<usize>
         ensures { result ≡ key_in reference self.now }
     {
-        match self.slots.iter().find(|slot| slot.has(reference)) {
-            Some(slot) => Some(slot.key as usize),
-            None => None,
+        // All four are asked without a branch, since none can be foretold.
+        let [a, b, c, d] = self.slots;
+        let late = c.key_for(reference).min(d.key_for(reference));
+        let key = a.key_for(reference).min(b.key_for(reference).min(late));
+        if key == VACANT {
+            None
+        } else {
+            Some(key as usize)
         }
     }
 
@@ -55,7 +60,18 @@ impl Bucket {
     fn vacancy(&self) -> Option<usize>
         ensures { result ≡ position is_vacant self.now }
     {
-        self.slots.iter().position(|slot| slot.is_vacant())
+        let [a, b, c, d] = self.slots;
+        if a.is_vacant() {
+            Some(0)
+        } else if b.is_vacant() {
+            Some(1)
+        } else if c.is_vacant() {
+            Some(2)
+        } else if d.is_vacant() {
+            Some(3)
+        } else {
+            None
+        }
     }
 
     /// Gives a reference that has none a key, or answers `false` where no slot is vacant.

@@ -1,6 +1,6 @@
 //! One slot of a bucket.
 ghost use Rattle.std.specs.Prelude.{◌≡◌, true};
-ghost use Rattle.xm_names.specs.Buckets.{LeavesSlot, has, is_vacant};
+ghost use Rattle.xm_names.specs.Buckets.{LeavesSlot, is_vacant, key_for};
 
 /// The key of no name.
 pub const VACANT: u32 = u32::MAX;
@@ -30,11 +30,16 @@ impl Slot {
         self.key == VACANT
     }
 
-    /// Whether the slot has the name of this reference.
-    pub fn has(&self, reference: u32) -> bool
-        ensures { result ≡ has reference self.now }
+    /// The key that the slot gives a reference: `VACANT` where it has another name or none.
+    #[inline(always)]
+    pub fn key_for(&self, reference: u32) -> u32
+        ensures { result ≡ key_for reference self.now }
     {
-        self.reference == reference && !self.is_vacant()
+        if self.reference == reference {
+            self.key
+        } else {
+            VACANT
+        }
     }
 
     /// The slot, which loses its name where that fails a test.

@@ -87,7 +87,11 @@ impl<L: Copy, A: Allocator + Copy> Levels<L, A> {
     {
         match self.keys.get(price) {
             Some(key) => self.overwrite(price, key, level),
-            None => self.begin(price, level),
+            None => {
+                // What is passed on lies in memory, and the one above goes to its level from registers.
+                let first = level;
+                self.begin(price, first);
+            }
         }
     }
 
