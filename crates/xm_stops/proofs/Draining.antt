@@ -123,6 +123,16 @@ all-left p (x ∷ xs) h = left_if (p x) h (all-left p xs)
     left_if true e rest = absurd (omega (arith, ap length e))
     left_if false e rest = ap (λ (ys : List (Listed Stop)). x ∷ ys) (rest e)
 
+-- where none leaves, all are held, and those that are pending stay as they are
+module _ (leaves : Listed Stop → Bool) (q : QueuedView) (none : filter leaves q.stops ≡ []) where
+  pub held-all : q ≡ record q { stops = filter (stays leaves) q.stops }
+  held-all = (λ i. record q { stops = sym (all-left leaves q.stops none) i })
+
+  pub pending-same : (p : EntriesView) → (p.entries ≡ p.entries ++ entries_that leaves q.stops) × (p.room ≡ p.room - length (entries_that leaves q.stops))
+  pending-same p =
+      let empty : entries_that leaves q.stops ≡ [] = ap (map listed_entry) none in
+      (sym (append-nil p.entries) ∙ ap (λ (es : List (Entry Stop)). p.entries ++ es) (sym empty), omega (arith, ap length empty))
+
 -- none is left that is reached
 module _ (leaves : Listed Stop → Bool) (old q : QueuedView) (pending p : EntriesView) (h : IsDrained leaves old q pending p) (all : filter leaves q.stops ≡ []) where
   pub held-left : q ≡ record old { stops = filter (stays leaves) old.stops }

@@ -171,6 +171,7 @@ impl<A: Allocator + Copy> StopQueues<A> {
     }
 
     /// The key of some stop that the last price has reached. It asks the nearest trigger of each side alone.
+    #[inline(always)]
     pub fn reached(&self, last: Price) -> Option<usize>
         ensures some { IfSome result (IsReachedAt last self.now.stops) }
         ensures none { IfNone result (filter (has_reached last) self.now.stops ≡ []) }
@@ -182,6 +183,7 @@ impl<A: Allocator + Copy> StopQueues<A> {
     }
 
     /// The key of some stop of a side that the last price has reached.
+    #[inline(always)]
     fn reached_on(&self, side: Side, last: Price) -> Option<usize>
         ensures some { IfSome result (IsReachedOn side last self.now.stops) }
         ensures none { IfNone result (filter (has_reached_on side last) self.now.stops ≡ []) }

@@ -174,15 +174,15 @@ impl<A: Allocator + Copy> Stops<A> {
         ensures held { self.new ≡ record self.old { stops = filter (λ (s : Stop). not (is_reached last s)) self.old.stops } }
         ensures pending { pending.new ≡ joined_by (filter (is_reached last) self.old.stops) pending.old }
     {
-        if self.queues.len() == 0 {
-            return;
+        match self.queues.reached(last) {
+            None => {}
+            Some(_key) => take_leaving(
+                &mut self.queues,
+                &mut self.names,
+                Reason::Reached(last),
+                &mut pending.entries,
+            ),
         }
-        take_leaving(
-            &mut self.queues,
-            &mut self.names,
-            Reason::Reached(last),
-            &mut pending.entries,
-        );
     }
 
     /// The stops that aren't valid beyond this day leave in order of entry, and stand behind the pending ones, as at the end

@@ -99,6 +99,7 @@ impl<A: Allocator + Copy> TriggerTable<A> {
     }
 
     /// The trigger of the stops of this side that the last price reaches first: the lowest of buys, the highest of sells.
+    #[inline(always)]
     pub fn nearest(&self, side: Side) -> Option<u32>
         ensures some { IfSome result (IsNearest side self.now) }
         ensures none { IfNone result ((p : ℕ) → level_at self.now p ≡ None) }
