@@ -10,8 +10,9 @@ use xm_rules::{Command, Kind, Side, Widths};
 /// How many stops are held, or set off by all commands of a load.
 const STOPS: u32 = 100_000;
 
-/// How many pairs of orders trade at the last price, which reaches no stop.
-const PAIRS: u32 = 50_000;
+/// How many pairs of orders trade at the last price, which reaches no stop: so many that it weighs little whether the journal
+/// grows among them, and how much.
+const PAIRS: u32 = 350_000;
 
 /// Where the references of stops begin, and those of orders that trade.
 const FIRST_STOP: u32 = 1_000_000;
