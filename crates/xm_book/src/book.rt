@@ -104,6 +104,7 @@ impl<A: Allocator + Copy> Book<A> {
 
     /// Reserves what an order of this place takes, so that its `add` can't fail. Before it, orders and reserved places
     /// together are below 2,000,000. Where a growth is refused, the answer is `OutOfMemory` and nothing changes.
+    #[inline(always)]
     pub fn reserve_for(&mut self, place: &Place) -> Result<(), OutOfMemory>
         requires { length self.old.orders + length self.old.reserved < 2000000 }
         ensures ok { OnOk result (Reserves place.now self.old self.new) }

@@ -120,6 +120,7 @@ impl<A: Allocator + Copy> Unsettled<A> {
     }
 
     /// Whether the member has a held stop with this reference.
+    #[inline(always)]
     fn has_stop(&self, member: u32, reference: u32) -> bool
         ensures { result ≡ has_stop self.now.state member reference }
     {

@@ -4,11 +4,8 @@ ghost use Rattle.xm_names.specs.Buckets.{AreApart, Leaves, is_named, is_vacant, 
 ghost use Rattle.xm_names.specs.declared.slot.TheConstants.{VACANT};
 ghost use Rattle.xm_names.specs.declared.slot.Slot.{Slot};
 
-use crate::slot::{Slot, VACANT};
+use crate::slot::{SLOTS, Slot, VACANT};
 use std::marker::Model;
-
-/// How many names have room in a bucket.
-const SLOTS: usize = 4;
 
 /// Up to four names, each reference once. A clause sees the slots.
 #[derive(Drop)]
@@ -60,18 +57,11 @@ impl Bucket {
     fn vacancy(&self) -> Option<usize>
         ensures { result ≡ position is_vacant self.now }
     {
+        // Asked without a branch, as in `get`.
         let [a, b, c, d] = self.slots;
-        if a.is_vacant() {
-            Some(0)
-        } else if b.is_vacant() {
-            Some(1)
-        } else if c.is_vacant() {
-            Some(2)
-        } else if d.is_vacant() {
-            Some(3)
-        } else {
-            None
-        }
+        let late = c.vacancy_at(2).min(d.vacancy_at(3));
+        let place = a.vacancy_at(0).min(b.vacancy_at(1).min(late));
+        if place == SLOTS { None } else { Some(place) }
     }
 
     /// Gives a reference that has none a key, or answers `false` where no slot is vacant.

@@ -44,6 +44,7 @@ impl<A: Allocator + Copy> Names<A> {
     }
 
     /// Makes room for one name more of this member.
+    #[inline(always)]
     pub fn reserve(&mut self, member: u32) -> Result<(), AllocError>
         ensures names { (m r : ℕ) → lookup self.new m r ≡ lookup self.old m r }
         ensures room { OnOk result ((m : ℕ) → room self.new m ≡ (if m == member then room self.old m + 1 else room self.old m)) }
@@ -69,6 +70,7 @@ impl<A: Allocator> Names<A> {
     }
 
     /// Gives up the room for one name of this member.
+    #[inline(always)]
     pub fn release(&mut self, member: u32)
         requires { 0 < room self.old member }
         ensures names { (m r : ℕ) → lookup self.new m r ≡ lookup self.old m r }
@@ -78,6 +80,7 @@ impl<A: Allocator> Names<A> {
     }
 
     /// The key of a name.
+    #[inline(always)]
     pub fn get(&self, member: u32, reference: u32) -> Option<usize>
         ensures { result ≡ lookup self.now member reference }
     {

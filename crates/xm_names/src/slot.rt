@@ -1,6 +1,10 @@
 //! One slot of a bucket.
-ghost use Rattle.std.specs.Prelude.{◌≡◌, true};
+ghost use Rattle.std.specs.Prelude.{◌≡◌, true, if◌then◌else◌};
 ghost use Rattle.xm_names.specs.Buckets.{LeavesSlot, is_vacant, key_for};
+ghost use Rattle.xm_names.specs.declared.slot.TheConstants.{SLOTS};
+
+/// How many names have room in a bucket.
+pub const SLOTS: usize = 4;
 
 /// The key of no name.
 pub const VACANT: u32 = u32::MAX;
@@ -28,6 +32,14 @@ impl Slot {
         ensures { result ≡ is_vacant self.now }
     {
         self.key == VACANT
+    }
+
+    /// The place of the slot in its bucket where it has no name, or else that of no slot.
+    #[inline(always)]
+    pub fn vacancy_at(&self, place: usize) -> usize
+        ensures { result ≡ (if is_vacant self.now then place else SLOTS) }
+    {
+        if self.is_vacant() { place } else { SLOTS }
     }
 
     /// The key that the slot gives a reference: `VACANT` where it has another name or none.
