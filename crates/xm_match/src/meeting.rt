@@ -31,7 +31,7 @@ impl Next {
 }
 
 /// What an incoming order meets next of which so many units are left: the best order of the other side, inside the ranges
-/// or not. That order is read where it is met inside them, and else its kind alone is asked.
+/// or not.
 #[inline(always)]
 pub fn next_met<A: Allocator + Copy>(book: &Book<A>, terms: &Terms, units: u32) -> Next
     requires dynamic { terms.now.widths.dynamic ≤ 999 }
@@ -41,17 +41,14 @@ pub fn next_met<A: Allocator + Copy>(book: &Book<A>, terms: &Terms, units: u32) 
     if units == 0 {
         return Next::Nothing;
     }
-    let Some(kind) = book.best_kind(terms.other_side(), Phase::Continuous) else {
+    let Some(best) = book.best(terms.other_side(), Phase::Continuous) else {
         return Next::Nothing;
     };
-    if !terms.is_met(&kind) {
+    if !terms.is_met(&best.kind) {
         return Next::Nothing;
     }
-    if !terms.is_inside(&kind) {
+    if !terms.is_inside(&best.kind) {
         return Next::Outside;
     }
-    match book.best(terms.other_side(), Phase::Continuous) {
-        None => Next::Nothing,
-        Some(best) => Next::Inside(*best),
-    }
+    Next::Inside(*best)
 }
