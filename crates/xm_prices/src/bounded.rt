@@ -106,10 +106,10 @@ impl<A: Allocator + Copy> BoundedSet<A> {
     {
         self.prices.remove(price);
         if is_at(self.first, price) {
-            self.first = self.prices.first();
+            self.first = self.prices.next_above(price);
         }
         if is_at(self.last, price) {
-            self.last = self.prices.last();
+            self.last = self.prices.next_below(price);
         }
     }
 
