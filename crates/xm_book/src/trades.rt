@@ -58,6 +58,15 @@ impl<A: Allocator> Trades<A> {
         Ok(())
     }
 
+    /// Makes room for so many more trades ahead, so that they needn't be copied as the list grows. What is reserved stays as
+    /// it is.
+    pub fn make_room(&mut self, trades: usize) -> Result<(), OutOfMemory>
+        ensures { self.new ≡ self.old }
+    {
+        self.items.reserve(trades)?;
+        Ok(())
+    }
+
     /// Adds a trade as the last one, in reserved room.
     pub fn push(&mut self, trade: Trade)
         requires { 0 < self.old.room }

@@ -1,8 +1,7 @@
 -- The trades that a command adds are between members of the desk, and with those before within the limits of a day.
-use Rattle.std.proofs.Common.{◌≡◌, ℕ, ◌+◌, ◌≤◌, ◌&&◌, ◌-ℤ◌, pos, Bool, ◌∷◌, [], ◌++◌, true, false, if◌then◌else◌, Some, None, List, All, drop, length, take, refl, sym, ap, ◌∙◌, ◌-◌, subst, arith}
+use Rattle.std.proofs.Common.{◌≡◌, ℕ, ◌+◌, ◌≤◌, ◌&&◌, ◌-ℤ◌, pos, Bool, ◌∷◌, [], ◌++◌, true, false, if◌then◌else◌, Some, None, List, All, drop, length, refl, sym, ◌∙◌, subst, arith}
 use Rattle.std.specs.Prelude.{nat_lt}
 use Rattle.std.proofs.lemmas.Bool.Decides.{nat_tests}
-use Rattle.std.proofs.lemmas.List.{length-drop, take_all}
 use Rattle.xm_positions.specs.Positions.{Recorded, cash_position, has_traded, net_position}
 use Rattle.xm_rules.proofs.DayLimits.{within_limits}
 use Rattle.xm_rules.proofs.Journals.{is_lawful-push, journal_of, replay-push}
@@ -36,15 +35,9 @@ module _ (j : Journal) (c : Command) (lawful : is_lawful j ≡ true) (passed : r
 abbrev pub recorded : ℕ → List Trade → Recorded
 recorded members trades = record { members = members; trades = trades }
 
--- the trades from a number on, as a slice of them all
-pub slice-is : (ts : List Trade) (n : ℕ) → take (length ts - n) (drop n ts) ≡ drop n ts
-slice-is ts n = take_all (length ts - n) (drop n ts) (omega (arith, length-drop n ts))
-
--- those before, and those that were added as a slice of them all
-pub all-recorded : (old before now after : List Trade) → before ≡ old → now ≡ after → after ≡ old ++ drop (length old) after
-    → old ++ take (length now - length before) (drop (length before) now) ≡ after
-all-recorded old before now after b n appended =
-    (λ i. old ++ take (length (n i) - length (b i)) (drop (length (b i)) (n i))) ∙ ap (λ (ts : List Trade). old ++ ts) (slice-is after (length old)) ∙ sym appended
+-- those before, and those that were added
+pub all-recorded : (old before after : List Trade) → before ≡ old → after ≡ old ++ drop (length old) after → old ++ drop (length before) after ≡ after
+all-recorded old before after b appended = (λ i. old ++ drop (length (b i)) after) ∙ sym appended
 
 -- ---- a member that the desk doesn't know
 

@@ -3,9 +3,8 @@ use Rattle.std.proofs.Common.{◌≡◌, ◌∙◌, ℕ, ◌+◌, ◌≤◌, Lis
 use Rattle.std.proofs.lemmas.List.{length-append}
 use Rattle.std.proofs.lemmas.List.Elements.{All-append, All-nil}
 use Rattle.xm_book.specs.TimeList.{TimeList}
-use Rattle.xm_desk.proofs.Making.{new-made}
 use Rattle.xm_desk.specs.Frame.{IsFramed}
-use Rattle.xm_desk.specs.Made.{AreFew, AreSized, CanSettle, IsCounted, Makes}
+use Rattle.xm_desk.specs.Made.{AreSized, CanSettle, IsCounted, Makes}
 use Rattle.xm_desk.specs.Settled.{Unsettled, joined_in, places_in, played, possible_trades, trades_in}
 use Rattle.xm_desk.specs.declared.unsettled.Hand.{Hand}
 use Rattle.xm_desk.specs.declared.unsettled.Hand.TheVariants.{Empty, Held, Kept, Played, Spare}
@@ -13,21 +12,19 @@ use Rattle.xm_rules.proofs.Accepted.{accepted-below}
 use Rattle.xm_rules.proofs.Following.{act-follows}
 use Rattle.xm_rules.proofs.Kept.{act-keeps, step-counts}
 use Rattle.xm_rules.proofs.OneName.{act-uses}
-use Rattle.xm_rules.proofs.TradeSizes.{money_within, quantity_within}
 use Rattle.xm_rules.specs.Commands.{is_in_range}
 use Rattle.xm_rules.specs.Orders.{is_stop_named}
 use Rattle.xm_rules.specs.Refusals.{refusal_of}
 use Rattle.xm_rules.specs.Settling.{settle}
 use Rattle.xm_rules.specs.State.{State}
-use Rattle.xm_rules.specs.Step.{act, new_trades, step}
-use Rattle.xm_rules.specs.Sums.{total_money, total_quantity}
+use Rattle.xm_rules.specs.Step.{act, step}
 use Rattle.xm_rules.specs.declared.commands.Command.{Command}
 use Rattle.xm_rules.specs.declared.orders.Order.{Order}
 use Rattle.xm_rules.specs.declared.orders.Stop.{Stop}
 use Rattle.xm_rules.specs.declared.orders.Trade.{Trade}
 use Rattle.xm_rules.specs.declared.settings.DeskSettings.{DeskSettings}
 use Rattle.xm_stops.specs.HeldStops.{HeldStops, PendingStops}
-use Rattle.xm_ticks.specs.declared.numbers.TheConstants.{MAX_PRICE, MAX_QUANTITY}
+use Rattle.xm_ticks.specs.declared.numbers.TheConstants.{MAX_QUANTITY}
 
 played-none : (hand : Hand) → places_in (played hand) ≡ []
 played-none Empty = refl
@@ -101,9 +98,6 @@ few-possible u accepted limit room book held pending hand f orders stops waiting
     )
 
 module _ (u n : Unsettled) (m : Makes u n) (few : possible_trades u ≤ 2000000) where
-  pub few-made : AreFew (new_trades u.state n.state)
-  few-made = subst AreFew (sym (new-made u n m)) (record { number = omega (arith, m.fewer, few); sized = m.sized })
-
   -- the state that it leads to is counted
   pub counted-after : (t : Unsettled) → n ≡ record t { state = record t.state { accepted = t.state.accepted + 1 }; hand = Empty } → t.pending ≡ [] → CanSettle t → IsCounted u.state
       → t.state.accepted ≡ u.state.accepted → IsCounted n.state
@@ -119,11 +113,3 @@ module _ (u n : Unsettled) (m : Makes u n) (few : possible_trades u ≤ 2000000)
         names = λ member reference. (let l = can.names member reference in omega (arith, l));
         units = can.units;
       })
-
--- ---- what few trades come to
-
-pub few-quantity : (ts : List Trade) → AreFew ts → total_quantity ts ≤ 2000000000000
-few-quantity ts few = omega (arith, few.number, quantity_within ts few.sized)
-
-pub few-money : (ts : List Trade) → AreFew ts → All (λ (t : Trade). t.price ≤ MAX_PRICE) ts → total_money ts ≤ 2000000000000000000
-few-money ts few priced = omega (arith, few-quantity ts few, money_within ts priced)

@@ -20,11 +20,6 @@ pub record Makes (u v : Unsettled) : Type 0 where
   pub sized : AreSized trades
   pub fewer : length trades + possible_trades v ≤ possible_trades u
 
--- no more than the orders of a book can trade
-pub record AreFew (trades : List Trade) : Type 0 where
-  pub number : length trades ≤ 2000000
-  pub sized : AreSized trades
-
 -- each held or pending stop has units
 abbrev pub HaveUnits : List Stop → Type 0
 HaveUnits stops = All (λ (stop : Stop). IsTrue (is_in_range stop.quantity)) stops

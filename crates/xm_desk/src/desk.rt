@@ -17,8 +17,8 @@ use std::marker::Model;
 use xm_names::Seed;
 use xm_positions::Positions;
 use xm_rules::{
-    Command, DeskSettings, Order, OutOfMemory, Phase, Quote, Refusal, Reply, Side, Stop, Totals,
-    Trade,
+    Command, DeskSettings, Order, OutOfMemory, PHASE_COMMANDS_MORE, Phase, Quote, Refusal, Reply,
+    Side, Stop, Totals, Trade,
 };
 use xm_ticks::Price;
 
@@ -94,6 +94,18 @@ impl<A: Allocator + Copy> Desk<A> {
         self.market.trades()
     }
 
+    /// Makes room for so many more commands, no more than the journal takes, and for as many trades. A desk that is told how
+    /// many come needn't copy the journal and the trades as they grow. Nothing that is seen of it changes. Where the growth
+    /// was refused, the answer is `OutOfMemory`, and the desk still takes commands as before.
+    pub fn reserve(&mut self, commands: usize) -> Result<(), OutOfMemory>
+        ensures { self.new ≡ self.old }
+    {
+        let most = self.market.settings().limit.get() as usize + PHASE_COMMANDS_MORE as usize;
+        let commands = commands.min(most.saturating_sub(self.journal.len()));
+        self.journal.reserve(commands)?;
+        self.market.make_room(commands)
+    }
+
     /// Takes a command into the journal and answers its reply. A refused one changes nothing.
     ///
     /// The refusal is that of `refusal_of`, or `OutOfMemory` where a growth was refused.
@@ -111,9 +123,10 @@ impl<A: Allocator + Copy> Desk<A> {
         }
         self.journal.reserve(1)?;
         self.market.reserve_for(&command)?;
-        let before = self.market.trades().len();
-        let reply = self.market.step(&command);
-        self.positions.record_all(&self.market.trades()[before..]);
+        let first_trade = self.market.trades().len();
+        self.market.step(&command);
+        let _ = self.market.trades(); // The range of their prices is known where they are asked for.
+        let reply = self.market.record_from(first_trade, &mut self.positions);
         self.journal.push_reserved(command);
         Ok(reply)
     }

@@ -1,7 +1,7 @@
 //! A security between commands.
 ghost use Rattle.std.specs.Prelude.{◌≡◌, ◌+◌, ◌++◌, ◌<◌, ◌≤◌, [], All, None, OnErr, OnOk, IfOk, drop, length, true};
 ghost use Rattle.xm_desk.specs.Growth.{hand_for};
-ghost use Rattle.xm_desk.specs.Made.{AreFew, AreSized, IsCounted, Makes};
+ghost use Rattle.xm_desk.specs.Made.{AreSized, IsCounted, Makes};
 ghost use Rattle.xm_desk.specs.Opening.{are_widths};
 ghost use Rattle.xm_desk.specs.Settled.{places_in};
 ghost use Rattle.xm_desk.specs.declared.tape.TheConstants.{MAX_TRADES};
@@ -9,8 +9,8 @@ ghost use Rattle.xm_desk.specs.declared.unsettled.Hand.TheVariants.{Empty};
 ghost use Rattle.xm_rules.specs.Quote.{best_limit, indicative};
 ghost use Rattle.xm_rules.specs.Refusals.{refusal_of};
 ghost use Rattle.xm_rules.specs.State.{opening, ref1, ref2};
-ghost use Rattle.xm_rules.specs.Step.{new_trades, reply, step};
-ghost use Rattle.xm_rules.specs.Sums.{total_money, total_quantity};
+ghost use Rattle.xm_rules.specs.Step.{new_trades, step};
+ghost use Rattle.xm_rules.specs.Sums.{AreWithinLimits, IsBetweenMembers, total_money, total_quantity};
 ghost use Rattle.xm_rules.specs.declared.settings.TheConstants.{PHASE_COMMANDS_MORE};
 ghost use Rattle.xm_ticks.specs.declared.numbers.TheConstants.{MAX_JOURNAL_LIMIT, MAX_PRICE};
 
@@ -22,9 +22,9 @@ use std::snapshot::Snapshot;
 use xm_auction::auction_price;
 use xm_book::Book;
 use xm_names::Seed;
+use xm_positions::Positions;
 use xm_rules::{
     Command, DeskSettings, Order, OutOfMemory, Phase, Refusal, Reply, Side, Stop, Trade,
-    total_money, total_quantity,
 };
 use xm_stops::{Pending, Stops};
 use xm_ticks::Price;
@@ -94,6 +94,13 @@ impl<A: Allocator + Copy> Market<A> {
         self.inside.refusal_of(command)
     }
 
+    /// Makes room for so many more trades ahead.
+    pub fn make_room(&mut self, trades: usize) -> Result<(), OutOfMemory>
+        ensures { self.new ≡ self.old }
+    {
+        self.inside.tape.make_room(trades)
+    }
+
     /// Reserves all that an accepted command may need, so that its step can't fail. The state is
     /// unchanged.
     pub fn reserve_for(&mut self, command: &Command) -> Result<(), OutOfMemory>
@@ -105,17 +112,48 @@ impl<A: Allocator + Copy> Market<A> {
         self.inside.reserve_for(command)
     }
 
-    /// The step by an accepted command, with its reply.
-    pub fn step(&mut self, command: &Command) -> Reply
+    /// The step by an accepted command.
+    pub fn step(&mut self, command: &Command)
         requires hand { self.old.hand ≡ hand_for self.old.state command.now }
         requires lawful { refusal_of self.old.state command.now ≡ None }
         ensures state { self.new ≡ record { state = step self.old.state command.now; hand = Empty } }
-        ensures reply { result ≡ reply self.old.state (step self.old.state command.now) }
         ensures appended { self.new.state.trades ≡ self.old.state.trades ++ new_trades self.old.state self.new.state }
     {
-        let first_trade = self.inside.tape.len();
         self.inside.step(command);
-        self.inside.reply(first_trade)
+    }
+
+    /// Records the trades from this one on, and answers the reply to the command that made them: their sums are by how much
+    /// the totals grew.
+    pub fn record_from<B: Allocator>(
+        &self,
+        first_trade: usize,
+        positions: &mut Positions<B>,
+    ) -> Reply
+        requires first { first_trade ≤ length self.now.state.trades }
+        requires members { All (IsBetweenMembers positions.old.members) (drop first_trade self.now.state.trades) }
+        requires limits { AreWithinLimits (positions.old.trades ++ drop first_trade self.now.state.trades) }
+        ensures recorded { positions.new ≡ record positions.old { trades = positions.old.trades ++ drop first_trade self.now.state.trades } }
+        ensures reply { result ≡ (let trades = drop first_trade self.now.state.trades in record {
+          version = self.now.state.accepted;
+          first_trade = first_trade;
+          trades = length trades;
+          quantity = total_quantity trades;
+          money = total_money trades;
+          phase = self.now.state.phase;
+        }) }
+    {
+        let before = positions.totals();
+        let made = self.inside.tape.after(first_trade);
+        positions.record_all(made);
+        let after = positions.totals();
+        Reply {
+            version: self.inside.accepted,
+            first_trade: first_trade as u64,
+            trades: made.len() as u64,
+            quantity: after.quantity - before.quantity,
+            money: after.money - before.money,
+            phase: self.inside.phase,
+        }
     }
 
     /// The settings of the day.
@@ -186,30 +224,6 @@ impl<A: Allocator + Copy> Market<A> {
 }
 
 impl<A: Allocator + Copy> Unsettled<A> {
-    /// The reply to a command before which there were so many trades.
-    fn reply(&self, first_trade: usize) -> Reply
-        requires first { first_trade ≤ length self.now.state.trades }
-        requires few { AreFew (drop first_trade self.now.state.trades) }
-        ensures { result ≡ (let trades = drop first_trade self.now.state.trades in record {
-          version = self.now.state.accepted;
-          first_trade = first_trade;
-          trades = length trades;
-          quantity = total_quantity trades;
-          money = total_money trades;
-          phase = self.now.state.phase;
-        }) }
-    {
-        let made = self.tape.after(first_trade);
-        Reply {
-            version: self.accepted,
-            first_trade: first_trade as u64,
-            trades: made.len() as u64,
-            quantity: total_quantity(made),
-            money: total_money(made),
-            phase: self.phase,
-        }
-    }
-
     /// The step by an accepted command: what it does, settled and counted.
     fn step(&mut self, command: &Command)
         requires hand { self.old.hand ≡ hand_for self.old.state command.now }
@@ -219,7 +233,6 @@ impl<A: Allocator + Copy> Unsettled<A> {
         ensures stepped { self.new ≡ record self.old { state = step self.old.state command.now; hand = Empty } }
         ensures counted { IsCounted self.new.state }
         ensures made { Makes self.old self.new }
-        ensures few { AreFew (new_trades self.old.state self.new.state) }
     {
         let _ = self.settings.limit.get(); // The range of the limit is known where it is asked for.
         self.act(command);

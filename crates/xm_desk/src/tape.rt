@@ -96,6 +96,13 @@ impl<A: Allocator> Tape<A> {
         self.trades.reserve(trades)
     }
 
+    /// Makes room for so many more trades ahead. What is reserved stays as it is.
+    pub fn make_room(&mut self, trades: usize) -> Result<(), OutOfMemory>
+        ensures { self.new ≡ self.old }
+    {
+        self.trades.make_room(trades)
+    }
+
     /// The trades from this one on.
     pub fn after(&self, first: usize) -> &[Trade]
         requires { first ≤ length self.now.trades }

@@ -78,6 +78,11 @@ impl<A: Allocator + Copy> Day<A> {
         })
     }
 
+    /// Makes room for so many commands ahead.
+    pub fn reserve(&mut self, commands: usize) -> Result<(), OutOfMemory> {
+        self.desk.reserve(commands)
+    }
+
     /// Gives a command. The desk knows its refusal beforehand, and takes into the journal what it
     /// accepts and nothing else.
     pub fn apply(&mut self, rt: &impl Abort, command: Command) -> Result<Reply, Refusal> {

@@ -36,6 +36,7 @@ const MADE_GOOD: u64 = 17;
 #[derive(Drop)]
 struct Refused {
     openings: u64,
+    rooms: u64,
     commands: u64,
     lists: u64,
 }
@@ -79,6 +80,22 @@ impl Refused {
         Day::open(alloc, 100)
     }
 
+    /// Makes room for so many commands ahead, once more where the first answer is for want of memory, which changes nothing.
+    fn reserve<A: Allocator + Copy, B: Allocator + Copy>(
+        &mut self,
+        rt: &impl Abort,
+        day: &mut Day<A>,
+        like: &Day<B>,
+        commands: usize,
+    ) {
+        if day.reserve(commands).is_err() {
+            self.rooms = self.rooms.wrapping_add(1);
+            self.compare(rt, day, like);
+            assert!(rt; day.reserve(commands).is_ok());
+        }
+        self.compare(rt, day, like);
+    }
+
     /// Gives a command to a day, where memory may be refused, and to one like it, where it is not.
     fn give<A: Allocator + Copy, B: Allocator + Copy>(
         &mut self,
@@ -113,36 +130,67 @@ impl Refused {
         like.buys_are(rt, &[(0, 2, 990, 7)]);
     }
 
-    /// Runs a day in which the request of this number is refused, and answers whether one was.
+    /// Runs a day that makes room for so many commands ahead, in which the request of this number is refused, and answers
+    /// whether one was.
     fn run<A: Allocator + Copy>(
         &mut self,
         rt: &impl Abort,
         alloc: A,
+        ahead: usize,
         nth: u64,
     ) -> Result<bool, Fail> {
         let mut like = Day::open(alloc, 100)?;
         let refusing = Refusing::new(alloc, nth);
         let mut day = self.open(&refusing)?;
+        self.reserve(rt, &mut day, &like, ahead);
         self.give_all(rt, &mut day, &mut like);
         Ok(refusing.has_refused())
     }
 }
 
-#[test]
-fn each_growth_refused_in_turn(rt: HostRuntime) -> Result<(), Fail> {
+/// Runs days that make room for so many commands ahead, with each request refused in turn. Each refusal but those made good is
+/// an answer for want of memory, and this many are answers of the room.
+fn refuse_each(
+    rt: &(impl Abort + AllocGlobal),
+    ahead: usize,
+    rooms: u64,
+    made_good: u64,
+) -> Result<(), Fail> {
     let mut refused = Refused {
         openings: 0,
+        rooms: 0,
         commands: 0,
         lists: 0,
     };
     for nth in 1..300 {
-        if !refused.run(&rt, rt.alloc(), nth)? {
+        if !refused.run(rt, rt.alloc(), ahead, nth)? {
             let answered = refused.commands.wrapping_add(refused.lists);
-            assert_eq!(rt; refused.openings, 1);
-            assert_eq!(rt; answered.wrapping_add(MADE_GOOD), nth.wrapping_sub(2));
+            let before = refused.openings.wrapping_add(rooms);
+            assert!(rt; refused.openings == 1 && refused.rooms == rooms);
+            assert_eq!(rt;
+                answered.wrapping_add(before).wrapping_add(made_good),
+                nth.wrapping_sub(1)
+            );
             assert!(rt; refused.commands > 0 && refused.lists > 0);
             return Ok(());
         }
     }
     Err(Fail::from("memory was refused in each run"))
+}
+
+#[test]
+fn each_growth_refused_in_turn(rt: HostRuntime) -> Result<(), Fail> {
+    refuse_each(&rt, 0, 0, MADE_GOOD)
+}
+
+#[test]
+fn each_growth_refused_after_room_was_made(rt: HostRuntime) -> Result<(), Fail> {
+    refuse_each(&rt, COMMANDS.len(), 2, MADE_GOOD)
+}
+
+#[test]
+fn room_is_made_for_no_more_commands_than_a_journal_takes(rt: HostRuntime) -> Result<(), Fail> {
+    let mut day = Day::open(rt.alloc(), 100)?;
+    assert!(&rt; day.reserve(usize::MAX).is_ok());
+    Ok(())
 }

@@ -1,6 +1,6 @@
 use Rattle.std.proofs.Common.{◌∙◌, ◌≤◌, ap, sym, arith}
 use Rattle.xm_desk.proofs.Making.{makes-both, makes-none}
-use Rattle.xm_desk.proofs.Stepping.{can-settle, counted-after, few-made, few-possible, stepped}
+use Rattle.xm_desk.proofs.Stepping.{can-settle, counted-after, few-possible, stepped}
 use Rattle.xm_desk.specs.Settled.{Unsettled, possible_trades}
 use Rattle.xm_rules.proofs.Kept.{act-keeps, settle-keeps}
 use Rattle.xm_desk.proofs.unsettled.Unsettled.step.Given.{Over}
@@ -35,9 +35,6 @@ few g c =
     few-possible v u.accepted v.state.settings.limit u.tape.room u.book u.stops u.pending u.hand.value c.self.invariant.frame (sym (ap (λ (w : Unsettled). w.state.orders) is))
     (sym (ap (λ (w : Unsettled). w.state.stops) is)) (sym (ap (λ (w : Unsettled). w.pending) is)) (sym (ap (λ (w : Unsettled). w.hand) is))
     (omega (arith, c.requires.counted.accepted, ap (λ (w : Unsettled). w.state.accepted) is)) (omega (arith, c.get.ensures.value, c.get.ensures.high, ap (λ (w : Unsettled). w.state.settings.limit) is))
-
-pub returns-clause-few : goal.returns-clause-few
-returns-clause-few g c = few-made c.args.self.now c.count.new.self (returns-clause-made g c) (few g c)
 
 pub returns-clause-counted : goal.returns-clause-counted
 returns-clause-counted g c =
