@@ -112,6 +112,14 @@ impl Loaded {
         self.desk.apply(command)
     }
 
+    /// Makes room for so many more commands of the desk.
+    pub fn reserve(&mut self, commands: usize) -> Result<(), LoadFault> {
+        match self.desk.reserve(commands) {
+            Ok(()) => Ok(()),
+            Err(_) => Err(LoadFault),
+        }
+    }
+
     /// Gives the desk each of some commands, and answers how many it accepted.
     pub fn take(&mut self, commands: &[Command]) -> u32 {
         let mut accepted: u32 = 0;
