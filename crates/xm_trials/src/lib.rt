@@ -1,17 +1,11 @@
-//! Tests of the public calls of other crates. They stand in a crate of their own, so that a crate is
-//! proved once and not again with its tests.
+//! Tests of the public calls of the crates below the desk. They stand in a crate of their own, so that a crate is proved once
+//! and not again with its tests.
 #![tactic(auto)]
 
 #[cfg(test)]
 mod auction;
 #[cfg(test)]
 mod book;
-#[cfg(test)]
-mod day;
-#[cfg(test)]
-mod desk;
-#[cfg(test)]
-mod files;
 #[cfg(test)]
 mod ladders;
 #[cfg(test)]
@@ -22,8 +16,6 @@ mod names;
 mod positions;
 #[cfg(test)]
 mod prices;
-#[cfg(test)]
-mod program;
 #[cfg(test)]
 mod queues;
 #[cfg(test)]

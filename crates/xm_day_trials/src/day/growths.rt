@@ -1,6 +1,5 @@
 //! A statement whose growths are refused.
 use super::CASCADE_STATEMENT;
-use crate::desk::settings;
 use crate::files::fixtures::{CASCADE, SEGMENT};
 use std::alloc::Global;
 use std::process::Abort;
@@ -10,7 +9,21 @@ use xm_desk::Desk;
 use xm_files::{read_rows, read_segment};
 use xm_names::Seed;
 use xm_refusing::Refusing;
-use xm_segment::Row;
+use xm_rules::DeskSettings;
+use xm_segment::{Row, SegmentConfig};
+
+/// The settings of the only security of a segment.
+fn settings(config: &SegmentConfig) -> Result<DeskSettings, Fail> {
+    let security = config.securities.as_slice().first().ok_or("no security")?;
+    Ok(DeskSettings {
+        today: config.today,
+        members: config.members,
+        tick: security.tick,
+        reference: security.reference,
+        widths: security.widths,
+        limit: security.limit,
+    })
+}
 
 /// Gives rows to a desk, and counts them.
 fn take(desk: &mut Desk<Global>, rows: &[Row]) -> DayReport {
@@ -44,7 +57,7 @@ fn refused_growths_of_a_statement(rt: HostRuntime) -> Result<(), Fail> {
     let alloc = rt.alloc();
     let (config, names) = read_segment(alloc, &mut SEGMENT.as_bytes())?;
     let rows = read_rows(alloc, &mut CASCADE.as_bytes(), &names, &config)?;
-    let mut desk = Desk::open(alloc, Seed::fixed(), settings(100)?)?;
+    let mut desk = Desk::open(alloc, Seed::fixed(), settings(&config)?)?;
     let report = take(&mut desk, rows.as_slice());
     let desks = [desk];
     assert!(&rt; names.securities() == 1);
