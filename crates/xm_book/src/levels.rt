@@ -63,6 +63,7 @@ pub fn set_level<A: Allocator + Copy>(ladders: &mut Ladders<A>, order: &Order, l
 }
 
 /// Makes room for orders of a place's kind in its ladder, and for so many levels more.
+#[inline(always)]
 pub fn reserve_level<A: Allocator + Copy>(
     ladders: &mut Ladders<A>,
     place: &Place,

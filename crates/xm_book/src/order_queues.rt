@@ -93,6 +93,7 @@ impl<A: Allocator + Copy> OrderQueues<A> {
     }
 
     /// Reserves a place.
+    #[inline(always)]
     pub fn reserve(&mut self, place: &Place) -> Result<(), AllocError>
         requires { length self.old.orders + length self.old.reserved < 2000000 }
         ensures place { OnOk result (Gains place.now self.old.reserved self.new.reserved) }
@@ -145,6 +146,7 @@ impl<A: Allocator + Copy> OrderQueues<A> {
     }
 
     /// The order of a key leaves.
+    #[inline(always)]
     pub fn take(&mut self, key: usize) -> Order
         requires { Contains (keys_in self.old.orders) key }
         ensures order { (x : Listed) → Contains self.old.orders x → x.key ≡ key → result ≡ x.order }

@@ -107,6 +107,7 @@ impl<A: Allocator + Copy> Unsettled<A> {
     }
 
     /// Reserves a place in the book, and room for a trade.
+    #[inline(always)]
     fn reserve_place(&mut self, place: &Place) -> Result<(), OutOfMemory>
         requires hand { self.old.hand ≡ Empty }
         requires settled { self.old.pending ≡ [] }

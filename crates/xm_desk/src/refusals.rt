@@ -119,12 +119,12 @@ impl<A: Allocator + Copy> Unsettled<A> {
         self.book.find(member, reference).is_none() && !self.has_stop(member, reference)
     }
 
-    /// Whether the member has a held stop with this reference.
+    /// Whether the member has a held stop with this reference. Where none is held, no name is looked for.
     #[inline(always)]
     fn has_stop(&self, member: u32, reference: u32) -> bool
         ensures { result ≡ has_stop self.now.state member reference }
     {
-        self.stops.find(member, reference).is_some()
+        self.stops.len() > 0 && self.stops.find(member, reference).is_some()
     }
 
     /// Whether the last price has reached this trigger.

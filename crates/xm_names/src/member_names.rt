@@ -54,6 +54,7 @@ impl<A: Allocator + Copy> MemberNames<A> {
     }
 
     /// Makes room for one name more.
+    #[inline(always)]
     pub fn reserve(&mut self) -> Result<(), AllocError>
         ensures keys { (r : ℕ) → key_of r self.new ≡ key_of r self.old }
         ensures room { OnOk result (self.new.room ≡ self.old.room + 1) }

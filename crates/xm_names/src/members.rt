@@ -44,6 +44,7 @@ impl<A: Allocator + Copy> Members<A> {
     }
 
     /// Makes room for one name more of this member.
+    #[inline(always)]
     pub fn reserve(&mut self, member: u32) -> Result<(), AllocError>
         ensures names { (m r : ℕ) → lookup self.new m r ≡ lookup self.old m r }
         ensures room { OnOk result ((m : ℕ) → room self.new m ≡ (if m == member then room self.old m + 1 else room self.old m)) }
@@ -56,6 +57,7 @@ impl<A: Allocator + Copy> Members<A> {
     }
 
     /// Makes the table of a member that has none, with room for a name.
+    #[inline(never)]
     fn begin(&mut self, member: u32) -> Result<(), AllocError>
         requires { names_of self.old member ≡ None }
         ensures names { (m r : ℕ) → lookup self.new m r ≡ lookup self.old m r }

@@ -59,6 +59,7 @@ impl<A: Allocator + Copy> Names<A> {
 
 impl<A: Allocator> Names<A> {
     /// Makes room for the highest references, where no member has had a name.
+    #[inline(never)]
     fn begin(&mut self) -> Result<(), AllocError>
         ensures { self.new ≡ self.old }
     {
