@@ -596,7 +596,7 @@ impl Flow {
     /// Gives the desk a command, and keeps it: a refusal is part of the load.
     fn give(&mut self, loaded: &mut Loaded, command: Command) -> Result<(), LoadFault> {
         let was_in_call = loaded.is_in_call();
-        if let Some(reply) = loaded.answer(command) {
+        if let Some(reply) = loaded.answer(&command) {
             self.course.add(&command, &reply);
         }
         if !was_in_call && is_interruption(loaded.phase()) {

@@ -90,7 +90,7 @@ impl Loaded {
         }
         let mut accepted = 0;
         for place in 0..commands {
-            if self.is_accepted(part.command(place, commands)) {
+            if self.is_accepted(&part.command(place, commands)) {
                 accepted += 1;
             }
         }
@@ -98,18 +98,18 @@ impl Loaded {
     }
 
     /// Gives the desk a command, and answers whether it accepted it.
-    fn is_accepted(&mut self, command: Command) -> bool {
+    fn is_accepted(&mut self, command: &Command) -> bool {
         self.answer(command).is_some()
     }
 
     /// Gives the desk a command, and answers its reply, where it accepted it.
-    pub fn answer(&mut self, command: Command) -> Option<Reply> {
+    pub fn answer(&mut self, command: &Command) -> Option<Reply> {
         self.apply(command).ok()
     }
 
     /// Gives the desk a command, and answers its reply or its refusal.
-    pub fn apply(&mut self, command: Command) -> Result<Reply, Refusal> {
-        self.desk.apply(command)
+    pub fn apply(&mut self, command: &Command) -> Result<Reply, Refusal> {
+        self.desk.apply(*command)
     }
 
     /// Makes room for so many more commands of the desk.
@@ -124,7 +124,7 @@ impl Loaded {
     pub fn take(&mut self, commands: &[Command]) -> u32 {
         let mut accepted: u32 = 0;
         for command in commands {
-            if self.is_accepted(*command) {
+            if self.is_accepted(command) {
                 accepted = accepted.wrapping_add(1);
             }
         }
@@ -137,7 +137,7 @@ impl Loaded {
 
     /// Gives the desk a command that it accepts.
     pub fn accept(&mut self, command: Command) -> Result<(), LoadFault> {
-        if self.is_accepted(command) {
+        if self.is_accepted(&command) {
             Ok(())
         } else {
             Err(LoadFault)

@@ -41,7 +41,7 @@ impl Record {
     /// Gives a command, and counts what it did: its reply or its refusal, and the quote after it.
     pub fn give(&mut self, loaded: &mut Loaded, command: Command) -> Option<Reply> {
         let was_continuous = loaded.phase().is_continuous();
-        let reply = self.answer(loaded, command);
+        let reply = self.answer(loaded, &command);
         if was_continuous && is_interruption(loaded.phase()) {
             self.interruptions = self.interruptions.wrapping_add(1);
         }
@@ -49,7 +49,7 @@ impl Record {
         reply
     }
 
-    fn answer(&mut self, loaded: &mut Loaded, command: Command) -> Option<Reply> {
+    fn answer(&mut self, loaded: &mut Loaded, command: &Command) -> Option<Reply> {
         match loaded.apply(command) {
             Ok(reply) => {
                 self.accepted = self.accepted.wrapping_add(1);
