@@ -1,5 +1,5 @@
 //! The load of a book: orders that come, are looked for, change and go, for books of several shapes.
-ghost use Rattle.std.specs.Prelude.{◌≡◌, ◌+◌, ◌≤◌, ◌<◌, ◌^◌, IfOk, IsTrue, false, length};
+ghost use Rattle.std.specs.Prelude.{◌≡◌, ◌+◌, ◌≤◌, ◌<◌, ◌^◌, IsTrue, false, length};
 ghost use Rattle.xm_book.specs.TimeList.{is_known};
 ghost use Rattle.xm_rules.specs.Commands.{is_in_range};
 
@@ -46,18 +46,6 @@ impl Shape {
         }
     }
 
-    /// How many limits there are, where there are as many orders.
-    fn limits(self) -> u32
-        ensures some { 0 < result }
-        ensures few { result ≤ 10000 }
-    {
-        match self {
-            Shape::TenLimits => 10,
-            Shape::OneLimit => 1,
-            _ => 10_000,
-        }
-    }
-
     /// The reference of the order of this place: another for each.
     fn reference(self, place: u32) -> u32 {
         match self {
@@ -66,26 +54,35 @@ impl Shape {
         }
     }
 
-    /// The order of this place, at a limit of 10,000 to 20,000 ticks, which may be better by a tick.
+    /// The order of this place, at a limit of 10,000 to 20,000 ticks, which may be better by some.
     fn order(self, place: u32, better: u32) -> Order
-        requires { better ≤ 1 }
         ensures { IsTrue (is_in_range result.rest) }
     {
-        let limit = 10_000 + mixed(place, self.limits()) + better;
+        let limits = match self {
+            Shape::TenLimits => 10,
+            Shape::OneLimit => 1,
+            _ => 10_000,
+        };
+        let limit = mixed(place, limits)
+            .wrapping_add(10_000)
+            .wrapping_add(better);
         buy(0, self.reference(place), limit, Restriction::Free)
     }
 }
 
 /// A buy of 10 units.
 fn buy(member: u32, reference: u32, limit: u32, restriction: Restriction) -> Order
-    requires { IsTrue (is_in_range limit) }
     ensures { IsTrue (is_in_range result.rest) }
 {
+    let kind = match Price::new(limit) {
+        Some(price) => OrderKind::Limit(price),
+        None => OrderKind::Market,
+    };
     Order {
         member,
         reference,
         side: Side::Buy,
-        kind: OrderKind::Limit(Price::new(limit).unwrap()),
+        kind,
         rest: 10,
         validity: Validity::Day,
         restriction,
@@ -127,13 +124,23 @@ impl Step {
     }
 }
 
-/// A book under load. A clause sees nothing of it, as of `Loaded`.
-#[derive(Drop)]
+/// A book under load. A clause sees nothing of it, as of `Loaded`. What it checks is what a book asks of its calls.
 pub struct Shelf<A: Allocator + Copy> {
     book: Book<A>,
     // At least as many as there were adds, and as there are reserved places.
     adds: u64,
     places: usize,
+}
+
+// In a function of its own, so that whoever drops one proves one call.
+impl<A: Allocator + Copy> Drop for Shelf<A> {
+    fn drop(self) {
+        let Shelf {
+            book: _book,
+            adds: _adds,
+            places: _places,
+        } = self;
+    }
 }
 
 impl<A: Allocator + Copy> Model for Shelf<A> {
@@ -161,7 +168,7 @@ impl<A: Allocator + Copy> Shelf<A> {
     /// Puts in what lies in front of the orders of a shape.
     pub fn prepare(&mut self, shape: Shape, orders: u32) -> Result<(), LoadFault> {
         for place in 0..orders {
-            let limit = 20_001 + mixed(place, 10_000);
+            let limit = mixed(place, 10_000).wrapping_add(20_001);
             let done = match shape {
                 Shape::Inactive => self.enter(&buy(1, place, limit, Restriction::AuctionsOnly)),
                 Shape::Reserved => self.reserve(&buy(1, place, limit, Restriction::Free)),
@@ -174,33 +181,27 @@ impl<A: Allocator + Copy> Shelf<A> {
         Ok(())
     }
 
-    /// Does a step with each of so many orders, and answers with how many it could.
-    pub fn take(&mut self, shape: Shape, step: Step, orders: u32) -> Result<u32, LoadFault>
-        ensures { IfOk result (λ done. done ≤ orders) }
-    {
-        if orders > 1_000_000 {
-            return Err(LoadFault);
-        }
-        let mut done = 0;
+    /// Does a step with each of so many orders.
+    pub fn take(&mut self, shape: Shape, step: Step, orders: u32) -> Result<(), LoadFault> {
         for place in 0..orders {
-            if self.take_one(shape, step, place, orders) {
-                done += 1;
+            if !self.take_one(shape, step, place, orders) {
+                return Err(LoadFault);
             }
         }
-        Ok(done)
+        Ok(())
     }
 
     /// Does a step with the order of this place, and answers whether it could. All are cancelled at the first place.
-    fn take_one(&mut self, shape: Shape, step: Step, place: u32, orders: u32) -> bool
-        requires some { 0 < orders }
-        requires few { orders ≤ 1000000 }
-    {
+    fn take_one(&mut self, shape: Shape, step: Step, place: u32, orders: u32) -> bool {
         match step {
             Step::Enter => self.enter(&shape.order(place, 0)),
             Step::Best => self.book.best(Side::Buy, Phase::Continuous).is_some(),
             Step::Reduce => self.reduce(shape.reference(place)),
             Step::ChangeLimit => self.replace(&shape.order(place, 1)),
-            Step::Cancel => self.cancel(shape.reference(mixed(place, orders))),
+            Step::Cancel => {
+                let reference = shape.reference(mixed(place, orders));
+                self.book.remove(0, reference).is_some()
+            }
             Step::CancelAll => place > 0 || self.cancel_all(),
         }
     }
@@ -242,10 +243,6 @@ impl<A: Allocator + Copy> Shelf<A> {
         // No rest is below one unit, as the book says where it tells its length.
         let _orders = self.book.len();
         self.book.reduce(0, reference, 1)
-    }
-
-    fn cancel(&mut self, reference: u32) -> bool {
-        self.book.remove(0, reference).is_some()
     }
 
     /// Cancels all orders but those in front, and answers whether no active one is left.

@@ -1,16 +1,12 @@
 //! The load of a call: orders that come in before its end, are executed, and are deleted at the end of the day.
-ghost use Rattle.std.specs.Prelude.{◌≤◌, ◌<◌};
 
-use crate::loads::{LoadFault, Loaded, mixed};
+use crate::loads::{LoadFault, Loaded, Opening, mixed, plain_entry, side_at};
 use crate::{nanoseconds_since, said};
 use std::rt::Clock;
 use std::time::Instant;
-use xm_rules::{Command, Condition, DeskSettings, Kind, Restriction, Side, Validity, Widths};
-use xm_ticks::{JournalLimit, Price, TickSize};
+use xm_rules::{Command, Kind, Widths};
 
-/// The orders of a call that is counted, and of those that are measured.
-const COUNTED: u32 = 200;
-
+/// How many orders a call has.
 const MEASURED: [u32; 2] = [100_000, 400_000];
 
 /// How many members enter the orders.
@@ -19,11 +15,16 @@ pub const MEMBERS: u32 = 1_000;
 /// The last price of the day before, around which the limits lie.
 pub const REFERENCE: u32 = 500_000;
 
-/// The ranges of a day whose calls trade at a price within a hundredth of the reference.
-const WIDTHS: Widths = Widths {
-    dynamic: 20,
-    statics: 50,
-    wide: 40,
+/// A day whose calls trade at a price within a hundredth of the reference.
+const OPENING: Opening = Opening {
+    members: MEMBERS,
+    reference: REFERENCE,
+    widths: Widths {
+        dynamic: 20,
+        statics: 50,
+        wide: 40,
+    },
+    limit: 1_000_000,
 };
 
 /// How often a call is asked for its price.
@@ -58,69 +59,37 @@ impl Arrival {
             Arrival::Mixed => "mixed",
         }
     }
-
-    /// The place among the limits of the order that comes at this place.
-    fn rank(self, place: u32, orders: u32) -> u32
-        requires some { place < orders }
-        requires few { orders ≤ 1000000 }
-    {
-        match self {
-            Arrival::Rising => place,
-            Arrival::Falling => orders - 1 - place,
-            Arrival::Mixed => mixed(place, orders),
-        }
-    }
 }
 
-/// A call of so many orders at so many limits, and what is told of it.
+/// A call of so many orders at so many limits.
 #[derive(Clone, Copy)]
 struct Load {
     orders: u32,
     limits: u32,
     arrival: Arrival,
-    figure: Figure,
 }
 
 impl Load {
-    /// The limit of the order that comes at this place.
-    fn limit(self, place: u32, orders: u32) -> u32
-        requires some { place < orders }
-        requires few { orders ≤ 1000000 }
-    {
-        let limits = u64::from(self.limits);
-        let rank = u64::from(self.arrival.rank(place, orders));
-        let above = rank.wrapping_mul(limits) / u64::from(orders);
-        let lowest = REFERENCE.wrapping_sub(self.limits / 2);
-        lowest.wrapping_add(above.min(limits) as u32)
-    }
-
-    /// The entry that comes at this place: buys and sells in turn. Each side lies over all the limits, so that half of
-    /// its orders are at the reference or cross it.
-    fn entry(self, reference: u32, place: u32, orders: u32) -> Command
-        requires some { place < orders }
-        requires few { orders ≤ 1000000 }
-    {
-        let side = if place % 2 == 0 {
-            Side::Buy
-        } else {
-            Side::Sell
+    /// The entry that comes at this place of so many: buys and sells in turn. Each side lies over all the limits, so that half
+    /// of its orders are at the reference or cross it.
+    fn entry(self, reference: u32, place: u32, orders: u32) -> Command {
+        let rank = match self.arrival {
+            Arrival::Rising => place,
+            Arrival::Falling => orders.wrapping_sub(1).wrapping_sub(place),
+            Arrival::Mixed => mixed(place, orders),
         };
-        let kind = Kind::Limit(self.limit(place, orders));
-        plain_entry(reference, side, kind, 1 + place % 97)
-    }
-}
-
-/// A free and plain entry for the day, of the member whose turn it is by the reference.
-pub fn plain_entry(reference: u32, side: Side, kind: Kind, quantity: u32) -> Command {
-    Command::Enter {
-        member: reference % MEMBERS,
-        reference,
-        side,
-        kind,
-        quantity,
-        validity: Validity::Day,
-        restriction: Restriction::Free,
-        condition: Condition::Plain,
+        let limits = u64::from(self.limits);
+        let above = u64::from(rank).wrapping_mul(limits) / u64::from(orders.max(1));
+        let lowest = REFERENCE.wrapping_sub(self.limits / 2);
+        let limit = lowest.wrapping_add(above.min(limits) as u32);
+        let member = reference % MEMBERS;
+        plain_entry(
+            member,
+            reference,
+            side_at(place),
+            Kind::Limit(limit),
+            1 + place % 97,
+        )
     }
 }
 
@@ -160,49 +129,25 @@ impl Step {
     }
 }
 
-/// What is told of a step.
-#[derive(Clone, Copy)]
-enum Figure {
-    /// The number of its parts.
-    Parts,
-    /// The time that it took as well.
-    Time,
-}
-
-/// Prints how many parts each step of a load had.
-pub fn count<R: AllocGlobal + Print + Clock>(rt: &R) -> Result<(), LoadFault> {
-    tell_shapes(rt, COUNTED, Figure::Parts)
-}
-
 /// Prints the time that each step of a load took.
 pub fn measure<R: AllocGlobal + Print + Clock>(rt: &R) -> Result<(), LoadFault> {
     for orders in &MEASURED {
-        tell_shapes(rt, *orders, Figure::Time)?;
+        measure_shapes(rt, *orders)?;
     }
     Ok(())
 }
 
-fn tell_shapes<R: AllocGlobal + Print + Clock>(
-    rt: &R,
-    orders: u32,
-    figure: Figure,
-) -> Result<(), LoadFault> {
+fn measure_shapes<R: AllocGlobal + Print + Clock>(rt: &R, orders: u32) -> Result<(), LoadFault> {
     for (limits, arrival) in &SHAPES {
         let load = Load {
             orders,
             limits: *limits,
             arrival: *arrival,
-            figure,
         };
-        tell_load(rt, load)?;
+        let mut loaded = Loaded::open(rt.alloc(), OPENING)?;
+        tell_steps(rt, &mut loaded, load)?;
     }
     Ok(())
-}
-
-fn tell_load<R: AllocGlobal + Print + Clock>(rt: &R, load: Load) -> Result<(), LoadFault> {
-    let settings = settings(WIDTHS).ok_or(LoadFault)?;
-    let mut loaded = Loaded::open(rt.alloc(), settings)?;
-    tell_steps(rt, &mut loaded, load)
 }
 
 /// Prints a line for a load.
@@ -218,7 +163,7 @@ fn tell_steps<R: Print + Clock>(rt: &R, loaded: &mut Loaded, load: Load) -> Resu
     said(println!(rt; ""))
 }
 
-/// Does a step, and prints its figures.
+/// Does a step, and prints the microseconds that it took, and the nanoseconds that each of its parts did.
 fn tell_step<R: Print + Clock>(
     rt: &R,
     loaded: &mut Loaded,
@@ -229,19 +174,10 @@ fn tell_step<R: Print + Clock>(
         return Err(LoadFault);
     };
     let parts = take(loaded, load, step)?;
-    match load.figure {
-        Figure::Parts => {}
-        Figure::Time => tell_time(rt, &start, parts)?,
-    }
+    let whole = nanoseconds_since(rt, &start, 1)? / 1_000;
+    let each = nanoseconds_since(rt, &start, parts)?;
     let name = step.name();
-    said(print!(rt; " {parts} {name}"))
-}
-
-/// Prints the microseconds since, and the nanoseconds that each of so many parts took.
-fn tell_time<R: Print + Clock>(rt: &R, start: &Instant, parts: u32) -> Result<(), LoadFault> {
-    let whole = nanoseconds_since(rt, start, 1)? / 1_000;
-    let each = nanoseconds_since(rt, start, parts)?;
-    said(print!(rt; " {whole} us, {each} ns for each of"))
+    said(print!(rt; " {whole} us, {each} ns for each of {parts} {name}"))
 }
 
 /// Does a step, and answers with the number of its parts.
@@ -262,10 +198,16 @@ fn take(loaded: &mut Loaded, load: Load, step: Step) -> Result<u32, LoadFault> {
             Ok(2)
         }
         Step::EnterAgain => {
-            let left = number_of(loaded.orders()?)?;
+            let left = number_of(loaded.orders()?.len())?;
             enter(loaded, load, load.orders, load.orders.saturating_sub(left))
         }
-        Step::EndDay => end_day(loaded, load.orders),
+        Step::EndDay => {
+            loaded.accept(Command::EndDay)?;
+            match loaded.orders()?.len() {
+                0 => Ok(load.orders),
+                _ => Err(LoadFault),
+            }
+        }
     }
 }
 
@@ -278,9 +220,6 @@ fn number_of(items: usize) -> Result<u32, LoadFault> {
 
 /// Enters so many orders, whose references follow this one.
 fn enter(loaded: &mut Loaded, load: Load, reference: u32, orders: u32) -> Result<u32, LoadFault> {
-    if orders > 1_000_000 {
-        return Err(LoadFault);
-    }
     for place in 0..orders {
         loaded.accept(load.entry(reference.wrapping_add(place), place, orders))?;
     }
@@ -290,31 +229,9 @@ fn enter(loaded: &mut Loaded, load: Load, reference: u32, orders: u32) -> Result
 /// Asks the price of a call some times.
 fn ask(loaded: &Loaded) -> Result<u32, LoadFault> {
     for _question in 0..QUESTIONS {
-        if loaded.indicative().is_none() {
+        if !loaded.has_price() {
             return Err(LoadFault);
         }
     }
     Ok(QUESTIONS)
-}
-
-/// Ends the day of so many orders, none of which is valid beyond it.
-fn end_day(loaded: &mut Loaded, orders: u32) -> Result<u32, LoadFault> {
-    loaded.accept(Command::EndDay)?;
-    if loaded.orders()? == 0 {
-        Ok(orders)
-    } else {
-        Err(LoadFault)
-    }
-}
-
-/// The settings of a day with these ranges.
-pub fn settings(widths: Widths) -> Option<DeskSettings> {
-    Some(DeskSettings {
-        today: 20260105,
-        members: MEMBERS,
-        tick: TickSize::new(100)?,
-        reference: Price::new(REFERENCE)?,
-        widths,
-        limit: JournalLimit::new(1_000_000)?,
-    })
 }

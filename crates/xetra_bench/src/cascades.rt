@@ -1,7 +1,7 @@
 //! The load of stops: held ones that no order reaches, and cascades that one command sets off.
 
-use crate::calls::{MEMBERS, REFERENCE, plain_entry, settings};
-use crate::loads::{LoadFault, Loaded, mixed};
+use crate::calls::{MEMBERS, REFERENCE};
+use crate::loads::{LoadFault, Loaded, Opening, mixed, plain_entry, side_at};
 use crate::{nanoseconds_since, said};
 use std::rt::Clock;
 use std::time::Instant;
@@ -23,11 +23,16 @@ const FIRST_ORDER: u32 = 2_000_000;
 /// range, and inside the wide one.
 const GAP: u32 = 30_000;
 
-/// The ranges of a day whose cascades lead from the reference far down.
-const WIDTHS: Widths = Widths {
-    dynamic: 20,
-    statics: 999,
-    wide: 400,
+/// A day whose cascades lead from the reference far down.
+const OPENING: Opening = Opening {
+    members: MEMBERS,
+    reference: REFERENCE,
+    widths: Widths {
+        dynamic: 20,
+        statics: 999,
+        wide: 400,
+    },
+    limit: 1_000_000,
 };
 
 /// At which triggers stops lie.
@@ -44,14 +49,6 @@ impl Triggers {
         match self {
             Triggers::Many => "many triggers",
             Triggers::One => "one trigger",
-        }
-    }
-
-    /// The distance from the reference of the trigger of the held stop at this place, in ticks.
-    fn distance(self, place: u32) -> u32 {
-        match self {
-            Triggers::Many => 1_000 + place / 2,
-            Triggers::One => 1_000,
         }
     }
 }
@@ -116,31 +113,24 @@ impl Cascades {
         }
     }
 
-    /// The first of the limits of a cascade.
-    fn first_level(self, cascade: u32) -> u32 {
-        cascade.wrapping_mul(self.levels())
-    }
-
     /// A limit, the highest of which is the first.
     fn limit(self, level: u32) -> u32 {
-        let gap = if self.is_behind_gap(level) { GAP } else { 0 };
+        let is_behind_gap = match (self.triggers, self.end) {
+            (_, End::Whole) => false,
+            (Triggers::Many, End::Interrupted) => level > self.stops / 2,
+            (Triggers::One, End::Interrupted) => level > 0,
+        };
+        let gap = if is_behind_gap { GAP } else { 0 };
         REFERENCE
             .wrapping_sub(1)
             .wrapping_sub(level)
             .wrapping_sub(gap)
     }
 
-    fn is_behind_gap(self, level: u32) -> bool {
-        match (self.triggers, self.end) {
-            (_, End::Whole) => false,
-            (Triggers::Many, End::Interrupted) => level > self.stops / 2,
-            (Triggers::One, End::Interrupted) => level > 0,
-        }
-    }
-
-    /// The trigger of a stop of a cascade: what the command trades at, or the stop before it.
+    /// The limit of the command that sets off a cascade, and the trigger of the stop at this place of it: what the command
+    /// trades at, or the stop before it.
     fn trigger(self, cascade: u32, stop: u32) -> u32 {
-        let first = self.first_level(cascade);
+        let first = cascade.wrapping_mul(self.levels());
         match self.triggers {
             Triggers::Many => self.limit(first.wrapping_add(stop)),
             Triggers::One => self.limit(first),
@@ -172,43 +162,27 @@ pub fn measure<R: AllocGlobal + Print + Clock>(rt: &R) -> Result<(), LoadFault> 
     Ok(())
 }
 
+/// Prints a line for held stops: what it takes to enter one, what an order that reaches none, what a cancellation.
 fn measure_held<R: AllocGlobal + Print + Clock>(
     rt: &R,
     stops: u32,
     triggers: Triggers,
 ) -> Result<(), LoadFault> {
-    let settings = settings(WIDTHS).ok_or(LoadFault)?;
-    let mut loaded = Loaded::open(rt.alloc(), settings)?;
-    tell_held(rt, &mut loaded, stops, triggers)
-}
-
-fn measure_cascades<R: AllocGlobal + Print + Clock>(
-    rt: &R,
-    cascades: Cascades,
-) -> Result<(), LoadFault> {
-    let settings = settings(WIDTHS).ok_or(LoadFault)?;
-    let mut loaded = Loaded::open(rt.alloc(), settings)?;
-    tell_cascades(rt, &mut loaded, cascades)
-}
-
-/// Prints a line for held stops: what it takes to enter one, what an order that reaches none, what a cancellation.
-fn tell_held<R: Print + Clock>(
-    rt: &R,
-    loaded: &mut Loaded,
-    stops: u32,
-    triggers: Triggers,
-) -> Result<(), LoadFault> {
-    open(loaded)?;
+    let mut loaded = open(rt)?;
     let name = triggers.name();
     said(print!(rt; "{stops:>6} held stops at {name}:"))?;
-    if stops > 0 {
-        tell_step(rt, loaded, Step::Hold(triggers), stops)?;
-    }
-    tell_step(rt, loaded, Step::Trade, PAIRS)?;
-    if stops > 0 {
-        tell_step(rt, loaded, Step::Cancel, stops)?;
-    }
+    tell_step(rt, &mut loaded, Step::Hold(triggers), stops)?;
+    tell_step(rt, &mut loaded, Step::Trade, PAIRS)?;
+    tell_step(rt, &mut loaded, Step::Cancel, stops)?;
     said(println!(rt; ""))
+}
+
+/// A desk in continuous trading.
+fn open<R: AllocGlobal>(rt: &R) -> Result<Loaded, LoadFault> {
+    let mut loaded = Loaded::open(rt.alloc(), OPENING)?;
+    loaded.accept(Command::StartOpening)?;
+    loaded.accept(Command::Uncross)?;
+    Ok(loaded)
 }
 
 /// What is done with held stops in turn.
@@ -230,46 +204,60 @@ impl Step {
     }
 }
 
-/// Does so many parts of a step, and prints the nanoseconds of each.
+/// Does so many parts of a step, and prints the nanoseconds of each, where there are any.
 fn tell_step<R: Print + Clock>(
     rt: &R,
     loaded: &mut Loaded,
     step: Step,
     parts: u32,
 ) -> Result<(), LoadFault> {
+    if parts == 0 {
+        return Ok(());
+    }
     let Ok(start) = Instant::now(rt) else {
         return Err(LoadFault);
     };
-    take(loaded, step, parts)?;
+    match step {
+        Step::Hold(triggers) => hold(loaded, parts, triggers)?,
+        Step::Trade => trade(loaded, parts)?,
+        Step::Cancel => cancel(loaded, parts)?,
+    }
     let (name, each) = (step.name(), nanoseconds_since(rt, &start, parts)?);
     said(print!(rt; " {name} {each} ns"))
 }
 
-fn take(loaded: &mut Loaded, step: Step, parts: u32) -> Result<(), LoadFault> {
-    match step {
-        Step::Hold(triggers) => hold(loaded, parts, triggers),
-        Step::Trade => trade(loaded, parts),
-        Step::Cancel => cancel(loaded, parts),
-    }
+/// Enters a stop.
+fn enter_stop(loaded: &mut Loaded, place: u32, side: Side, trigger: u32) -> Result<(), LoadFault> {
+    let reference = FIRST_STOP.wrapping_add(place);
+    let kind = Kind::StopMarket(trigger);
+    loaded.accept(plain_entry(reference % MEMBERS, reference, side, kind, 1))
 }
 
-/// Leads to continuous trading.
-fn open(loaded: &mut Loaded) -> Result<(), LoadFault> {
-    loaded.accept(Command::StartOpening)?;
-    loaded.accept(Command::Uncross)
+/// Enters an order at a limit.
+fn enter_order(
+    loaded: &mut Loaded,
+    reference: u32,
+    side: Side,
+    limit: u32,
+    quantity: u32,
+) -> Result<(), LoadFault> {
+    let kind = Kind::Limit(limit);
+    loaded.accept(plain_entry(reference % MEMBERS, reference, side, kind, quantity))
 }
 
 /// Enters stops of both sides in turn.
 fn hold(loaded: &mut Loaded, stops: u32, triggers: Triggers) -> Result<(), LoadFault> {
     for place in 0..stops {
-        let distance = triggers.distance(place);
-        let (side, trigger) = if place % 2 == 0 {
-            (Side::Buy, REFERENCE.wrapping_add(distance))
-        } else {
-            (Side::Sell, REFERENCE.wrapping_sub(distance))
+        let distance = match triggers {
+            Triggers::Many => 1_000 + place / 2,
+            Triggers::One => 1_000,
         };
-        let reference = FIRST_STOP.wrapping_add(place);
-        loaded.accept(plain_entry(reference, side, Kind::StopMarket(trigger), 1))?;
+        let side = side_at(place);
+        let trigger = match side {
+            Side::Buy => REFERENCE.wrapping_add(distance),
+            Side::Sell => REFERENCE.wrapping_sub(distance),
+        };
+        enter_stop(loaded, place, side, trigger)?;
     }
     Ok(())
 }
@@ -278,18 +266,14 @@ fn hold(loaded: &mut Loaded, stops: u32, triggers: Triggers) -> Result<(), LoadF
 fn trade(loaded: &mut Loaded, pairs: u32) -> Result<(), LoadFault> {
     for place in 0..pairs {
         let reference = FIRST_ORDER.wrapping_add(place.wrapping_mul(2));
-        let kind = Kind::Limit(REFERENCE);
-        loaded.accept(plain_entry(reference, Side::Sell, kind, 1))?;
-        loaded.accept(plain_entry(reference.wrapping_add(1), Side::Buy, kind, 1))?;
+        enter_order(loaded, reference, Side::Sell, REFERENCE, 1)?;
+        enter_order(loaded, reference.wrapping_add(1), Side::Buy, REFERENCE, 1)?;
     }
-    expect(loaded.trades().len() as u64, u64::from(pairs))
+    expect(loaded.trades().len(), pairs)
 }
 
 /// Cancels the held stops in another order.
 fn cancel(loaded: &mut Loaded, stops: u32) -> Result<(), LoadFault> {
-    if stops == 0 || stops > 1_000_000 {
-        return Err(LoadFault);
-    }
     for place in 0..stops {
         let reference = FIRST_STOP.wrapping_add(mixed(place, stops));
         loaded.accept(Command::Cancel {
@@ -297,24 +281,25 @@ fn cancel(loaded: &mut Loaded, stops: u32) -> Result<(), LoadFault> {
             reference,
         })?;
     }
-    expect_none_held(loaded)
+    expect(loaded.stops()?.len(), 0)
 }
 
-/// Prints a line for cascades: the nanoseconds of a stop, with its part of the commands that set them off.
-fn tell_cascades<R: Print + Clock>(
+/// Prints a line for cascades: the nanoseconds of a stop, with its part of the commands that set them off. Each command and
+/// each stop trades once, and none is left.
+fn measure_cascades<R: AllocGlobal + Print + Clock>(
     rt: &R,
-    loaded: &mut Loaded,
     cascades: Cascades,
 ) -> Result<(), LoadFault> {
-    open(loaded)?;
-    prepare(loaded, cascades)?;
+    let mut loaded = open(rt)?;
+    prepare(&mut loaded, cascades)?;
     let Ok(start) = Instant::now(rt) else {
         return Err(LoadFault);
     };
-    set_off(loaded, cascades)?;
+    set_off(&mut loaded, cascades)?;
     let each = nanoseconds_since(rt, &start, cascades.all())?;
-    expect_all_set_off(loaded, cascades)?;
     let (commands, stops, name) = (cascades.commands, cascades.stops, cascades.triggers.name());
+    expect(loaded.trades().len(), cascades.all().wrapping_add(commands))?;
+    expect(loaded.stops()?.len(), 0)?;
     let end = match cascades.end {
         End::Whole => "",
         End::Interrupted => ", interrupted in the middle",
@@ -326,23 +311,13 @@ fn tell_cascades<R: Print + Clock>(
 
 /// Enters the buys and the stops of all cascades.
 fn prepare(loaded: &mut Loaded, cascades: Cascades) -> Result<(), LoadFault> {
-    let levels = cascades.commands.wrapping_mul(cascades.levels());
-    for level in 0..levels {
-        let kind = Kind::Limit(cascades.limit(level));
-        loaded.accept(plain_entry(level, Side::Buy, kind, cascades.quantity(level)))?;
+    for level in 0..cascades.commands.wrapping_mul(cascades.levels()) {
+        let (limit, quantity) = (cascades.limit(level), cascades.quantity(level));
+        enter_order(loaded, level, Side::Buy, limit, quantity)?;
     }
-    for cascade in 0..cascades.commands {
-        prepare_stops(loaded, cascades, cascade)?;
-    }
-    Ok(())
-}
-
-/// Enters the stops of a cascade.
-fn prepare_stops(loaded: &mut Loaded, cascades: Cascades, cascade: u32) -> Result<(), LoadFault> {
-    let first = FIRST_STOP.wrapping_add(cascade.wrapping_mul(cascades.stops));
-    for stop in 0..cascades.stops {
-        let kind = Kind::StopMarket(cascades.trigger(cascade, stop));
-        loaded.accept(plain_entry(first.wrapping_add(stop), Side::Sell, kind, 1))?;
+    for place in 0..cascades.all() {
+        let (cascade, stop) = (place / cascades.stops.max(1), place % cascades.stops.max(1));
+        enter_stop(loaded, place, Side::Sell, cascades.trigger(cascade, stop))?;
     }
     Ok(())
 }
@@ -350,9 +325,11 @@ fn prepare_stops(loaded: &mut Loaded, cascades: Cascades, cascade: u32) -> Resul
 /// Sells a unit for each cascade, and ends the interruption that one may lead to.
 fn set_off(loaded: &mut Loaded, cascades: Cascades) -> Result<(), LoadFault> {
     for cascade in 0..cascades.commands {
-        let kind = Kind::Limit(cascades.limit(cascades.first_level(cascade)));
-        let reference = FIRST_ORDER.wrapping_add(cascade);
-        loaded.accept(plain_entry(reference, Side::Sell, kind, 1))?;
+        let (reference, limit) = (
+            FIRST_ORDER.wrapping_add(cascade),
+            cascades.trigger(cascade, 0),
+        );
+        enter_order(loaded, reference, Side::Sell, limit, 1)?;
     }
     match cascades.end {
         End::Whole => Ok(()),
@@ -360,19 +337,8 @@ fn set_off(loaded: &mut Loaded, cascades: Cascades) -> Result<(), LoadFault> {
     }
 }
 
-/// Each command and each stop has traded once, and none is held.
-fn expect_all_set_off(loaded: &Loaded, cascades: Cascades) -> Result<(), LoadFault> {
-    let trades = u64::from(cascades.all()).wrapping_add(u64::from(cascades.commands));
-    expect(loaded.trades().len() as u64, trades)?;
-    expect_none_held(loaded)
-}
-
-fn expect_none_held(loaded: &Loaded) -> Result<(), LoadFault> {
-    expect(loaded.stops()?.len() as u64, 0)
-}
-
-fn expect(found: u64, wanted: u64) -> Result<(), LoadFault> {
-    if found == wanted {
+fn expect(found: usize, wanted: u32) -> Result<(), LoadFault> {
+    if found == wanted as usize {
         Ok(())
     } else {
         Err(LoadFault)

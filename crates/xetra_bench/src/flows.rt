@@ -1,8 +1,8 @@
 //! The commands of members in the shapes of real days. They are drawn beside a desk that takes them: limits follow the
 //! market, cancellations name orders that live, and interruptions are ended.
 
-use crate::draws::Draws;
-use crate::loads::{LoadFault, Loaded};
+use crate::draws::{Draws, STAGES};
+use crate::loads::{LoadFault, Loaded, Opening};
 use crate::records::is_interruption;
 use std::alloc::Global;
 use xm_rules::{
@@ -10,10 +10,10 @@ use xm_rules::{
 };
 
 /// How many members enter orders.
-pub const MEMBERS: u32 = 100;
+const MEMBERS: u32 = 100;
 
 /// The last price of the day before, to which the market comes back.
-pub const REFERENCE: u32 = 10_000;
+const REFERENCE: u32 = 10_000;
 
 /// Where the generator begins.
 const SEED: u64 = 20260107;
@@ -78,16 +78,21 @@ impl Shape {
         }
     }
 
-    /// The widths of the price ranges.
-    pub fn widths(self) -> Widths {
+    /// What the desk of a day is opened with.
+    pub fn opening(self) -> Opening {
         let (dynamic, statics, wide) = match self {
             Shape::Interrupted => (5, 15, 10),
             _ => (50, 150, 100),
         };
-        Widths {
-            dynamic,
-            statics,
-            wide,
+        Opening {
+            members: MEMBERS,
+            reference: REFERENCE,
+            widths: Widths {
+                dynamic,
+                statics,
+                wide,
+            },
+            limit: 1_000_000,
         }
     }
 
@@ -149,36 +154,43 @@ impl Course {
                 quantity,
                 condition,
                 ..
-            } => self.add_entry(*quantity, *condition, reply),
+            } => {
+                let is_immediate = condition.is_immediate();
+                let is_killed = is_immediate && reply.quantity < u64::from(*quantity);
+                self.trading = self.trading.wrapping_add(u32::from(reply.trades > 0));
+                self.immediate = self.immediate.wrapping_add(u32::from(is_immediate));
+                self.killed = self.killed.wrapping_add(u32::from(is_killed));
+            }
             Command::Uncross => self.uncrosses = self.uncrosses.wrapping_add(1),
             _ => {}
-        }
-    }
-
-    fn add_entry(&mut self, quantity: u32, condition: Condition, reply: &Reply) {
-        if reply.trades > 0 {
-            self.trading = self.trading.wrapping_add(1);
-        }
-        if condition.is_immediate() {
-            self.immediate = self.immediate.wrapping_add(1);
-            if reply.quantity < u64::from(quantity) {
-                self.killed = self.killed.wrapping_add(1);
-            }
         }
     }
 }
 
 /// The commands of a day.
-#[derive(Drop)]
 pub struct Flow {
-    shape: Shape,
+    pub shape: Shape,
     draws: Draws,
     /// The member and reference of the orders that were entered and may live.
     names: Vec<(u32, u32)>,
     /// How many orders were entered.
     entered: u32,
-    commands: Vec<Command>,
-    course: Course,
+    pub commands: Vec<Command>,
+    pub course: Course,
+}
+
+// In a function of its own, so that whoever drops one proves one call.
+impl Drop for Flow {
+    fn drop(self) {
+        let Flow {
+            shape: _shape,
+            draws: _draws,
+            names: _names,
+            entered: _entered,
+            commands: _commands,
+            course: _course,
+        } = self;
+    }
 }
 
 impl Flow {
@@ -193,20 +205,17 @@ impl Flow {
         }
     }
 
-    pub fn commands(&self) -> &[Command] {
-        self.commands.as_slice()
-    }
-
-    pub fn course(&self) -> Course {
-        self.course
-    }
-
     /// Draws about so many commands, from pre-trading to the end of the day.
     pub fn day(&mut self, loaded: &mut Loaded, commands: u32) -> Result<(), LoadFault> {
         for _command in 0..(commands / 20).min(400) {
             self.passive(loaded)?;
         }
-        self.open(loaded)?;
+        // The opening call ends at once where there are no other calls.
+        self.give(loaded, Command::StartOpening)?;
+        match self.shape {
+            Shape::Auction => {}
+            _ => self.uncross(loaded)?,
+        }
         for _command in 0..commands {
             self.step(loaded)?;
         }
@@ -218,18 +227,9 @@ impl Flow {
         Ok(())
     }
 
-    /// The opening call, which ends at once where there are no other calls.
-    fn open(&mut self, loaded: &mut Loaded) -> Result<(), LoadFault> {
-        self.give(loaded, Command::StartOpening)?;
-        match self.shape {
-            Shape::Auction => Ok(()),
-            _ => self.uncross(loaded),
-        }
-    }
-
     /// Ends a call, stage after stage.
     fn uncross(&mut self, loaded: &mut Loaded) -> Result<(), LoadFault> {
-        for _stage in 0..3 {
+        for _stage in 0..STAGES {
             if loaded.is_in_call() {
                 self.give(loaded, Command::Uncross)?;
             }
@@ -239,30 +239,21 @@ impl Flow {
 
     fn step(&mut self, loaded: &mut Loaded) -> Result<(), LoadFault> {
         match loaded.phase() {
-            Phase::Call(auction, stage) => self.step_in_call(loaded, auction, stage),
-            _ => self.step_between_calls(loaded),
-        }
-    }
-
-    fn step_in_call(
-        &mut self,
-        loaded: &mut Loaded,
-        auction: Auction,
-        stage: CallStage,
-    ) -> Result<(), LoadFault> {
-        if self.is_one_in(self.shape.commands_in_call(stage)) {
-            return self.give(loaded, Command::Uncross);
-        }
-        match auction {
-            Auction::Interruption => self.passive(loaded),
-            _ => self.call(loaded),
-        }
-    }
-
-    fn step_between_calls(&mut self, loaded: &mut Loaded) -> Result<(), LoadFault> {
-        match self.shape.commands_between_calls() {
-            Some(commands) if self.is_one_in(commands) => self.give(loaded, Command::StartIntraday),
-            _ => self.trade(loaded),
+            Phase::Call(auction, stage) => {
+                if self.draws.is_one_in(self.shape.commands_in_call(stage)) {
+                    return self.give(loaded, Command::Uncross);
+                }
+                match auction {
+                    Auction::Interruption => self.passive(loaded),
+                    _ => self.call(loaded),
+                }
+            }
+            _ => match self.shape.commands_between_calls() {
+                Some(commands) if self.draws.is_one_in(commands) => {
+                    self.give(loaded, Command::StartIntraday)
+                }
+                _ => self.trade(loaded),
+            },
         }
     }
 
@@ -280,12 +271,15 @@ impl Flow {
 
     fn passive(&mut self, loaded: &mut Loaded) -> Result<(), LoadFault> {
         match self.draws.below(100) {
-            0..=1 => self.cross(loaded, 0, 10),
+            0..=1 => {
+                let lots = self.draws.from(1, 10);
+                self.cross(loaded, 0, lots, Condition::Plain)
+            }
             2..=11 => self.change(loaded),
             12..=49 => self.cancel(loaded),
             50..=61 if self.names.len() >= BOOK => self.cancel(loaded),
             _ => {
-                let far = if self.is_one_in(20) { 150 } else { 6 };
+                let far = if self.draws.is_one_in(20) { 150 } else { 6 };
                 self.rest(loaded, far)
             }
         }
@@ -294,7 +288,10 @@ impl Flow {
     fn crossing(&mut self, loaded: &mut Loaded) -> Result<(), LoadFault> {
         match self.draws.below(100) {
             0..=7 => self.cancel(loaded),
-            8..=49 => self.cross(loaded, 3, 30),
+            8..=49 => {
+                let lots = self.draws.from(1, 30);
+                self.cross(loaded, 3, lots, Condition::Plain)
+            }
             _ => self.rest(loaded, 3),
         }
     }
@@ -304,8 +301,8 @@ impl Flow {
         match self.draws.below(100) {
             0..=8 => self.cancel(loaded),
             9..=29 => {
-                let lots = 20 + self.draws.below(25);
-                self.cross_with(loaded, 20, lots, Condition::Plain)
+                let lots = self.draws.from(20, 25);
+                self.cross(loaded, 20, lots, Condition::Plain)
             }
             _ => self.rest(loaded, 3),
         }
@@ -334,9 +331,16 @@ impl Flow {
                 let member = self.draws.below(MEMBERS);
                 self.give(loaded, Command::CancelAll { member })
             }
-            1..=9 => self.cancel_unknown(loaded),
+            1..=9 => {
+                let member = self.draws.below(MEMBERS);
+                let reference = u32::MAX;
+                self.give(loaded, Command::Cancel { member, reference })
+            }
             10..=24 => self.cross_at_once(loaded, 2, 20),
-            25..=59 => self.rest_for_auctions(loaded),
+            25..=59 if self.draws.is_one_in(2) => {
+                self.rest_with(loaded, 10, Restriction::AuctionsOnly)
+            }
+            25..=59 => self.rest_with(loaded, 10, Restriction::ClosingOnly),
             60..=259 => self.crossing(loaded),
             _ => self.passive(loaded),
         }
@@ -353,9 +357,9 @@ impl Flow {
     }
 
     fn enter_in_call(&mut self, loaded: &mut Loaded) -> Result<(), LoadFault> {
-        let above = self.draws.below(61) + self.draws.below(61);
+        let above = self.draws.below(61).wrapping_add(self.draws.below(61));
         let limit = loaded.last_price().saturating_sub(60).saturating_add(above);
-        let kind = if self.is_one_in(12) {
+        let kind = if self.draws.is_one_in(12) {
             Kind::Market
         } else {
             Kind::Limit(limit)
@@ -374,15 +378,6 @@ impl Flow {
         self.rest_with(loaded, far, Restriction::Free)
     }
 
-    fn rest_for_auctions(&mut self, loaded: &mut Loaded) -> Result<(), LoadFault> {
-        let restriction = if self.is_one_in(2) {
-            Restriction::AuctionsOnly
-        } else {
-            Restriction::ClosingOnly
-        };
-        self.rest_with(loaded, 10, restriction)
-    }
-
     fn rest_with(
         &mut self,
         loaded: &mut Loaded,
@@ -395,12 +390,6 @@ impl Flow {
         self.enter(loaded, side, kind, quantity, restriction, Condition::Plain)
     }
 
-    /// An order of at most so many lots that crosses the spread, by fewer ticks than this.
-    fn cross(&mut self, loaded: &mut Loaded, deep: u32, most: u32) -> Result<(), LoadFault> {
-        let lots = 1 + self.draws.below(most.max(1));
-        self.cross_with(loaded, deep, lots, Condition::Plain)
-    }
-
     /// An immediate order that crosses the spread.
     fn cross_at_once(
         &mut self,
@@ -408,16 +397,17 @@ impl Flow {
         deep: u32,
         most: u32,
     ) -> Result<(), LoadFault> {
-        let lots = 1 + self.draws.below(most.max(1));
-        let condition = if self.is_one_in(2) {
+        let lots = self.draws.from(1, most);
+        let condition = if self.draws.is_one_in(2) {
             Condition::Ioc
         } else {
             Condition::Fok
         };
-        self.cross_with(loaded, deep, lots, condition)
+        self.cross(loaded, deep, lots, condition)
     }
 
-    fn cross_with(
+    /// An order of so many lots that crosses the spread, by up to so many ticks.
+    fn cross(
         &mut self,
         loaded: &mut Loaded,
         deep: u32,
@@ -425,7 +415,7 @@ impl Flow {
         condition: Condition,
     ) -> Result<(), LoadFault> {
         let side = self.draws.side();
-        let is_market = !condition.is_immediate() && self.is_one_in(7);
+        let is_market = !condition.is_immediate() && self.draws.is_one_in(7);
         let kind = if is_market {
             Kind::Market
         } else {
@@ -442,7 +432,7 @@ impl Flow {
         } else {
             Side::Sell
         };
-        let side = if self.is_one_in(3) {
+        let side = if self.draws.is_one_in(3) {
             back.opposite()
         } else {
             back
@@ -463,8 +453,8 @@ impl Flow {
     fn limit_behind(&mut self, loaded: &Loaded, side: Side, far: u32) -> u32 {
         let best = loaded.touch(side);
         let spread = best.abs_diff(loaded.touch(side.opposite()));
-        let closer = if spread > 1 && self.is_one_in(3) {
-            1 + self.draws.below(spread - 1)
+        let closer = if spread > 1 && self.draws.is_one_in(3) {
+            self.draws.from(1, spread - 1)
         } else {
             0
         };
@@ -475,62 +465,40 @@ impl Flow {
     /// A limit at the best one of the other side, or up to so many ticks behind it.
     fn limit_across(&mut self, loaded: &Loaded, side: Side, deep: u32) -> u32 {
         let other = side.opposite();
-        let deeper = self.draws.below(deep.wrapping_add(1).max(1));
+        let deeper = self.draws.below(deep.wrapping_add(1));
         worse(other, loaded.touch(other), deeper)
     }
 
     /// A number of ticks of about this mean, small ones most often.
     fn distance(&mut self, mean: u32) -> u32 {
         for distance in 0..FARTHEST {
-            if self.is_one_in(mean.wrapping_add(1)) {
+            if self.draws.is_one_in(mean.wrapping_add(1)) {
                 return distance;
             }
         }
         FARTHEST
     }
 
-    fn is_one_in(&mut self, cases: u32) -> bool {
-        self.draws.is_one_in(cases.max(1))
-    }
-
     /// The units of at most so many lots.
     fn lots(&mut self, most: u32) -> u32 {
-        (1 + self.draws.below(most.max(1))).wrapping_mul(10)
+        self.draws.from(1, most).wrapping_mul(10)
     }
 
     fn cancel(&mut self, loaded: &mut Loaded) -> Result<(), LoadFault> {
         match self.live(loaded) {
-            None => self.rest(loaded, 6),
-            Some(place) => self.cancel_at(loaded, place),
-        }
-    }
-
-    fn cancel_at(&mut self, loaded: &mut Loaded, place: usize) -> Result<(), LoadFault> {
-        if place >= self.names.len() {
-            return Err(LoadFault);
-        }
-        let (member, reference) = self.names.swap_remove(place);
-        self.give(loaded, Command::Cancel { member, reference })
-    }
-
-    /// A cancellation that is refused: no order has the name.
-    fn cancel_unknown(&mut self, loaded: &mut Loaded) -> Result<(), LoadFault> {
-        let cancel = Command::Cancel {
-            member: self.draws.below(MEMBERS),
-            reference: u32::MAX,
-        };
-        self.give(loaded, cancel)
-    }
-
-    fn change(&mut self, loaded: &mut Loaded) -> Result<(), LoadFault> {
-        match self.live(loaded) {
-            None => self.rest(loaded, 6),
-            Some(place) => self.change_at(loaded, place),
+            Some(place) if place < self.names.len() => {
+                let (member, reference) = self.names.swap_remove(place);
+                self.give(loaded, Command::Cancel { member, reference })
+            }
+            _ => self.rest(loaded, 6),
         }
     }
 
     /// A change of the quantity, which is less in most cases.
-    fn change_at(&mut self, loaded: &mut Loaded, place: usize) -> Result<(), LoadFault> {
+    fn change(&mut self, loaded: &mut Loaded) -> Result<(), LoadFault> {
+        let Some(place) = self.live(loaded) else {
+            return self.rest(loaded, 6);
+        };
         let (member, reference) = *self.names.get(place).ok_or(LoadFault)?;
         let change = Command::Change {
             member,
@@ -558,13 +526,13 @@ impl Flow {
     /// The place of a name, in half of the cases among the last ones.
     fn place(&mut self) -> usize {
         let names = self.names.len();
-        let from = if self.is_one_in(2) {
+        let from = if self.draws.is_one_in(2) {
             names.saturating_sub(YOUNG)
         } else {
             0
         };
         let span = (names - from).min(u32::MAX as usize) as u32;
-        from.wrapping_add(self.draws.below(span.max(1)) as usize)
+        from.wrapping_add(self.draws.below(span) as usize)
     }
 
     fn enter(
@@ -596,14 +564,14 @@ impl Flow {
     /// Gives the desk a command, and keeps it: a refusal is part of the load.
     fn give(&mut self, loaded: &mut Loaded, command: Command) -> Result<(), LoadFault> {
         let was_in_call = loaded.is_in_call();
-        if let Some(reply) = loaded.answer(&command) {
+        if let Ok(reply) = loaded.apply(&command) {
             self.course.add(&command, &reply);
         }
         if !was_in_call && is_interruption(loaded.phase()) {
             self.course.interruptions = self.course.interruptions.wrapping_add(1);
         }
         if self.commands.len() % COUNT_EVERY == 0 {
-            self.course.book = self.course.book.max(loaded.orders()?);
+            self.course.book = self.course.book.max(loaded.orders()?.len());
         }
         done(self.commands.push(command).is_ok())
     }

@@ -1,17 +1,20 @@
 //! Days of all commands in all phases that are drawn at random, bad ones among them. Orders and stops lie near the last
 //! price and the ranges are narrow, so that interruptions, cascades and their cuts are common.
 
-use crate::draws::{Draws, MEMBERS, STAGES, TODAY};
-use crate::loads::{LoadFault, Loaded};
+use crate::draws::{Draws, STAGES};
+use crate::loads::{LoadFault, Loaded, Opening, TODAY};
 use crate::records::{Record, is_interruption};
 use crate::said;
-use xm_rules::{Command, Kind, MAX_NUMBER, Restriction, Side, Validity};
+use xm_rules::{Command, Kind, MAX_NUMBER, Restriction, Side, Validity, Widths};
 
-/// How many days are drawn.
-const DAYS: u32 = 100;
+/// After how many days what they did is told.
+const DAYS: [u32; 2] = [100, 1_000];
 
 /// How many commands continuous trading has, beside those in calls.
 const COMMANDS: u32 = 80;
+
+/// How many members a desk has.
+const MEMBERS: u32 = 3;
 
 /// Where the generator begins.
 const SEED: u64 = 20260108;
@@ -24,6 +27,8 @@ const BAD: u32 = 40;
 struct Days {
     draws: Draws,
     record: Record,
+    /// How many days were run.
+    run: u32,
     /// How many orders and stops were entered on the day.
     entered: u32,
     /// Stops that came in.
@@ -32,19 +37,66 @@ struct Days {
     cut: u64,
 }
 
+/// Prints what the days did.
+pub fn count<R: AllocGlobal + Print>(rt: &R) -> Result<(), LoadFault> {
+    let mut days = Days {
+        draws: Draws::new(SEED),
+        record: Record::new(),
+        run: 0,
+        entered: 0,
+        reached: 0,
+        cut: 0,
+    };
+    for more in &DAYS {
+        run_to(rt, &mut days, *more)?;
+        tell(rt, &days)?;
+    }
+    Ok(())
+}
+
+/// Runs days until there were so many.
+fn run_to<R: AllocGlobal>(rt: &R, days: &mut Days, wanted: u32) -> Result<(), LoadFault> {
+    for _day in days.run..wanted {
+        let opening = days.opening();
+        let mut loaded = Loaded::open(rt.alloc(), opening)?;
+        days.day(&mut loaded)?;
+    }
+    days.run = wanted;
+    Ok(())
+}
+
+fn tell<R: Print>(rt: &R, days: &Days) -> Result<(), LoadFault> {
+    let record = &days.record;
+    let (run, accepted, refused) = (days.run, record.accepted, record.refused);
+    let (interruptions, reached, cut) = (record.interruptions, days.reached, days.cut);
+    said(println!(rt;
+        "{run} days of all commands: {accepted} accepted, {refused} refused, {interruptions} interruptions, {reached} stops came in, {cut} cascades cut"
+    ))?;
+    let (trades, orders, stops) = (record.trades, record.orders, record.stops);
+    let sum = record.sum;
+    said(println!(rt; "{trades} trades, {orders} orders and {stops} stops left, sum {sum}"))
+}
+
 impl Days {
-    fn new() -> Days {
-        Days {
-            draws: Draws::new(SEED),
-            record: Record::new(),
-            entered: 0,
-            reached: 0,
-            cut: 0,
+    /// Narrow ranges, and a journal that may get full.
+    fn opening(&mut self) -> Opening {
+        let dynamic = self.draws.below(5).wrapping_mul(10).wrapping_add(10);
+        let statics = self.draws.below(3).wrapping_mul(20).wrapping_add(10);
+        let wider = self.draws.below(2).wrapping_mul(10).wrapping_add(10);
+        Opening {
+            members: MEMBERS,
+            reference: 100,
+            widths: Widths {
+                dynamic,
+                statics,
+                wide: dynamic.wrapping_add(wider),
+            },
+            limit: self.draws.from(60, 100),
         }
     }
 
     /// A day from pre-trading to what is refused after its end.
-    fn run(&mut self, loaded: &mut Loaded) -> Result<(), LoadFault> {
+    fn day(&mut self, loaded: &mut Loaded) -> Result<(), LoadFault> {
         self.entered = 0;
         self.give_some(loaded, 6)?;
         self.call(loaded, Command::StartOpening, 12)?;
@@ -76,7 +128,8 @@ impl Days {
         if self.draws.is_one_in(30) {
             self.call(loaded, Command::StartIntraday, 8)?;
         } else {
-            self.give_drawn(loaded)?;
+            let command = self.command(loaded.last_price());
+            self.give(loaded, command)?;
         }
         self.uncross(loaded)
     }
@@ -94,21 +147,17 @@ impl Days {
 
     /// Gives commands that are drawn, fewer than this.
     fn give_some(&mut self, loaded: &mut Loaded, bound: u32) -> Result<(), LoadFault> {
-        for _command in 0..self.draws.below(bound.max(1)) {
-            self.give_drawn(loaded)?;
+        for _command in 0..self.draws.below(bound) {
+            let command = self.command(loaded.last_price());
+            self.give(loaded, command)?;
         }
         Ok(())
-    }
-
-    fn give_drawn(&mut self, loaded: &mut Loaded) -> Result<(), LoadFault> {
-        let command = self.command(loaded.last_price());
-        self.give(loaded, command)
     }
 
     /// Gives a command, and counts what it did.
     fn give(&mut self, loaded: &mut Loaded, command: Command) -> Result<(), LoadFault> {
         let held = loaded.stops()?.len();
-        self.record.give(loaded, command);
+        self.record.give(loaded, &command);
         let left = loaded.stops()?.len();
         if left < held && !deletes(&command) {
             self.reached = self.reached.wrapping_add((held - left) as u64);
@@ -119,33 +168,27 @@ impl Days {
         Ok(())
     }
 
+    /// A command, whether or not it is allowed now.
     fn command(&mut self, last: u32) -> Command {
         match self.draws.below(40) {
-            0 => self.phase_command(),
+            0 => match self.draws.below(5) {
+                0 => Command::StartOpening,
+                1 => Command::StartIntraday,
+                2 => Command::StartClosing,
+                3 => Command::Uncross,
+                _ => Command::EndDay,
+            },
             1 => Command::CancelAll {
                 member: self.draws.below(MEMBERS + 1),
             },
-            2..=3 => self.cancellation(),
+            2..=3 => {
+                let (member, reference) = self.name();
+                Command::Cancel { member, reference }
+            }
             4..=6 => self.change(last),
             7..=23 => self.stop(last),
             _ => self.order(last),
         }
-    }
-
-    /// A command of the phases, whether or not it is allowed now.
-    fn phase_command(&mut self) -> Command {
-        match self.draws.below(5) {
-            0 => Command::StartOpening,
-            1 => Command::StartIntraday,
-            2 => Command::StartClosing,
-            3 => Command::Uncross,
-            _ => Command::EndDay,
-        }
-    }
-
-    fn cancellation(&mut self) -> Command {
-        let (member, reference) = self.name();
-        Command::Cancel { member, reference }
     }
 
     fn change(&mut self, last: u32) -> Command {
@@ -158,40 +201,56 @@ impl Days {
         Command::Change {
             member,
             reference,
-            quantity: self.quantity(),
+            quantity: self.number(1, 6),
             limit,
         }
     }
 
     fn order(&mut self, last: u32) -> Command {
         let (member, reference) = self.new_name();
+        let side = self.draws.side();
+        let kind = if self.draws.is_one_in(4) {
+            Kind::Market
+        } else {
+            Kind::Limit(self.limit(last))
+        };
         Command::Enter {
             member,
             reference,
-            side: self.draws.side(),
-            kind: self.kind(last),
-            quantity: self.quantity(),
+            side,
+            kind,
+            quantity: self.number(1, 6),
             validity: self.validity(),
             restriction: self.restriction(),
             condition: self.draws.condition(12),
         }
     }
 
-    /// A stop, most often free and plain, as it must be.
+    /// A stop whose trigger is near the last price, and seldom at it, most often free and plain, as it must be.
     fn stop(&mut self, last: u32) -> Command {
         let (member, reference) = self.new_name();
         let side = self.draws.side();
+        let ticks = self.draws.below(5);
+        let trigger = match side {
+            Side::Buy => last.wrapping_add(ticks),
+            Side::Sell => last.saturating_sub(ticks),
+        };
+        let kind = if self.draws.is_one_in(2) {
+            Kind::StopMarket(trigger)
+        } else {
+            let limit = self.limit(trigger);
+            Kind::StopLimit { trigger, limit }
+        };
         Command::Enter {
             member,
             reference,
             side,
-            kind: self.kind_of_stop(side, last),
-            quantity: self.quantity(),
+            kind,
+            quantity: self.number(1, 6),
             validity: self.validity(),
-            restriction: if self.draws.is_one_in(BAD) {
-                Restriction::AuctionsOnly
-            } else {
-                Restriction::Free
+            restriction: match self.draws.below(BAD) {
+                0 => Restriction::AuctionsOnly,
+                _ => Restriction::Free,
             },
             condition: self.draws.condition(BAD),
         }
@@ -215,59 +274,33 @@ impl Days {
         (self.entered % MEMBERS, self.entered)
     }
 
-    fn kind(&mut self, last: u32) -> Kind {
-        if self.draws.is_one_in(4) {
-            Kind::Market
-        } else {
-            Kind::Limit(self.limit(last))
-        }
-    }
-
-    /// A stop whose trigger is near the last price, and seldom at it.
-    fn kind_of_stop(&mut self, side: Side, last: u32) -> Kind {
-        let ticks = self.draws.below(5);
-        let trigger = match side {
-            Side::Buy => last.wrapping_add(ticks),
-            Side::Sell => last.saturating_sub(ticks),
-        };
-        if self.draws.is_one_in(2) {
-            Kind::StopMarket(trigger)
-        } else {
-            Kind::StopLimit {
-                trigger,
-                limit: self.limit(trigger),
-            }
-        }
-    }
-
     /// A limit near a price.
     fn limit(&mut self, near: u32) -> u32 {
-        let above = self.draws.below(7);
-        self.number(near.saturating_sub(3).wrapping_add(above))
+        self.number(near.saturating_sub(3), 7)
     }
 
-    /// A restriction, of few orders.
-    fn restriction(&mut self) -> Restriction {
-        if self.draws.is_one_in(8) {
-            self.draws.restriction()
-        } else {
-            Restriction::Free
-        }
-    }
-
-    fn quantity(&mut self) -> u32 {
-        let quantity = 1 + self.draws.below(6);
-        self.number(quantity)
-    }
-
-    /// This number, or one that is out of range.
-    fn number(&mut self, number: u32) -> u32 {
+    /// One of so many numbers, from this one on, or one that is out of range.
+    fn number(&mut self, first: u32, numbers: u32) -> u32 {
+        let number = self.draws.from(first, numbers);
         if !self.draws.is_one_in(BAD) {
             number
         } else if self.draws.is_one_in(2) {
             0
         } else {
             MAX_NUMBER + 1
+        }
+    }
+
+    /// A restriction, of few orders.
+    fn restriction(&mut self) -> Restriction {
+        if !self.draws.is_one_in(8) {
+            return Restriction::Free;
+        }
+        match self.draws.below(8) {
+            0 => Restriction::OpeningOnly,
+            1 => Restriction::AuctionsOnly,
+            2 => Restriction::ClosingOnly,
+            _ => Restriction::Free,
         }
     }
 
@@ -286,31 +319,4 @@ fn deletes(command: &Command) -> bool {
         command,
         Command::Cancel { .. } | Command::CancelAll { .. } | Command::EndDay
     )
-}
-
-/// Prints what the days did.
-pub fn count<R: AllocGlobal + Print>(rt: &R) -> Result<(), LoadFault> {
-    let mut days = Days::new();
-    for _day in 0..DAYS {
-        run_day(rt, &mut days)?;
-    }
-    tell(rt, &days)
-}
-
-fn run_day<R: AllocGlobal>(rt: &R, days: &mut Days) -> Result<(), LoadFault> {
-    let settings = days.draws.narrow_settings().ok_or(LoadFault)?;
-    let mut loaded = Loaded::open(rt.alloc(), settings)?;
-    days.run(&mut loaded)
-}
-
-fn tell<R: Print>(rt: &R, days: &Days) -> Result<(), LoadFault> {
-    let record = &days.record;
-    let (accepted, refused) = (record.accepted, record.refused);
-    let (interruptions, reached, cut) = (record.interruptions, days.reached, days.cut);
-    said(println!(rt;
-        "{DAYS} days of all commands: {accepted} accepted, {refused} refused, {interruptions} interruptions, {reached} stops came in, {cut} cascades cut"
-    ))?;
-    let (trades, orders, stops) = (record.trades, record.orders, record.stops);
-    let sum = record.sum();
-    said(println!(rt; "{trades} trades, {orders} orders and {stops} stops left, sum {sum}"))
 }
