@@ -69,7 +69,7 @@ impl Loaded {
 
     /// Gives the desk a command, and answers its reply or its refusal.
     pub fn apply(&mut self, command: &Command) -> Result<Reply, Refusal> {
-        self.desk.apply(*command)
+        self.desk.apply(command)
     }
 
     /// Gives the desk a command that it accepts.

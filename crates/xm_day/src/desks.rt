@@ -166,7 +166,7 @@ fn take_row<A: Allocator + Copy>(
     if index >= desks.len() {
         return Ok(refused);
     }
-    match desks[index].apply(row.command) {
+    match desks[index].apply(&row.command) {
         Ok(_) => Ok(DayReport {
             accepted: report.accepted + 1,
             refused: report.refused,

@@ -1,30 +1,25 @@
 -- The change and the cancellation of an order: what they leave.
-use Rattle.std.proofs.Common.{◌≡◌, ◌∙◌, ℕ, ◌+◌, ◌≤◌, cond, count_by, filter, List, [], ◌∷◌, Bool, true, false, ◌||◌, not, if◌then◌else◌, find, Option, Some, None, refl, ap, subst, sym, arith}
+use Rattle.std.proofs.Common.{◌≡◌, ◌∙◌, ℕ, ◌+◌, ◌<◌, ◌≤◌, cond, count_by, filter, List, [], ◌∷◌, Bool, true, false, ◌||◌, not, if◌then◌else◌, find, Option, Some, None, refl, ap, subst, sym, arith}
 use Rattle.std.specs.Prelude.{is_some}
 use Rattle.std.specs.List.{list_any}
-use Rattle.xm_desk.proofs.Named.{any-find, any-left_out, find-named}
-use Rattle.xm_rules.proofs.Accepted.{accepted-below, change-accepted}
-use Rattle.xm_rules.specs.Commands.{is_in_range}
-use Rattle.xm_rules.specs.Orders.{is_named, is_stop_named, removed_stop}
-use Rattle.xm_rules.specs.Refusals.{first_failing, has_order, has_stop, is_given_in_range, is_limit_for_market, own_checks, refusal_of}
-use Rattle.xm_rules.specs.State.{State}
-use Rattle.std.proofs.Common.{Bor, option_copied}
-use Rattle.std.specs.Option.{IsSome}
+use Rattle.std.proofs.lemmas.List.Sums.{sum_by-cons}
 use Rattle.xm_book.specs.Places.{place_of}
-use Rattle.xm_desk.specs.Growth.{hand_of_change}
+use Rattle.xm_desk.proofs.Named.{any-find, any-left_out}
 use Rattle.xm_desk.specs.Incoming.{CanComeIn}
-use Rattle.xm_desk.specs.Made.{IsCounted, uses}
-use Rattle.xm_desk.specs.Settled.{Unsettled, played}
-use Rattle.xm_desk.specs.declared.unsettled.Hand.TheVariants.{Empty, Played, Kept}
-use Rattle.xm_rules.specs.Orders.{removed, with_rest}
-use Rattle.xm_rules.specs.Settling.{come}
-use Rattle.xm_rules.specs.Step.{changed, changed_order, keeps_priority}
+use Rattle.xm_desk.specs.Made.{uses}
+use Rattle.xm_desk.specs.Settled.{Unsettled}
+use Rattle.xm_desk.specs.declared.unsettled.Ready.TheVariants.{ForOrder}
+use Rattle.xm_rules.specs.Commands.{is_in_range}
+use Rattle.xm_rules.specs.Orders.{is_named, is_stop_named, removed, removed_stop}
+use Rattle.xm_rules.specs.Refusals.{first_failing, has_stop, is_given_in_range, is_limit_for_market, own_checks}
+use Rattle.xm_rules.specs.State.{State}
+use Rattle.xm_rules.specs.Step.{cancelled}
 use Rattle.xm_rules.specs.declared.commands.Command.TheVariants.{Change}
 use Rattle.xm_rules.specs.declared.orders.Order.{Order}
 use Rattle.xm_rules.specs.declared.orders.Stop.{Stop}
-use Rattle.std.proofs.lemmas.List.Sums.{sum_by-cons}
 use Rattle.xm_rules.specs.declared.replies.Refusal.{Refusal}
 use Rattle.xm_rules.specs.declared.replies.Refusal.TheVariants.{BadQuantity, BadPrice, UnknownOrder, NotChangeable}
+use Rattle.xm_rules.specs.declared.settings.TheConstants.{PHASE_COMMANDS_MORE}
 
 -- the checks of a change, by the order that is found
 abbrev pub checks_of : ℕ → Option ℕ → Option Order → Option Refusal
@@ -68,77 +63,30 @@ pub stop-unnamed : (s : State) (member reference : ℕ) → uses member referenc
 stop-unnamed s member reference once found =
     kept-all (is_stop_named member reference) s.stops (omega (arith, once, found-counted (is_named member reference) s.orders found))
 
--- a change that isn't refused finds its order
-either_known : (a b : Bool) → (a || b) ≡ true → b ≡ false → a ≡ true
-either_known true b h n = refl
-either_known false b h n = cc
+-- a name that no stop has leaves all stops
+unnamed_if : (p : Stop → Bool) (stop : Stop) (stops : List Stop) (b : Bool) → (b || list_any p stops) ≡ false → (list_any p stops ≡ false → filter (λ (x : Stop). not (p x)) stops ≡ stops)
+    → cond (not b) (stop ∷ filter (λ (x : Stop). not (p x)) stops) (filter (λ (x : Stop). not (p x)) stops) ≡ stop ∷ stops
+unnamed_if p stop stops true e more = cc
+unnamed_if p stop stops false e more = ap (λ (ss : List Stop). stop ∷ ss) (more e)
 
-pub change-finds : (s : State) (member reference quantity : ℕ) (limit : Option ℕ) → refusal_of s (Change member reference quantity limit) ≡ None
-    → is_some (find (is_named member reference) s.orders) ≡ true
-change-finds s member reference quantity limit h =
-    let passes = change-accepted s member reference quantity limit h in
-    sym (any-find (is_named member reference) s.orders) ∙ either_known (has_order s member reference) (has_stop s member reference) passes.known passes.no_stop
-
--- an order that keeps its priority
-pub kept-change : (v : Unsettled) (member reference quantity : ℕ) (limit : Option ℕ) (o : Order)
-    → find (is_named member reference) v.state.orders ≡ Some o → keeps_priority quantity limit o ≡ true
-    → v.hand ≡ hand_of_change quantity limit (find (is_named member reference) v.state.orders)
-    → record v { state = record v.state { orders = with_rest member reference quantity v.state.orders } }
-    ≡ record v { state = changed v.state quantity limit (find (is_named member reference) v.state.orders); hand = played v.hand }
-kept-change v member reference quantity limit o found keeps hand =
-    let name = find-named member reference v.state.orders o found in
-    let none : hand_of_change quantity limit (find (is_named member reference) v.state.orders) ≡ Empty = rw (found, keeps) refl in
-    let empty = hand ∙ none in
-    rw (found, keeps, name.member, name.reference, empty) refl
-
--- the place that is kept for one that comes in again
-pub replaced-hand : (v : Unsettled) (member reference quantity : ℕ) (limit : Option ℕ) (o : Order)
-    → find (is_named member reference) v.state.orders ≡ Some o → keeps_priority quantity limit o ≡ false
-    → v.hand ≡ hand_of_change quantity limit (find (is_named member reference) v.state.orders) → v.hand ≡ Kept (place_of (changed_order quantity limit o))
-replaced-hand v member reference quantity limit o found joins hand =
-    let kept : hand_of_change quantity limit (find (is_named member reference) v.state.orders) ≡ Kept (place_of (changed_order quantity limit o)) = rw (found, joins) refl in
-    hand ∙ kept
+unnamed-stay : (p : Stop → Bool) (stops : List Stop) → list_any p stops ≡ false → filter (λ (x : Stop). not (p x)) stops ≡ stops
+unnamed-stay p [] e = refl
+unnamed-stay p (stop ∷ stops) e = unnamed_if p stop stops (p stop) e (unnamed-stay p stops)
 
 abbrev pub without : ℕ → ℕ → Unsettled → Unsettled
 without member reference v = record v { state = record v.state { orders = removed member reference v.state.orders } }
 
--- what it then does
-pub replaced-change : (v : Unsettled) (member reference quantity : ℕ) (limit : Option ℕ) (o : Order)
-    → find (is_named member reference) v.state.orders ≡ Some o → keeps_priority quantity limit o ≡ false
-    → v.hand ≡ hand_of_change quantity limit (find (is_named member reference) v.state.orders) → uses member reference v.state ≤ 1
-    → record v { state = come (without member reference v).state (changed_order quantity limit o); hand = Played }
-    ≡ record v { state = changed v.state quantity limit (find (is_named member reference) v.state.orders); hand = played v.hand }
-replaced-change v member reference quantity limit o found joins hand once =
-    let name = find-named member reference v.state.orders o found in
-    let holds = replaced-hand v member reference quantity limit o found joins hand in
-    let stops = stop-unnamed v.state member reference once (ap is_some found) in
-    let comes : List Stop → State = λ ss. come (record v.state { orders = removed member reference v.state.orders; stops = ss }) (changed_order quantity limit o) in
-    let all : (record v { state = comes (removed_stop member reference v.state.stops); hand = Played })
-    ≡ (record v { state = changed v.state quantity limit (find (is_named member reference) v.state.orders); hand = played v.hand }) = rw (found, joins, name.member, name.reference, holds) refl in
-    ap (λ (ss : List Stop). let w : Unsettled = record v { state = comes ss; hand = Played } in w) (sym stops) ∙ all
+-- an order whose name no stop has leaves as a cancellation lets it
+pub leaves-as-cancelled : (s : State) (member reference : ℕ) → has_stop s member reference ≡ false → record s { orders = removed member reference s.orders } ≡ cancelled s member reference
+leaves-as-cancelled s member reference none =
+    ap (λ (ss : List Stop). let t : State = record s { orders = removed member reference s.orders; stops = ss } in t) (sym (unnamed-stay (is_stop_named member reference) s.stops none))
 
--- a reference to what is found
-pub copied-some : (r : Option (Bor Order)) (o : Option Order) → option_copied r ≡ o → is_some o ≡ true → IsSome r
-copied-some None o e h = let none : is_some o ≡ false = ap is_some (sym e) in cc
-copied-some (Some x) o e h = refl
-
-module _ (v : Unsettled) (member reference quantity : ℕ) (limit : Option ℕ) (o : Order) (found : find (is_named member reference) v.state.orders ≡ Some o) (joins : keeps_priority quantity limit o ≡ false)
-    (hand : v.hand ≡ hand_of_change quantity limit (find (is_named member reference) v.state.orders)) (lawful : refusal_of v.state (Change member reference quantity limit) ≡ None)
-    (counted : IsCounted v.state) where
-  can_come : CanComeIn (without member reference v) (changed_order quantity limit o)
-  can_come =
-      let name = find-named member reference v.state.orders o found in
-      let below = accepted-below v.state (Change member reference quantity limit) lawful in
-      record {
-        joins = record {
-          hand = replaced-hand v member reference quantity limit o found joins hand;
-          name = (λ i. list_any (is_named (name.member i) (name.reference i)) (removed member reference v.state.orders)) ∙ any-left_out (is_named member reference) v.state.orders;
-          rest = (change-accepted v.state member reference quantity limit lawful).quantity;
-          accepted = below;
-        };
-        sweeps = omega (arith, counted.sweeps, below);
-      }
-
-  -- a changed order can come in again, once it has left
-  pub replaced-can-come : (t : Unsettled) (again : Order) → t ≡ without member reference v → again ≡ changed_order quantity limit o → CanComeIn t again
-  replaced-can-come t again after is = subst (λ (x : Order). CanComeIn t x) (sym is) (subst (λ (u : Unsettled). CanComeIn u (changed_order quantity limit o)) (sym after) can_come)
+-- and can come in again
+pub can-come-again : (v t : Unsettled) (o : Order) → t ≡ without o.member o.reference v → v.ready ≡ ForOrder (place_of o) → is_in_range o.rest ≡ true
+    → v.state.accepted < v.state.settings.limit + PHASE_COMMANDS_MORE → v.state.sweeps < v.state.settings.limit + PHASE_COMMANDS_MORE → CanComeIn t o
+can-come-again v t o after ready rest accepted sweeps =
+    let left : CanComeIn (without o.member o.reference v) o = record {
+      joins = record { ready = ready; name = any-left_out (is_named o.member o.reference) v.state.orders; rest = rest; accepted = accepted };
+      sweeps = sweeps;
+    } in
+    subst (λ (u : Unsettled). CanComeIn u o) (sym after) left

@@ -10,7 +10,7 @@ use Rattle.xm_book.specs.TimeList.{TimeList}
 use Rattle.xm_desk.proofs.Frames.{counted, first-is, one}
 use Rattle.xm_desk.specs.Frame.{IsFramed}
 use Rattle.xm_desk.specs.Settled.{place_of_stop, places_in}
-use Rattle.xm_desk.specs.declared.unsettled.Hand.{Hand}
+use Rattle.xm_desk.specs.declared.unsettled.Ready.{Ready}
 use Rattle.xm_rules.specs.Orders.{is_stop_named, removed_stop}
 use Rattle.xm_rules.specs.declared.orders.Stop.{Stop}
 use Rattle.xm_stops.specs.HeldStops.{HeldStops, PendingStops, have_own_names}
@@ -107,19 +107,19 @@ module _ (stop : Stop) (stops left : List Stop) (taken : IsTaken stop stops left
       )
 
 -- the place of a stop is reserved
-module _ (accepted : ℕ) (book : TimeList) (held : HeldStops) (pending : PendingStops) (room : ℕ) (hand : Hand) (stop : Stop) (f : IsFramed accepted book held pending room hand) where
+module _ (accepted : ℕ) (book : TimeList) (held : HeldStops) (pending : PendingStops) (room : ℕ) (ready : Ready) (stop : Stop) (f : IsFramed accepted book held pending room ready) where
   here : one (same_place (place_of_stop stop)) (place_of_stop stop) ≡ (let once : ℕ = 1 in once)
   here = rw (same_place-self (place_of_stop stop)) refl
 
   pub held-reserved : (left : List Stop) → IsTaken stop held.stops left → list_any (same_place (place_of_stop stop)) book.reserved ≡ true
   held-reserved left taken =
-      let are = counted book.reserved held.stops pending.stops (places_in hand) f.reserved in
+      let are = counted book.reserved held.stops pending.stops (places_in ready) f.reserved in
       any-counted (same_place (place_of_stop stop)) book.reserved
       (omega (arith, are.each (place_of_stop stop), taken-sums stop held.stops left taken (λ (s : Stop). one (same_place (place_of_stop stop)) (place_of_stop s)), here))
 
   pub pending-reserved : slice_get pending.stops 0 ≡ Some stop → list_any (same_place (place_of_stop stop)) book.reserved ≡ true
   pending-reserved first =
-      let are = counted book.reserved held.stops pending.stops (places_in hand) f.reserved in
+      let are = counted book.reserved held.stops pending.stops (places_in ready) f.reserved in
       let one_at : Stop → ℕ = λ s. one (same_place (place_of_stop stop)) (place_of_stop s) in
       any-counted (same_place (place_of_stop stop)) book.reserved
       (omega (

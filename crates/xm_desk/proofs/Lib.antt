@@ -1,7 +1,7 @@
+mod Actions
 mod CallsEnd
 mod Frames
 mod Changing
-mod Entering
 mod Shorter
 mod Leaving
 mod Making

@@ -5,9 +5,9 @@ use Rattle.std.proofs.lemmas.List.Elements.{All-append, All-nil}
 use Rattle.xm_book.specs.TimeList.{TimeList}
 use Rattle.xm_desk.specs.Frame.{IsFramed}
 use Rattle.xm_desk.specs.Made.{AreSized, CanSettle, IsCounted, Makes}
-use Rattle.xm_desk.specs.Settled.{Unsettled, joined_in, places_in, played, possible_trades, trades_in}
-use Rattle.xm_desk.specs.declared.unsettled.Hand.{Hand}
-use Rattle.xm_desk.specs.declared.unsettled.Hand.TheVariants.{Empty, Held, Kept, Played, Spare}
+use Rattle.xm_desk.specs.Settled.{Unsettled, joined_in, places_in, once_used, possible_trades, trades_in}
+use Rattle.xm_desk.specs.declared.unsettled.Ready.{Ready}
+use Rattle.xm_desk.specs.declared.unsettled.Ready.TheVariants.{Nothing, ForStop, ForOrder, Used, OneTrade}
 use Rattle.xm_rules.proofs.Accepted.{accepted-below}
 use Rattle.xm_rules.proofs.Following.{act-follows}
 use Rattle.xm_rules.proofs.Kept.{act-keeps, step-counts}
@@ -26,16 +26,16 @@ use Rattle.xm_rules.specs.declared.settings.DeskSettings.{DeskSettings}
 use Rattle.xm_stops.specs.HeldStops.{HeldStops, PendingStops}
 use Rattle.xm_ticks.specs.declared.numbers.TheConstants.{MAX_QUANTITY}
 
-played-none : (hand : Hand) → places_in (played hand) ≡ []
-played-none Empty = refl
-played-none Spare = refl
-played-none (Kept place) = refl
-played-none (Held stop) = refl
-played-none Played = refl
+once_used-none : (ready : Ready) → places_in (once_used ready) ≡ []
+once_used-none Nothing = refl
+once_used-none OneTrade = refl
+once_used-none (ForOrder place) = refl
+once_used-none (ForStop stop) = refl
+once_used-none Used = refl
 
 module _ (u : Unsettled) (command : Command) (settled : u.pending ≡ []) (lawful : refusal_of u.state command ≡ None) (counted : IsCounted u.state) where
   abbrev acted : Unsettled
-  acted = record u { state = act u.state command; hand = played u.hand }
+  acted = record u { state = act u.state command; ready = once_used u.ready }
 
   none : length u.pending ≡ 0
   none = ap (λ (stops : List Stop). length stops) settled
@@ -47,7 +47,7 @@ module _ (u : Unsettled) (command : Command) (settled : u.pending ≡ []) (lawfu
       let keeps = act-keeps s command in
       let follows = act-follows s command lawful in
       record {
-        hand = played-none u.hand;
+        ready = once_used-none u.ready;
         accepted = omega (arith, accepted-below s command lawful, keeps.accepted, ap (λ (x : DeskSettings). x.limit) keeps.settings);
         sweeps = omega (arith, follows.numbers, counted.sweeps, keeps.accepted, none);
         names = λ m r. (let before = counted.names m r in
@@ -61,45 +61,45 @@ module _ (u : Unsettled) (command : Command) (settled : u.pending ≡ []) (lawfu
   can-settle a is = subst CanSettle (sym is) acted-standing
 
   -- and it is counted
-  pub stepped : (a t n : Unsettled) → a ≡ acted → t ≡ record a { state = settle a.state a.pending; pending = []; hand = t.hand }
-      → n ≡ record t { state = record t.state { accepted = t.state.accepted + 1 }; hand = Empty } → n ≡ record u { state = step u.state command; hand = Empty }
+  pub stepped : (a t n : Unsettled) → a ≡ acted → t ≡ record a { state = settle a.state a.pending; pending = []; ready = t.ready }
+      → n ≡ record t { state = record t.state { accepted = t.state.accepted + 1 }; ready = Nothing } → n ≡ record u { state = step u.state command; ready = Nothing }
   stepped a t n is settles counts =
       let one_more : State → State = λ s. record s { accepted = s.accepted + 1 } in
       counts
-      ∙ ap (λ (w : Unsettled). let x : Unsettled = record w { state = one_more w.state; hand = Empty } in x) settles
-      ∙ ap (λ (w : Unsettled). let x : Unsettled = record { state = one_more (settle w.state w.pending); pending = []; hand = Empty } in x) is
-      ∙ ap (λ (stops : List Stop). let x : Unsettled = record { state = one_more (settle (act u.state command) stops); pending = []; hand = Empty } in x) settled
-      ∙ ap (λ (s : State). let x : Unsettled = record { state = s; pending = []; hand = Empty } in x) (sym (step-counts u.state command))
-      ∙ ap (λ (stops : List Stop). let x : Unsettled = record { state = step u.state command; pending = stops; hand = Empty } in x) (sym settled)
+      ∙ ap (λ (w : Unsettled). let x : Unsettled = record w { state = one_more w.state; ready = Nothing } in x) settles
+      ∙ ap (λ (w : Unsettled). let x : Unsettled = record { state = one_more (settle w.state w.pending); pending = []; ready = Nothing } in x) is
+      ∙ ap (λ (stops : List Stop). let x : Unsettled = record { state = one_more (settle (act u.state command) stops); pending = []; ready = Nothing } in x) settled
+      ∙ ap (λ (s : State). let x : Unsettled = record { state = s; pending = []; ready = Nothing } in x) (sym (step-counts u.state command))
+      ∙ ap (λ (stops : List Stop). let x : Unsettled = record { state = step u.state command; pending = stops; ready = Nothing } in x) (sym settled)
 
 -- ---- what it trades
 
-in_hand_once : (hand : Hand) → joined_in hand + trades_in hand ≤ 1
-in_hand_once Empty = omega arith
-in_hand_once Spare = omega arith
-in_hand_once (Kept place) = omega arith
-in_hand_once (Held stop) = omega arith
-in_hand_once Played = omega arith
+ready_once : (ready : Ready) → joined_in ready + trades_in ready ≤ 1
+ready_once Nothing = omega arith
+ready_once OneTrade = omega arith
+ready_once (ForOrder place) = omega arith
+ready_once (ForStop stop) = omega arith
+ready_once Used = omega arith
 
 -- no more trades are possible than a book has orders
-pub few-possible : (u : Unsettled) (accepted limit room : ℕ) (book : TimeList) (held : HeldStops) (pending : PendingStops) (hand : Hand) → IsFramed accepted book held pending room hand
-    → u.state.orders ≡ book.orders → u.state.stops ≡ held.stops → u.pending ≡ pending.stops → u.hand ≡ hand → accepted ≤ limit + 64 → limit ≤ 1000000 → possible_trades u ≤ 2000000
-few-possible u accepted limit room book held pending hand f orders stops waiting in_hand below few =
+pub few-possible : (u : Unsettled) (accepted limit room : ℕ) (book : TimeList) (held : HeldStops) (pending : PendingStops) (ready : Ready) → IsFramed accepted book held pending room ready
+    → u.state.orders ≡ book.orders → u.state.stops ≡ held.stops → u.pending ≡ pending.stops → u.ready ≡ ready → accepted ≤ limit + 64 → limit ≤ 1000000 → possible_trades u ≤ 2000000
+few-possible u accepted limit room book held pending ready f orders stops waiting is_ready below few =
     omega (
       arith,
       f.orders,
-      in_hand_once hand,
+      ready_once ready,
       ap (λ (os : List Order). length os) orders,
       ap (λ (ss : List Stop). length ss) stops,
       ap (λ (ss : List Stop). length ss) waiting,
-      ap trades_in in_hand,
+      ap trades_in is_ready,
       below,
       few,
     )
 
 module _ (u n : Unsettled) (m : Makes u n) (few : possible_trades u ≤ 2000000) where
   -- the state that it leads to is counted
-  pub counted-after : (t : Unsettled) → n ≡ record t { state = record t.state { accepted = t.state.accepted + 1 }; hand = Empty } → t.pending ≡ [] → CanSettle t → IsCounted u.state
+  pub counted-after : (t : Unsettled) → n ≡ record t { state = record t.state { accepted = t.state.accepted + 1 }; ready = Nothing } → t.pending ≡ [] → CanSettle t → IsCounted u.state
       → t.state.accepted ≡ u.state.accepted → IsCounted n.state
   counted-after t counts settled can was same =
       let none = ap (λ (stops : List Stop). length stops) settled in

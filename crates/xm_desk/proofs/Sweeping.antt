@@ -8,7 +8,7 @@ use Rattle.xm_desk.proofs.CallsEnd.{in_range}
 use Rattle.xm_desk.specs.Incoming.{CanJoin}
 use Rattle.xm_book.specs.Places.{place_of}
 use Rattle.xm_desk.specs.Made.{AreSized}
-use Rattle.xm_desk.specs.declared.unsettled.Hand.TheVariants.{Kept, Played}
+use Rattle.xm_desk.specs.declared.unsettled.Ready.TheVariants.{ForOrder, Used}
 use Rattle.xm_desk.specs.Settled.{Unsettled}
 use Rattle.xm_rules.specs.Refusals.{has_order}
 use Rattle.xm_rules.specs.Settling as settling
@@ -80,14 +80,14 @@ not_zero n some = grind (arith, nat_tests)
 
 -- what rests of an order after its sweep can join, where it has units
 pub rest-can-join : (u t : Unsettled) (o : Order) (left : ℕ)
-    → t ≡ record u { state = swept u.state o; hand = if rest_after (settling.sweep_of u.state o) == 0 then Played else Kept (place_of o) } → CanJoin u o
+    → t ≡ record u { state = swept u.state o; ready = if rest_after (settling.sweep_of u.state o) == 0 then Used else ForOrder (place_of o) } → CanJoin u o
     → left ≡ rest_after (settling.sweep_of u.state o) → 0 < left → CanJoin t (record o { rest = left })
 rest-can-join u t o left after can is some =
     let w = settling.sweep_of u.state o in
     let within : rest_after w ≤ o.rest = omega arith in
-    let kept = ap (λ (b : Bool). if b then Played else Kept (place_of o)) (not_zero (rest_after w) (omega (arith, is, some))) in
+    let kept = ap (λ (b : Bool). if b then Used else ForOrder (place_of o)) (not_zero (rest_after w) (omega (arith, is, some))) in
     record {
-      hand = ap (λ (v : Unsettled). v.hand) after ∙ kept;
+      ready = ap (λ (v : Unsettled). v.ready) after ∙ kept;
       name = ap (λ (v : Unsettled). has_order v.state o.member o.reference) after ∙ unnamed-after o.member o.reference (fill w) u.state.orders can.name;
       rest = some_left o.rest left some (omega (arith, is, within)) can.rest;
       accepted = omega (arith, ap (λ (v : Unsettled). v.state.accepted) after, ap (λ (v : Unsettled). v.state.settings.limit) after, can.accepted);

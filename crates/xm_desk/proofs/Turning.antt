@@ -9,7 +9,7 @@ use Rattle.xm_desk.proofs.Making.{makes-both, makes-none}
 use Rattle.xm_desk.specs.Incoming.{CanComeIn}
 use Rattle.xm_desk.specs.Made.{CanSettle, HaveUnits, Makes, uses}
 use Rattle.xm_desk.specs.Settled.{Unsettled, place_of_stop}
-use Rattle.xm_desk.specs.declared.unsettled.Hand.TheVariants.{Kept, Played}
+use Rattle.xm_desk.specs.declared.unsettled.Ready.TheVariants.{ForOrder, Used}
 use Rattle.xm_rules.proofs.Following.{come-sweeps}
 use Rattle.xm_rules.proofs.Kept.{come-keeps}
 use Rattle.xm_rules.proofs.OneName.{come-uses}
@@ -33,7 +33,7 @@ taken-standing u can =
     let s = u.state in
     let have : Stop → Type 0 = λ stop. is_in_range stop.quantity ≡ true in
     record {
-      hand = can.hand;
+      ready = can.ready;
       accepted = can.accepted;
       sweeps = omega (arith, can.sweeps, as_many s u.pending);
       names = λ m r. omega (
@@ -105,12 +105,12 @@ module _ (u : Unsettled) (can : CanSettle u) (stop : Stop) (first : slice_get (u
   abbrev left : List Stop
   left = drop 1 (u.pending ++ reached u.state)
 
-  -- the stop is at hand
+  -- the stop is at ready
   abbrev before : Unsettled
-  before = record u { state = s; pending = left; hand = Kept (place_of_stop stop) }
+  before = record u { state = s; pending = left; ready = ForOrder (place_of_stop stop) }
 
   abbrev after : Unsettled
-  after = record u { state = come s (order_of_stop stop); pending = left; hand = Played }
+  after = record u { state = come s (order_of_stop stop); pending = left; ready = Used }
 
   next : u.pending ++ reached u.state ≡ stop ∷ left
   next = first-some (u.pending ++ reached u.state) stop first
@@ -136,7 +136,7 @@ module _ (u : Unsettled) (can : CanSettle u) (stop : Stop) (first : slice_get (u
   pub next-can-come : CanComeIn before (order_of_stop stop)
   next-can-come =
       record {
-        joins = record { hand = refl; name = free; rest = All-head (λ (x : Stop). is_in_range x.quantity ≡ true) stop left have; accepted = can.accepted };
+        joins = record { ready = refl; name = free; rest = All-head (λ (x : Stop). is_in_range x.quantity ≡ true) stop left have; accepted = can.accepted };
         sweeps = omega (arith, can.sweeps, can.accepted, one_less);
       }
 
@@ -147,7 +147,7 @@ module _ (u : Unsettled) (can : CanSettle u) (stop : Stop) (first : slice_get (u
   standing =
       let keeps = come-keeps s (order_of_stop stop) in
       record {
-        hand = refl;
+        ready = refl;
         accepted = omega (arith, can.accepted, keeps.accepted, ap (λ (x : DeskSettings). x.limit) keeps.settings);
         sweeps = omega (arith, can.sweeps, one_less, kept_stops, keeps.accepted, come-sweeps s (order_of_stop stop));
         names = λ m r. (let l = names m r in omega (arith, come-uses m r s (order_of_stop stop)));

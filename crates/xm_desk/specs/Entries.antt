@@ -1,5 +1,5 @@
--- The entry that a command is.
-use Rattle.std.specs.Prelude.{ℕ, Option, Some, None}
+-- The fields of an entry.
+use Rattle.std.specs.Prelude.{ℕ, Option}
 use Rattle.std.specs.Option.{option_map}
 use Rattle.xm_desk.specs.declared.entries.Entry.{Entry}
 use Rattle.xm_rules.specs.Commands.{trigger_of}
@@ -8,12 +8,6 @@ use Rattle.xm_rules.specs.declared.commands.Command.{Command}
 use Rattle.xm_rules.specs.declared.commands.Command.TheVariants.{Enter}
 use Rattle.xm_rules.specs.declared.orders.Order.{Order}
 use Rattle.xm_rules.specs.declared.orders.Stop.{Stop}
-
--- the entry of an order or of a stop, where the command is one
-abbrev pub entry_in : Command → Option Entry
-entry_in (Enter member reference side kind quantity validity restriction condition) =
-    Some (record { member = member; reference = reference; side = side; kind = kind; quantity = quantity; validity = validity; restriction = restriction; condition = condition })
-entry_in _ = None
 
 abbrev pub command_of : Entry → Command
 command_of e = Enter e.member e.reference e.side e.kind e.quantity e.validity e.restriction e.condition

@@ -4,23 +4,23 @@ use Rattle.xm_book.specs.Places.{SamePlaces}
 use Rattle.xm_book.specs.TimeList.{TimeList}
 use Rattle.xm_book.specs.declared.places.Place.{Place}
 use Rattle.xm_desk.specs.Settled.{joined_in, place_of_stop, places_in, stops_in, trades_in}
-use Rattle.xm_desk.specs.declared.unsettled.Hand.{Hand}
-use Rattle.xm_desk.specs.declared.unsettled.Hand.TheVariants.{Held}
+use Rattle.xm_desk.specs.declared.unsettled.Ready.{Ready}
+use Rattle.xm_desk.specs.declared.unsettled.Ready.TheVariants.{ForStop}
 use Rattle.xm_rules.specs.declared.orders.Stop.{Stop}
 use Rattle.xm_stops.specs.HeldStops.{HeldStops, PendingStops}
 
 abbrev pub places_of_stops : List Stop → List Place
 places_of_stops stops = map place_of_stop stops
 
-pub record IsFramed (accepted : ℕ) (book : TimeList) (held : HeldStops) (pending : PendingStops) (room : ℕ) (hand : Hand) : Type 0 where
-  -- the reserved places are those of held and pending stops and of the order in hand
-  pub reserved : SamePlaces book.reserved (places_of_stops held.stops ++ places_of_stops pending.stops ++ places_in hand)
-  -- each add and each stop is of a command that was accepted, or of the one in hand
-  pub adds : book.adds + length held.stops + length pending.stops ≤ accepted + joined_in hand
-  pub orders : length book.orders + length held.stops + length pending.stops ≤ accepted + joined_in hand
+pub record IsFramed (accepted : ℕ) (book : TimeList) (held : HeldStops) (pending : PendingStops) (room : ℕ) (ready : Ready) : Type 0 where
+  -- the reserved places are those of held and pending stops and of the order in ready
+  pub reserved : SamePlaces book.reserved (places_of_stops held.stops ++ places_of_stops pending.stops ++ places_in ready)
+  -- each add and each stop is of a command that was accepted, or of the one in ready
+  pub adds : book.adds + length held.stops + length pending.stops ≤ accepted + joined_in ready
+  pub orders : length book.orders + length held.stops + length pending.stops ≤ accepted + joined_in ready
   -- there is room for a trade of each order and each stop
-  pub trades : length book.orders + length held.stops + length pending.stops + trades_in hand ≤ room
+  pub trades : length book.orders + length held.stops + length pending.stops + trades_in ready ≤ room
   -- all held stops can become pending
-  pub waiting : length held.stops + stops_in hand ≤ pending.room
-  -- a stop in hand can join the held ones
-  pub ready : (stop : Stop) → hand ≡ Held stop → held.ready ≡ Some stop
+  pub waiting : length held.stops + stops_in ready ≤ pending.room
+  -- a stop in ready can join the held ones
+  pub stop : (held_for : Stop) → ready ≡ ForStop held_for → held.ready ≡ Some held_for

@@ -38,9 +38,9 @@ pub record IsCounted (s : State) : Type 0 where
   pub names : (member reference : ℕ) → uses member reference s ≤ 1
   pub units : HaveUnits s.stops
 
--- while stops are settled: nothing is at hand, the command is not counted yet, and the same holds with the pending stops
+-- while stops are settled: nothing is at ready, the command is not counted yet, and the same holds with the pending stops
 pub record CanSettle (u : Unsettled) : Type 0 where
-  pub hand : places_in u.hand ≡ []
+  pub ready : places_in u.ready ≡ []
   pub accepted : u.state.accepted < u.state.settings.limit + PHASE_COMMANDS_MORE
   pub sweeps : u.state.sweeps + length u.state.stops + length u.pending ≤ u.state.accepted + 1
   pub names : (member reference : ℕ) → uses member reference u.state + count_by (is_stop_named member reference) u.pending ≤ 1

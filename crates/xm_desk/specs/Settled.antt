@@ -2,55 +2,55 @@
 use Rattle.std.specs.Prelude.{ℕ, ◌+◌, List, [], ◌∷◌, length}
 use Rattle.xm_book.specs.Places.{place_of}
 use Rattle.xm_book.specs.declared.places.Place.{Place}
-use Rattle.xm_desk.specs.declared.unsettled.Hand.{Hand}
-use Rattle.xm_desk.specs.declared.unsettled.Hand.TheVariants.{Empty, Spare, Kept, Held, Played}
+use Rattle.xm_desk.specs.declared.unsettled.Ready.{Ready}
+use Rattle.xm_desk.specs.declared.unsettled.Ready.TheVariants.{Nothing, OneTrade, ForOrder, ForStop, Used}
 use Rattle.xm_rules.specs.Settling.{order_of_stop}
 use Rattle.xm_rules.specs.State.{State}
 use Rattle.xm_rules.specs.declared.orders.Stop.{Stop}
 
--- settled up to the pending stops: a state, the stops that are pending, and what the command has at hand
+-- settled up to the pending stops: a state, the stops that are pending, and what the command has at ready
 pub record Unsettled : Type 0 where
   pub state : State
   pub pending : List Stop
-  pub hand : Hand
+  pub ready : Ready
 
 -- no stop is pending
 pub record Settled : Type 0 where
   pub state : State
-  pub hand : Hand
+  pub ready : Ready
 
 -- the place in the book of the order that a stop becomes
 abbrev pub place_of_stop : Stop → Place
 place_of_stop stop = place_of (order_of_stop stop)
 
--- the places in the book that are kept for the order in hand
-abbrev pub places_in : Hand → List Place
-places_in (Kept place) = place ∷ []
-places_in (Held stop) = place_of_stop stop ∷ []
+-- the places in the book that are kept for the order in ready
+abbrev pub places_in : Ready → List Place
+places_in (ForOrder place) = place ∷ []
+places_in (ForStop stop) = place_of_stop stop ∷ []
 places_in _ = []
 
 -- how many orders or stops the command may have added
-abbrev pub joined_in : Hand → ℕ
-joined_in Played = 1
+abbrev pub joined_in : Ready → ℕ
+joined_in Used = 1
 joined_in _ = 0
 
 -- how many stops are to join the held ones
-abbrev pub stops_in : Hand → ℕ
-stops_in (Held stop) = 1
+abbrev pub stops_in : Ready → ℕ
+stops_in (ForStop stop) = 1
 stops_in _ = 0
 
 -- for how many trades there is room, beside one for each order and stop
-abbrev pub trades_in : Hand → ℕ
-trades_in Spare = 1
-trades_in (Kept place) = 1
-trades_in (Held stop) = 1
+abbrev pub trades_in : Ready → ℕ
+trades_in OneTrade = 1
+trades_in (ForOrder place) = 1
+trades_in (ForStop stop) = 1
 trades_in _ = 0
 
--- what was at hand is used
-abbrev pub played : Hand → Hand
-played Empty = Empty
-played _ = Played
+-- what was at ready is used
+abbrev pub once_used : Ready → Ready
+once_used Nothing = Nothing
+once_used _ = Used
 
 -- how many trades may still be made: each but the last of a sweep or of a call uses up an order
 abbrev pub possible_trades : Unsettled → ℕ
-possible_trades u = length u.state.orders + length u.state.stops + length u.pending + trades_in u.hand
+possible_trades u = length u.state.orders + length u.state.stops + length u.pending + trades_in u.ready

@@ -3,15 +3,15 @@ ghost use Rattle.std.specs.Prelude.{◌≡◌, ◌+◌, ◌<◌, [], IsTrue, Som
 ghost use Rattle.xm_auction.specs.Allotment.{uncrossing_of};
 ghost use Rattle.xm_desk.specs.Calls.{stage_after};
 ghost use Rattle.xm_desk.specs.Made.{Makes};
-ghost use Rattle.xm_desk.specs.declared.unsettled.Hand.TheVariants.{Played, Spare};
+ghost use Rattle.xm_desk.specs.declared.unsettled.Ready.TheVariants.{Used, OneTrade};
 ghost use Rattle.xm_rules.specs.Auction.{auction_price};
 ghost use Rattle.xm_rules.specs.State.{ranges, ref1};
-ghost use Rattle.xm_rules.specs.Step.{day_ended, traded, uncrossed, uncrossed_at};
+ghost use Rattle.xm_rules.specs.Step.{day_ended, traded, uncrossed_at};
 ghost use Rattle.xm_rules.specs.declared.phases.CallStage.TheVariants.{Ordinary};
 ghost use Rattle.xm_rules.specs.declared.phases.Phase.TheVariants.{Call};
 ghost use Rattle.xm_rules.specs.declared.settings.TheConstants.{PHASE_COMMANDS_MORE};
 
-use crate::unsettled::{Hand, Unsettled};
+use crate::unsettled::{Ready, Unsettled};
 use std::alloc::Allocator;
 use std::snapshot::Snapshot;
 use xm_auction::auction_price;
@@ -27,28 +27,14 @@ impl<A: Allocator + Copy> Unsettled<A> {
         self.phase = Phase::Call(auction, CallStage::Ordinary);
     }
 
-    /// The call ends: it trades at its price, where it has one that its stage lets it trade at. Outside a call nothing
-    /// changes.
-    pub fn uncross(&mut self)
-        requires hand { self.old.hand ≡ Spare }
-        requires sweeps { self.old.state.sweeps < self.old.state.settings.limit + PHASE_COMMANDS_MORE }
-        ensures uncrossed { self.new ≡ record self.old { state = uncrossed self.old.state self.old.state.phase; hand = Played } }
-        ensures made { Makes self.old self.new }
-    {
-        match self.phase {
-            Phase::Call(auction, stage) => self.end_call(auction, stage),
-            phase => self.go_on_in(phase),
-        }
-    }
-
-    /// The call of an auction ends in this stage.
-    fn end_call(&mut self, auction: Auction, stage: CallStage)
+    /// The call of an auction ends in this stage: it trades at its price, where it has one that this stage lets it trade at.
+    pub fn end_call(&mut self, auction: Auction, stage: CallStage)
         requires phase { self.old.state.phase ≡ Call auction stage }
-        requires hand { self.old.hand ≡ Spare }
+        requires ready { self.old.ready ≡ OneTrade }
         requires sweeps { self.old.state.sweeps < self.old.state.settings.limit + PHASE_COMMANDS_MORE }
         ensures uncrossed { self.new ≡ record self.old {
           state = uncrossed_at self.old.state auction stage (auction_price (Call auction stage) self.old.state.orders (ref1 self.old.state));
-          hand = Played;
+          ready = Used;
         } }
         ensures made { Makes self.old self.new }
     {
@@ -64,12 +50,12 @@ impl<A: Allocator + Copy> Unsettled<A> {
 
     /// The security goes on in a phase without a trade.
     fn go_on_in(&mut self, phase: Phase)
-        requires { self.old.hand ≡ Spare }
-        ensures phase { self.new ≡ record self.old { state = record self.old.state { phase = phase }; hand = Played } }
+        requires { self.old.ready ≡ OneTrade }
+        ensures phase { self.new ≡ record self.old { state = record self.old.state { phase = phase }; ready = Used } }
         ensures made { Makes self.old self.new }
     {
         self.phase = phase;
-        self.hand = Snapshot::of(&Hand::Played);
+        self.ready = Snapshot::of(&Ready::Used);
     }
 
     /// The stage that a call goes on in, where its price is outside a range that this stage asks.
@@ -101,11 +87,11 @@ impl<A: Allocator + Copy> Unsettled<A> {
     /// A call trades its volume at its price, and ends.
     fn trade(&mut self, auction: Auction, stage: CallStage, price: Price, volume: u64)
         requires price { auction_price (Call auction stage) self.old.state.orders (ref1 self.old.state) ≡ Some (price, volume) }
-        requires hand { self.old.hand ≡ Spare }
+        requires ready { self.old.ready ≡ OneTrade }
         requires sweeps { self.old.state.sweeps < self.old.state.settings.limit + PHASE_COMMANDS_MORE }
         ensures traded { self.new ≡ record self.old {
           state = traded self.old.state (uncrossing_of auction stage self.old.state.orders price volume);
-          hand = Played;
+          ready = Used;
         } }
         ensures made { Makes self.old self.new }
     {
@@ -115,7 +101,7 @@ impl<A: Allocator + Copy> Unsettled<A> {
         self.tape
             .allot(&mut self.book, auction, stage, self.sweeps, price, volume);
         self.phase = auction.next_phase();
-        self.hand = Snapshot::of(&Hand::Played);
+        self.ready = Snapshot::of(&Ready::Used);
     }
 
     /// The day ends: orders and stops that aren't valid beyond it are deleted.

@@ -1,37 +1,45 @@
 //! Changes and cancellations of orders and stops.
-ghost use Rattle.std.specs.Prelude.{◌≡◌, ◌<◌, ◌≤◌, IsTrue, None, false, find, length};
-ghost use Rattle.xm_desk.specs.Growth.{hand_of_change};
-ghost use Rattle.xm_desk.specs.Made.{IsCounted, Makes, uses};
-ghost use Rattle.xm_desk.specs.Settled.{played};
-ghost use Rattle.xm_rules.specs.Orders.{is_named, removed_stop, without_stops_of};
-ghost use Rattle.xm_rules.specs.Refusals.{refusal_of};
-ghost use Rattle.xm_rules.specs.Step.{all_cancelled, cancelled, changed};
-ghost use Rattle.xm_rules.specs.declared.commands.Command.TheVariants.{Change};
+ghost use Rattle.std.specs.Prelude.{◌≡◌, ◌<◌, ◌≤◌, ◌+◌, IfSome, IsTrue, false, find, length};
+ghost use Rattle.xm_book.specs.Places.{place_of};
+ghost use Rattle.xm_desk.specs.Made.{Makes, uses};
+ghost use Rattle.xm_desk.specs.declared.unsettled.Ready.TheVariants.{ForOrder, Used};
+ghost use Rattle.xm_rules.specs.Commands.{is_in_range};
+ghost use Rattle.xm_rules.specs.Orders.{is_named, removed_stop, with_rest, without_stops_of};
+ghost use Rattle.xm_rules.specs.Refusals.{has_stop};
+ghost use Rattle.xm_rules.specs.Settling.{come};
+ghost use Rattle.xm_rules.specs.Step.{all_cancelled, cancelled};
+ghost use Rattle.xm_rules.specs.declared.settings.TheConstants.{PHASE_COMMANDS_MORE};
 
 use crate::unsettled::Unsettled;
 use std::alloc::Allocator;
 use xm_book::Place;
+use xm_rules::Order;
 
 impl<A: Allocator + Copy> Unsettled<A> {
-    /// An order takes a new quantity, and a new limit where one is given: it keeps its priority, or
-    /// leaves the book and comes in again.
-    pub fn change(&mut self, member: u32, reference: u32, quantity: u32, limit: Option<u32>)
-        requires hand { self.old.hand ≡ hand_of_change quantity limit (find (is_named member reference) self.old.state.orders) }
-        requires lawful { refusal_of self.old.state (Change member reference quantity limit) ≡ None }
-        requires counted { IsCounted self.old.state }
-        ensures changed { self.new ≡ record self.old {
-          state = changed self.old.state quantity limit (find (is_named member reference) self.old.state.orders);
-          hand = played self.old.hand;
+    /// The order of a name keeps its priority, and has so many units left.
+    pub fn reduce(&mut self, member: u32, reference: u32, rest: u32)
+        requires { IfSome (find (is_named member reference) self.old.state.orders) (λ o. (1 ≤ rest) × (rest ≤ o.rest)) }
+        ensures reduced { self.new ≡ record self.old { state = record self.old.state { orders = with_rest member reference rest self.old.state.orders } } }
+        ensures made { Makes self.old self.new }
+    {
+        self.book.reduce(member, reference, rest);
+    }
+
+    /// The order of this one's name leaves the book, and comes in again as this one.
+    pub fn replace(&mut self, order: &Order)
+        requires ready { self.old.ready ≡ ForOrder (place_of order.now) }
+        requires name { has_stop self.old.state order.now.member order.now.reference ≡ false }
+        requires rest { IsTrue (is_in_range order.now.rest) }
+        requires accepted { self.old.state.accepted < self.old.state.settings.limit + PHASE_COMMANDS_MORE }
+        requires sweeps { self.old.state.sweeps < self.old.state.settings.limit + PHASE_COMMANDS_MORE }
+        ensures replaced { self.new ≡ record self.old {
+          state = come (cancelled self.old.state order.now.member order.now.reference) order.now;
+          ready = Used;
         } }
         ensures made { Makes self.old self.new }
     {
-        let order = *self.book.find(member, reference).unwrap();
-        if order.keeps_priority(quantity, limit) {
-            self.book.reduce(member, reference, quantity);
-        } else {
-            self.book.remove(member, reference);
-            self.come(&order.changed_order(quantity, limit));
-        }
+        self.book.remove(order.member, order.reference);
+        self.come(order);
     }
 
     /// The order, or the stop, of this name is deleted.

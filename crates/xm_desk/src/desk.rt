@@ -33,7 +33,7 @@ pub struct Desk<A: Allocator + Copy> {
 
 impl<A: Allocator + Copy> Model for Desk<A> {
     ghost use Rattle.std.specs.Prelude.{◌≡◌, true};
-    ghost use Rattle.xm_desk.specs.declared.unsettled.Hand.TheVariants.{Empty};
+    ghost use Rattle.xm_desk.specs.declared.unsettled.Ready.TheVariants.{Nothing};
     ghost use Rattle.xm_rules.specs.Step.{Journal, is_lawful, replay};
 
     ghost Value = { Journal };
@@ -43,7 +43,7 @@ impl<A: Allocator + Copy> Model for Desk<A> {
     ghost invariant = { λ d. record {
       replayed : d.market.state ≡ replay (record { settings = d.market.state.settings; commands = d.journal.items });
       lawful : is_lawful (record { settings = d.market.state.settings; commands = d.journal.items }) ≡ true;
-      hand : d.market.hand ≡ Empty;
+      ready : d.market.ready ≡ Nothing;
       positions : d.positions ≡ record { members = d.market.state.settings.members; trades = d.market.state.trades };
     } };
 }
@@ -110,24 +110,25 @@ impl<A: Allocator + Copy> Desk<A> {
     ///
     /// The refusal is that of `refusal_of`, or `OutOfMemory` where a growth was refused.
     #[inline(always)]
-    pub fn apply(&mut self, command: Command) -> Result<Reply, Refusal>
-        ensures accepted { OnOk result (refusal_of (replay self.old) command ≡ None) }
-        ensures journal { OnOk result (self.new ≡ record self.old { commands = self.old.commands ++ command ∷ [] }) }
+    pub fn apply(&mut self, command: &Command) -> Result<Reply, Refusal>
+        ensures accepted { OnOk result (refusal_of (replay self.old) command.now ≡ None) }
+        ensures journal { OnOk result (self.new ≡ record self.old { commands = self.old.commands ++ command.now ∷ [] }) }
         ensures reply { IfOk result (λ answer. answer ≡ reply (replay self.old) (replay self.new)) }
-        ensures refused { IfErr result (λ refusal. refusal ≢ Refusal.OutOfMemory → refusal_of (replay self.old) command ≡ Some refusal) }
-        ensures memory { result ≡ Err Refusal.OutOfMemory → refusal_of (replay self.old) command ≡ None }
+        ensures refused { IfErr result (λ refusal. refusal ≢ Refusal.OutOfMemory → refusal_of (replay self.old) command.now ≡ Some refusal) }
+        ensures memory { result ≡ Err Refusal.OutOfMemory → refusal_of (replay self.old) command.now ≡ None }
         ensures kept { OnErr result (self.new ≡ self.old) }
     {
-        if let Some(refusal) = self.market.refusal_of(&command) {
-            return Err(refusal);
-        }
+        let accepted = match self.market.check(command) {
+            Ok(accepted) => accepted,
+            Err(refusal) => return Err(refusal),
+        };
         self.journal.reserve(1)?;
-        self.market.reserve_for(&command)?;
+        self.market.reserve(&accepted)?;
         let first_trade = self.market.trades().len();
-        self.market.step(&command);
+        self.market.step(&accepted);
         let _ = self.market.trades(); // The range of their prices is known where they are asked for.
         let reply = self.market.record_from(first_trade, &mut self.positions);
-        self.journal.push_reserved(command);
+        self.journal.push_reserved(*command);
         Ok(reply)
     }
 
@@ -234,6 +235,9 @@ impl<A: Allocator + Copy> Desk<A> {
     pub fn refusal_of(&self, command: &Command) -> Option<Refusal>
         ensures { result ≡ refusal_of (replay self.now) command.now }
     {
-        self.market.refusal_of(command)
+        match self.market.check(command) {
+            Ok(_accepted) => None,
+            Err(refusal) => Some(refusal),
+        }
     }
 }

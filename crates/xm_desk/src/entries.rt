@@ -1,9 +1,11 @@
 //! Entries of orders and stops.
 ghost use Rattle.std.specs.Prelude.{◌≡◌, IsTrue};
-ghost use Rattle.xm_desk.specs.Entries.{entry_in, order_in, stop_in};
-ghost use Rattle.xm_rules.specs.Commands.{has_prices_in_range};
+ghost use Rattle.xm_desk.specs.Accepted.{entering};
+ghost use Rattle.xm_desk.specs.Entries.{order_in, stop_in};
+ghost use Rattle.xm_rules.specs.Commands.{has_prices_in_range, trigger_of};
 
-use xm_rules::{Command, Condition, Kind, Order, Restriction, Side, Stop, Validity};
+use crate::accepted::Action;
+use xm_rules::{Condition, Kind, Order, Restriction, Side, Stop, Validity};
 
 /// The entry of an order or of a stop.
 #[derive(Clone, Copy)]
@@ -19,36 +21,19 @@ pub struct Entry {
 }
 
 impl Entry {
-    /// The entry that a command is, if it is one.
-    pub fn of(command: &Command) -> Option<Entry>
-        ensures { result ≡ entry_in command.now }
+    /// What the entry does. Its prices are in range.
+    pub fn action(&self) -> Action
+        requires { IsTrue (has_prices_in_range self.now.kind) }
+        ensures { result ≡ entering self.now.condition (trigger_of self.now.kind) (order_in self.now) }
     {
-        match *command {
-            Command::Enter {
-                member,
-                reference,
-                side,
-                kind,
-                quantity,
-                validity,
-                restriction,
-                condition,
-            } => Some(Entry {
-                member,
-                reference,
-                side,
-                kind,
-                quantity,
-                validity,
-                restriction,
-                condition,
-            }),
-            _ => None,
+        match self.stop() {
+            None => Action::Enter(self.order(), self.condition),
+            Some(stop) => Action::Hold(stop),
         }
     }
 
     /// The order that is entered, or that the stop becomes. The prices are in range.
-    pub fn order(&self) -> Order
+    fn order(&self) -> Order
         requires { IsTrue (has_prices_in_range self.now.kind) }
         ensures { result ≡ order_in self.now }
     {
@@ -64,7 +49,7 @@ impl Entry {
     }
 
     /// The stop that is entered, if it is one. The prices are in range.
-    pub fn stop(&self) -> Option<Stop>
+    fn stop(&self) -> Option<Stop>
         requires { IsTrue (has_prices_in_range self.now.kind) }
         ensures { result ≡ stop_in self.now }
     {

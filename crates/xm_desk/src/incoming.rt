@@ -1,23 +1,19 @@
 //! Orders that come in, and stops that are entered.
-ghost use Rattle.std.specs.Prelude.{◌≡◌, ◌==◌, ◌++◌, ◌∷◌, [], false, true, if◌then◌else◌, IsTrue, None};
+ghost use Rattle.std.specs.Prelude.{◌≡◌, ◌==◌, ◌++◌, ◌∷◌, [], false, true, if◌then◌else◌, IsTrue};
 ghost use Rattle.xm_book.specs.Places.{place_of};
-ghost use Rattle.xm_desk.specs.Entries.{command_of, order_in};
-ghost use Rattle.xm_desk.specs.Growth.{hand_of_entry};
 ghost use Rattle.xm_desk.specs.Incoming.{CanComeIn, CanJoin};
-ghost use Rattle.xm_desk.specs.Made.{IsCounted, Makes};
-ghost use Rattle.xm_desk.specs.declared.unsettled.Hand.TheVariants.{Held, Kept, Played};
-ghost use Rattle.xm_rules.specs.Commands.{trigger_of};
-ghost use Rattle.xm_rules.specs.Refusals.{has_stop, refusal_of};
+ghost use Rattle.xm_desk.specs.Made.{Makes};
+ghost use Rattle.xm_desk.specs.declared.unsettled.Ready.TheVariants.{ForStop, ForOrder, Used};
+ghost use Rattle.xm_rules.specs.Refusals.{has_stop};
 ghost use Rattle.xm_rules.specs.Settling.{come, is_continuous, joined, sweep_of, swept};
-ghost use Rattle.xm_rules.specs.Step.{act, come_under};
+ghost use Rattle.xm_rules.specs.Step.{come_under};
 ghost use Rattle.xm_rules.specs.Sweep.{is_fillable, rest_after};
 ghost use Rattle.xm_rules.specs.declared.commands.Condition.TheVariants.{Fok, Ioc};
 ghost use Rattle.xm_rules.specs.declared.phases.Auction.TheVariants.{Interruption};
 ghost use Rattle.xm_rules.specs.declared.phases.CallStage.TheVariants.{Interrupted};
 ghost use Rattle.xm_rules.specs.declared.phases.Phase.TheVariants.{Call};
 
-use crate::entries::Entry;
-use crate::unsettled::{Hand, Unsettled};
+use crate::unsettled::{Ready, Unsettled};
 use std::alloc::Allocator;
 use std::snapshot::Snapshot;
 use xm_book::Place;
@@ -25,25 +21,11 @@ use xm_match::fillable;
 use xm_rules::{Auction, CallStage, Condition, Order, Phase, Stop};
 
 impl<A: Allocator + Copy> Unsettled<A> {
-    /// The stop of an entry is held, or its order comes in.
-    pub fn enter(&mut self, entry: &Entry)
-        requires hand { self.old.hand ≡ hand_of_entry (trigger_of entry.now.kind) (order_in entry.now) }
-        requires lawful { refusal_of self.old.state (command_of entry.now) ≡ None }
-        requires counted { IsCounted self.old.state }
-        ensures acted { self.new ≡ record self.old { state = act self.old.state (command_of entry.now); hand = Played } }
-        ensures made { Makes self.old self.new }
-    {
-        match entry.stop() {
-            None => self.come_under(entry.condition, &entry.order()),
-            Some(stop) => self.hold(stop),
-        }
-    }
-
     /// An order comes in, on its condition.
-    fn come_under(&mut self, condition: Condition, order: &Order)
+    pub fn enter(&mut self, order: &Order, condition: Condition)
         requires can { CanComeIn self.old order.now }
         requires immediate { condition ≡ Ioc → is_continuous self.old.state.phase ≡ true }
-        ensures come { self.new ≡ record self.old { state = come_under condition self.old.state order.now; hand = Played } }
+        ensures come { self.new ≡ record self.old { state = come_under condition self.old.state order.now; ready = Used } }
         ensures made { Makes self.old self.new }
     {
         match condition {
@@ -54,21 +36,21 @@ impl<A: Allocator + Copy> Unsettled<A> {
     }
 
     /// A stop joins the held ones last.
-    fn hold(&mut self, stop: Stop)
-        requires hand { self.old.hand ≡ Held stop }
-        requires name { has_stop self.old.state stop.member stop.reference ≡ false }
-        ensures held { self.new ≡ record self.old { state = record self.old.state { stops = self.old.state.stops ++ stop ∷ [] }; hand = Played } }
+    pub fn hold(&mut self, stop: &Stop)
+        requires ready { self.old.ready ≡ ForStop stop.now }
+        requires name { has_stop self.old.state stop.now.member stop.now.reference ≡ false }
+        ensures held { self.new ≡ record self.old { state = record self.old.state { stops = self.old.state.stops ++ stop.now ∷ [] }; ready = Used } }
         ensures made { Makes self.old self.new }
     {
-        self.stops.add(stop);
-        self.hand = Snapshot::of(&Hand::Played);
+        self.stops.add(*stop);
+        self.ready = Snapshot::of(&Ready::Used);
     }
 
     /// An order comes in. In continuous trading a free one is executed, and its rest joins the book last; any other order
     /// joins last.
     pub fn come(&mut self, order: &Order)
         requires { CanComeIn self.old order.now }
-        ensures come { self.new ≡ record self.old { state = come self.old.state order.now; hand = Played } }
+        ensures come { self.new ≡ record self.old { state = come self.old.state order.now; ready = Used } }
         ensures made { Makes self.old self.new }
     {
         if !(self.phase.is_continuous() && order.restriction.is_free()) {
@@ -84,7 +66,7 @@ impl<A: Allocator + Copy> Unsettled<A> {
     fn execute_or_kill(&mut self, order: &Order)
         requires can { CanComeIn self.old order.now }
         requires continuous { IsTrue (is_continuous self.old.state.phase) }
-        ensures come { self.new ≡ record self.old { state = come_under Ioc self.old.state order.now; hand = Played } }
+        ensures come { self.new ≡ record self.old { state = come_under Ioc self.old.state order.now; ready = Used } }
         ensures made { Makes self.old self.new }
     {
         if self.execute(order) > 0 {
@@ -95,7 +77,7 @@ impl<A: Allocator + Copy> Unsettled<A> {
     /// A fill-or-kill order comes in where it can be executed whole, and else is deleted.
     fn fill_or_kill(&mut self, order: &Order)
         requires { CanComeIn self.old order.now }
-        ensures come { self.new ≡ record self.old { state = come_under Fok self.old.state order.now; hand = Played } }
+        ensures come { self.new ≡ record self.old { state = come_under Fok self.old.state order.now; ready = Used } }
         ensures made { Makes self.old self.new }
     {
         if self.is_fillable(order) {
@@ -121,7 +103,7 @@ impl<A: Allocator + Copy> Unsettled<A> {
         requires continuous { IsTrue (is_continuous self.old.state.phase) }
         ensures swept { self.new ≡ record self.old {
           state = swept self.old.state order.now;
-          hand = if rest_after (sweep_of self.old.state order.now) == 0 then Played else Kept (place_of order.now);
+          ready = if rest_after (sweep_of self.old.state order.now) == 0 then Used else ForOrder (place_of order.now);
         } }
         ensures rest { result ≡ rest_after (sweep_of self.old.state order.now) }
         ensures made { Makes self.old self.new }
@@ -134,7 +116,7 @@ impl<A: Allocator + Copy> Unsettled<A> {
         self.phase = phase_after(self.phase, swept.interrupted);
         if swept.rest == 0 {
             self.book.release(&Place::of(order));
-            self.hand = Snapshot::of(&Hand::Played);
+            self.ready = Snapshot::of(&Ready::Used);
         }
         swept.rest
     }
@@ -142,21 +124,21 @@ impl<A: Allocator + Copy> Unsettled<A> {
     /// An order joins the book last, in the place that is kept for it.
     fn join(&mut self, order: Order)
         requires { CanJoin self.old order }
-        ensures joined { self.new ≡ record self.old { state = joined self.old.state order; hand = Played } }
+        ensures joined { self.new ≡ record self.old { state = joined self.old.state order; ready = Used } }
         ensures made { Makes self.old self.new }
     {
         self.book.add(order);
-        self.hand = Snapshot::of(&Hand::Played);
+        self.ready = Snapshot::of(&Ready::Used);
     }
 
     /// Gives up the place that is kept for an order of which nothing is left.
     fn give_up_place(&mut self, place: Place)
-        requires { self.old.hand ≡ Kept place }
-        ensures given_up { self.new ≡ record self.old { hand = Played } }
+        requires { self.old.ready ≡ ForOrder place }
+        ensures given_up { self.new ≡ record self.old { ready = Used } }
         ensures made { Makes self.old self.new }
     {
         self.book.release(&place);
-        self.hand = Snapshot::of(&Hand::Played);
+        self.ready = Snapshot::of(&Ready::Used);
     }
 }
 

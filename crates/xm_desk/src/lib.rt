@@ -1,15 +1,16 @@
 //! One security: its state is the replay of the commands that it accepted.
 #![tactic(auto)]
 
+mod accepted;
 mod calls;
 mod changes;
+mod checks;
 mod desk;
 mod entries;
 mod growth;
 mod incoming;
 mod market;
 mod opening;
-mod refusals;
 mod settling;
 mod tape;
 mod unsettled;

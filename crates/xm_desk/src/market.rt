@@ -1,11 +1,12 @@
 //! A security between commands.
-ghost use Rattle.std.specs.Prelude.{◌≡◌, ◌+◌, ◌++◌, ◌<◌, ◌≤◌, [], All, None, OnErr, OnOk, IfOk, drop, length, true};
-ghost use Rattle.xm_desk.specs.Growth.{hand_for};
+ghost use Rattle.std.specs.Prelude.{◌≡◌, ◌+◌, ◌++◌, ◌<◌, ◌≤◌, [], All, Some, OnErr, OnOk, IfErr, IfOk, drop, length, true};
+ghost use Rattle.xm_desk.specs.Accepted.{IsAccepted};
+ghost use Rattle.xm_desk.specs.Growth.{ready_for};
 ghost use Rattle.xm_desk.specs.Made.{AreSized, IsCounted, Makes};
 ghost use Rattle.xm_desk.specs.Opening.{are_widths};
 ghost use Rattle.xm_desk.specs.Settled.{places_in};
 ghost use Rattle.xm_desk.specs.declared.tape.TheConstants.{MAX_TRADES};
-ghost use Rattle.xm_desk.specs.declared.unsettled.Hand.TheVariants.{Empty};
+ghost use Rattle.xm_desk.specs.declared.unsettled.Ready.TheVariants.{Nothing};
 ghost use Rattle.xm_rules.specs.Quote.{best_limit, indicative};
 ghost use Rattle.xm_rules.specs.Refusals.{refusal_of};
 ghost use Rattle.xm_rules.specs.State.{opening, ref1, ref2};
@@ -14,8 +15,9 @@ ghost use Rattle.xm_rules.specs.Sums.{AreWithinLimits, IsBetweenMembers, total_m
 ghost use Rattle.xm_rules.specs.declared.settings.TheConstants.{PHASE_COMMANDS_MORE};
 ghost use Rattle.xm_ticks.specs.declared.numbers.TheConstants.{MAX_JOURNAL_LIMIT, MAX_PRICE};
 
+use crate::accepted::Accepted;
 use crate::tape::Tape;
-use crate::unsettled::{Hand, Unsettled};
+use crate::unsettled::{Ready, Unsettled};
 use std::alloc::Allocator;
 use std::marker::Model;
 use std::snapshot::Snapshot;
@@ -42,7 +44,7 @@ impl<A: Allocator + Copy> Model for Market<A> {
 
     ghost Value = { Settled };
 
-    ghost view = { λ m. record { state = m.inside.state; hand = m.inside.hand } };
+    ghost view = { λ m. record { state = m.inside.state; ready = m.inside.ready } };
 
     ghost invariant = { λ m. record {
       pending : m.inside.pending ≡ [];
@@ -54,7 +56,7 @@ impl<A: Allocator + Copy> Market<A> {
     /// A security before the day.
     pub fn new(alloc: A, seed: Seed, settings: DeskSettings) -> Market<A>
         requires { are_widths settings.widths ≡ true }
-        ensures { result ≡ record { state = opening settings; hand = Empty } }
+        ensures { result ≡ record { state = opening settings; ready = Nothing } }
     {
         Market {
             inside: Unsettled {
@@ -66,7 +68,7 @@ impl<A: Allocator + Copy> Market<A> {
                 pending: Pending::new(alloc),
                 tape: Tape::new(alloc, settings.reference),
                 sweeps: 0,
-                hand: Snapshot::of(&Hand::Empty),
+                ready: Snapshot::of(&Ready::Nothing),
             },
         }
     }
@@ -85,13 +87,13 @@ impl<A: Allocator + Copy> Market<A> {
         self.inside.stops.list()
     }
 
-    /// Why a command is refused, memory aside. Where this was part of `Desk::apply`, the command was taken apart there, byte by
-    /// byte, and put together again for the journal.
-    #[inline(never)]
-    pub fn refusal_of(&self, command: &Command) -> Option<Refusal>
-        ensures { result ≡ refusal_of self.now.state command.now }
+    /// What a command will do, or why it is refused, memory aside.
+    pub fn check(&self, command: &Command) -> Result<Accepted, Refusal>
+        ensures accepted { IfOk result (λ accepted. IsAccepted self.now.state accepted) }
+        ensures command { IfOk result (λ accepted. accepted.command.value ≡ command.now) }
+        ensures refused { IfErr result (λ refusal. refusal_of self.now.state command.now ≡ Some refusal) }
     {
-        self.inside.refusal_of(command)
+        self.inside.check(command)
     }
 
     /// Makes room for so many more trades ahead.
@@ -103,23 +105,23 @@ impl<A: Allocator + Copy> Market<A> {
 
     /// Reserves all that an accepted command may need, so that its step can't fail. The state is
     /// unchanged.
-    pub fn reserve_for(&mut self, command: &Command) -> Result<(), OutOfMemory>
-        requires hand { self.old.hand ≡ Empty }
-        requires lawful { refusal_of self.old.state command.now ≡ None }
-        ensures ok { OnOk result (self.new ≡ record self.old { hand = hand_for self.old.state command.now }) }
+    pub fn reserve(&mut self, accepted: &Accepted) -> Result<(), OutOfMemory>
+        requires ready { self.old.ready ≡ Nothing }
+        requires accepted { IsAccepted self.old.state accepted.now }
+        ensures ok { OnOk result (self.new ≡ record self.old { ready = ready_for accepted.now.action }) }
         ensures err { OnErr result (self.new ≡ self.old) }
     {
-        self.inside.reserve_for(command)
+        self.inside.reserve(accepted)
     }
 
     /// The step by an accepted command.
-    pub fn step(&mut self, command: &Command)
-        requires hand { self.old.hand ≡ hand_for self.old.state command.now }
-        requires lawful { refusal_of self.old.state command.now ≡ None }
-        ensures state { self.new ≡ record { state = step self.old.state command.now; hand = Empty } }
+    pub fn step(&mut self, accepted: &Accepted)
+        requires ready { self.old.ready ≡ ready_for accepted.now.action }
+        requires accepted { IsAccepted self.old.state accepted.now }
+        ensures state { self.new ≡ record { state = step self.old.state accepted.now.command.value; ready = Nothing } }
         ensures appended { self.new.state.trades ≡ self.old.state.trades ++ new_trades self.old.state self.new.state }
     {
-        self.inside.step(command);
+        self.inside.step(accepted);
     }
 
     /// Records the trades from this one on, and answers the reply to the command that made them: their sums are by how much
@@ -225,28 +227,28 @@ impl<A: Allocator + Copy> Market<A> {
 
 impl<A: Allocator + Copy> Unsettled<A> {
     /// The step by an accepted command: what it does, settled and counted.
-    fn step(&mut self, command: &Command)
-        requires hand { self.old.hand ≡ hand_for self.old.state command.now }
+    fn step(&mut self, accepted: &Accepted)
+        requires ready { self.old.ready ≡ ready_for accepted.now.action }
         requires settled { self.old.pending ≡ [] }
-        requires lawful { refusal_of self.old.state command.now ≡ None }
+        requires accepted { IsAccepted self.old.state accepted.now }
         requires counted { IsCounted self.old.state }
-        ensures stepped { self.new ≡ record self.old { state = step self.old.state command.now; hand = Empty } }
+        ensures stepped { self.new ≡ record self.old { state = step self.old.state accepted.now.command.value; ready = Nothing } }
         ensures counted { IsCounted self.new.state }
         ensures made { Makes self.old self.new }
     {
         let _ = self.settings.limit.get(); // The range of the limit is known where it is asked for.
-        self.act(command);
+        self.act(accepted);
         self.settle();
         self.count();
     }
 
     /// Counts a command, for which nothing is kept any more.
     fn count(&mut self)
-        requires hand { places_in self.old.hand ≡ [] }
+        requires ready { places_in self.old.ready ≡ [] }
         requires room { self.old.state.accepted < self.old.state.settings.limit + PHASE_COMMANDS_MORE }
-        ensures { self.new ≡ record self.old { state = record self.old.state { accepted = self.old.state.accepted + 1 }; hand = Empty } }
+        ensures { self.new ≡ record self.old { state = record self.old.state { accepted = self.old.state.accepted + 1 }; ready = Nothing } }
     {
         self.accepted += 1;
-        self.hand = Snapshot::of(&Hand::Empty);
+        self.ready = Snapshot::of(&Ready::Nothing);
     }
 }

@@ -2,10 +2,10 @@
 ghost use Rattle.std.specs.Prelude.{◌≡◌, ◌<◌, ◌+◌, ◌++◌, [], IfNone, IfSome, IsTrue, drop, false, length, slice_get};
 ghost use Rattle.xm_desk.specs.Made.{CanSettle, Makes};
 ghost use Rattle.xm_desk.specs.Settled.{place_of_stop, places_in};
-ghost use Rattle.xm_desk.specs.declared.unsettled.Hand.TheVariants.{Kept};
+ghost use Rattle.xm_desk.specs.declared.unsettled.Ready.TheVariants.{ForOrder};
 ghost use Rattle.xm_rules.specs.Settling.{reached, released, settle};
 
-use crate::unsettled::{Hand, Unsettled};
+use crate::unsettled::{Ready, Unsettled};
 use std::alloc::Allocator;
 use std::snapshot::Snapshot;
 use xm_book::Place;
@@ -16,7 +16,7 @@ impl<A: Allocator + Copy> Unsettled<A> {
     /// growth is needed, and nothing can fail.
     pub fn settle(&mut self)
         requires { CanSettle self.old }
-        ensures settled { self.new ≡ record self.old { state = settle self.old.state self.old.pending; pending = []; hand = self.new.hand } }
+        ensures settled { self.new ≡ record self.old { state = settle self.old.state self.old.pending; pending = []; ready = self.new.ready } }
         ensures standing { CanSettle self.new }
         ensures made { Makes self.old self.new }
     {
@@ -52,13 +52,13 @@ impl<A: Allocator + Copy> Unsettled<A> {
 
     /// The first pending stop is the next to come in: its place is the one that is kept.
     fn next_pending(&mut self) -> Option<Stop>
-        requires { places_in self.old.hand ≡ [] }
+        requires { places_in self.old.ready ≡ [] }
         ensures first { result ≡ slice_get self.old.pending 0 }
-        ensures some { IfSome result (λ stop. self.new ≡ record self.old { pending = drop 1 self.old.pending; hand = Kept (place_of_stop stop) }) }
+        ensures some { IfSome result (λ stop. self.new ≡ record self.old { pending = drop 1 self.old.pending; ready = ForOrder (place_of_stop stop) }) }
         ensures none { IfNone result (self.new ≡ self.old) }
     {
         let stop = self.pending.pop()?;
-        self.hand = Snapshot::of(&Hand::Kept(Place::of(&stop.order_of_stop())));
+        self.ready = Snapshot::of(&Ready::ForOrder(Place::of(&stop.order_of_stop())));
         Some(stop)
     }
 }

@@ -1,35 +1,35 @@
 //! A security in the middle of a command: settled up to the pending stops.
-ghost use Rattle.std.specs.Prelude.{◌≡◌, [], None};
-ghost use Rattle.xm_desk.specs.Growth.{hand_for};
+ghost use Rattle.std.specs.Prelude.{◌≡◌, []};
+ghost use Rattle.xm_desk.specs.Accepted.{IsAccepted};
+ghost use Rattle.xm_desk.specs.Growth.{ready_for};
 ghost use Rattle.xm_desk.specs.Made.{IsCounted, Makes};
-ghost use Rattle.xm_desk.specs.Settled.{played};
-ghost use Rattle.xm_rules.specs.Refusals.{refusal_of};
+ghost use Rattle.xm_desk.specs.Settled.{once_used};
 ghost use Rattle.xm_rules.specs.State.{ref1, ref2};
 ghost use Rattle.xm_rules.specs.Step.{act};
 
-use crate::entries::Entry;
+use crate::accepted::{Accepted, Action};
 use crate::tape::Tape;
 use std::alloc::Allocator;
 use std::marker::Model;
 use std::snapshot::Snapshot;
 use xm_book::{Book, Place};
-use xm_rules::{Auction, Command, DeskSettings, Phase, Stop};
+use xm_rules::{DeskSettings, Phase, Stop};
 use xm_stops::{Pending, Stops};
 use xm_ticks::Price;
 
 /// What is kept ready for a command.
 #[derive(Clone, Copy)]
-pub enum Hand {
+pub enum Ready {
     /// Nothing.
-    Empty,
+    Nothing,
     /// Room for one trade more than there are orders and stops.
-    Spare,
+    OneTrade,
     /// This place in the book, for an order.
-    Kept(Place),
+    ForOrder(Place),
     /// Room among the held stops for this one, and a place in the book for its order.
-    Held(Stop),
+    ForStop(Stop),
     /// It was used: an order or a stop joined, or nothing was left that could.
-    Played,
+    Used,
 }
 
 /// All that changes orders, trades and stops stands on this. A clause sees a state of the model, the pending stops, and what is
@@ -46,7 +46,7 @@ pub struct Unsettled<A: Allocator + Copy> {
     // The number of sweeps, and of calls that traded.
     pub sweeps: u64,
     // A snapshot has no bytes.
-    pub hand: Snapshot<Hand>,
+    pub ready: Snapshot<Ready>,
 }
 
 impl<A: Allocator + Copy> Model for Unsettled<A> {
@@ -68,13 +68,13 @@ impl<A: Allocator + Copy> Model for Unsettled<A> {
         sweeps = u.sweeps;
       };
       pending = u.pending.stops;
-      hand = u.hand.value;
+      ready = u.ready.value;
     } };
 
     ghost invariant = { λ u. record {
       opening : u.tape.opening ≡ u.settings.reference;
       widths : are_widths u.settings.widths ≡ true;
-      frame : IsFramed u.accepted u.book u.stops u.pending u.tape.room u.hand.value;
+      frame : IsFramed u.accepted u.book u.stops u.pending u.tape.room u.ready.value;
     } };
 }
 
@@ -94,32 +94,28 @@ impl<A: Allocator + Copy> Unsettled<A> {
     }
 
     /// What an accepted command does, before the stops that it reached are settled.
-    pub fn act(&mut self, command: &Command)
-        requires hand { self.old.hand ≡ hand_for self.old.state command.now }
+    pub fn act(&mut self, accepted: &Accepted)
+        requires ready { self.old.ready ≡ ready_for accepted.now.action }
         requires settled { self.old.pending ≡ [] }
-        requires lawful { refusal_of self.old.state command.now ≡ None }
+        requires accepted { IsAccepted self.old.state accepted.now }
         requires counted { IsCounted self.old.state }
-        ensures acted { self.new ≡ record self.old { state = act self.old.state command.now; hand = played self.old.hand } }
+        ensures acted { self.new ≡ record self.old { state = act self.old.state accepted.now.command.value; ready = once_used self.old.ready } }
         ensures made { Makes self.old self.new }
     {
-        if let Some(entry) = Entry::of(command) {
-            return self.enter(&entry);
-        }
-        match command {
-            Command::Change {
+        match &accepted.action {
+            Action::Enter(order, condition) => self.enter(order, *condition),
+            Action::Hold(stop) => self.hold(stop),
+            Action::Reduce {
                 member,
                 reference,
-                quantity,
-                limit,
-            } => self.change(*member, *reference, *quantity, *limit),
-            Command::Cancel { member, reference } => self.cancel(*member, *reference),
-            Command::CancelAll { member } => self.cancel_all(*member),
-            Command::StartOpening => self.start_call(Auction::Opening),
-            Command::StartIntraday => self.start_call(Auction::Intraday),
-            Command::StartClosing => self.start_call(Auction::Closing),
-            Command::Uncross => self.uncross(),
-            Command::EndDay => self.end_day(),
-            _ => unreachable!(),
+                rest,
+            } => self.reduce(*member, *reference, *rest),
+            Action::Replace(order) => self.replace(order),
+            Action::Cancel { member, reference } => self.cancel(*member, *reference),
+            Action::CancelAll { member } => self.cancel_all(*member),
+            Action::StartCall(auction) => self.start_call(*auction),
+            Action::EndCall(auction, stage) => self.end_call(*auction, *stage),
+            Action::EndDay => self.end_day(),
         }
     }
 }

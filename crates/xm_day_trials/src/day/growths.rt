@@ -32,7 +32,7 @@ fn take(desk: &mut Desk<Global>, rows: &[Row]) -> DayReport {
         refused: 0,
     };
     for row in rows {
-        match desk.apply(row.command) {
+        match desk.apply(&row.command) {
             Ok(_reply) => report.accepted = report.accepted.wrapping_add(1),
             Err(_refusal) => report.refused = report.refused.wrapping_add(1),
         }

@@ -88,7 +88,7 @@ impl<A: Allocator + Copy> Day<A> {
     pub fn apply(&mut self, rt: &impl Abort, command: Command) -> Result<Reply, Refusal> {
         let expected = self.desk.refusal_of(&command);
         let accepted = self.desk.journal().len();
-        let answer = self.desk.apply(command);
+        let answer = self.desk.apply(&command);
         match expected {
             Some(refusal) => assert!(rt; answer == Err(refusal)),
             None => assert!(rt; answer.is_ok() || answer == Err(Refusal::OutOfMemory)),

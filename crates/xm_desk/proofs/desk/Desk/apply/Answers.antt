@@ -16,27 +16,27 @@ use Rattle.xm_rules.specs.declared.settings.DeskSettings.{DeskSettings}
 use Rattle.xm_ticks.specs.declared.numbers.TheConstants.{MAX_JOURNAL_LIMIT, MAX_PRICE}
 use Rattle.xm_desk.proofs.Recording.{ArePriced, all-recorded, are_between, are_within, recorded}
 use Rattle.xm_desk.proofs.desk.Desk.apply.Given.{Over}
-use Rattle.xm_desk.proofs.desk.Desk.apply.Goals.{After-push_reserved}
+use Rattle.xm_desk.proofs.desk.Desk.apply.Goals.{After-drop-accepted-2}
 use Rattle.xm_desk.proofs.desk.Desk.apply.Goals as goal
 
-pub returns-in-Some-clause-memory : goal.returns-in-Some-clause-memory
-returns-in-Some-clause-memory g c =
+pub returns-in-Err-clause-memory : goal.returns-in-Err-clause-memory
+returns-in-Err-clause-memory g c =
     λ e.
-    let refused : refusal_of (replay c.args.self.now) c.args.command ≡ Some c.in-Some.refusal = search rules in
-    let same : c.in-Some.refusal ≡ OutOfMemory = cc in
-    absurd (refusal-not_memory (replay c.args.self.now) c.args.command (refused ∙ ap Some same))
+    let refused : refusal_of (replay c.args.self.now) c.args.command.now ≡ Some c.in-Err.refusal = search rules in
+    let same : c.in-Err.refusal ≡ OutOfMemory = cc in
+    absurd (refusal-not_memory (replay c.args.self.now) c.args.command.now (refused ∙ ap Some same))
 
 -- what the desk holds, and what of it was there before the step
-held : (g : Over) (c : After-push_reserved g) → c.trades-first_trade.result.now ≡ c.self.inside.market.state.trades
+held : (g : Over) (c : After-drop-accepted-2 g) → c.trades-first_trade.result.now ≡ c.self.inside.market.state.trades
 held g c = search rules
 
-whole : (g : Over) (c : After-push_reserved g) → c.self.inside.market.state.trades ++ drop (length c.trades-first_trade.result.now) c.step.new.self.state.trades ≡ c.step.new.self.state.trades
+whole : (g : Over) (c : After-drop-accepted-2 g) → c.self.inside.market.state.trades ++ drop (length c.trades-first_trade.result.now) c.step.new.self.state.trades ≡ c.step.new.self.state.trades
 whole g c = all-recorded c.self.inside.market.state.trades c.trades-first_trade.result.now c.step.new.self.state.trades (held g c) (search rules)
 
 pub invariant_of-self-2 : goal.invariant_of-self-2
 invariant_of-self-2 g c =
     let s = c.self.inside.market.state in
-    let command = c.args.command in
+    let command = c.args.command.now in
     let i = c.self.invariant in
     let j = journal_of s.settings c.self.inside.journal.items in
     let more = j.commands ++ command ∷ [] in
@@ -49,7 +49,7 @@ invariant_of-self-2 g c =
     record {
       replayed = took ∙ ap (λ (u : State). step u command) i.replayed ∙ sym (replay-push j command) ∙ ap replay journal;
       lawful = subst (λ (k : Journal). is_lawful k ≡ true) journal (is_lawful-push j command i.lawful (subst (λ (u : State). refusal_of u command ≡ None) i.replayed passed));
-      hand = search rules;
+      ready = search rules;
       positions = c.record_from-reply.ensures.recorded
           ∙ ap (λ (p : Recorded). recorded p.members (p.trades ++ drop (length c.trades-first_trade.result.now) t.trades)) i.positions
           ∙ ap (recorded s.settings.members) (whole g c)
@@ -60,12 +60,12 @@ pub returns-clause-journal : goal.returns-clause-journal
 returns-clause-journal g c =
     let s = c.self.inside.market.state in
     let commands = c.self.inside.journal.items in
-    let took : c.step.new.self.state ≡ step s c.args.command = search rules in
-    let items : c.push_reserved.new.self.items ≡ commands ++ c.args.command ∷ [] = cc in
-    let same = ap (λ (t : State). t.settings) took ∙ step-settings s c.args.command in
+    let took : c.step.new.self.state ≡ step s c.args.command.now = search rules in
+    let items : c.push_reserved.new.self.items ≡ commands ++ c.args.command.now ∷ [] = cc in
+    let same = ap (λ (t : State). t.settings) took ∙ step-settings s c.args.command.now in
     ap (λ (settings : DeskSettings). journal_of settings c.push_reserved.new.self.items) same
     ∙ ap (λ (cs : List Command). journal_of s.settings cs) items
-    ∙ ap (λ (j : Journal). journal_of j.settings (j.commands ++ c.args.command ∷ [])) c.self.view_is
+    ∙ ap (λ (j : Journal). journal_of j.settings (j.commands ++ c.args.command.now ∷ [])) c.self.view_is
 
 pub returns-clause-reply : goal.returns-clause-reply
 returns-clause-reply g c =
@@ -84,7 +84,7 @@ returns-clause-reply g c =
 pub record_from-reply-requires-clause-members : goal.record_from-reply-requires-clause-members
 record_from-reply-requires-clause-members g c =
     let s = c.self.inside.market.state in
-    let command = c.args.command in
+    let command = c.args.command.now in
     let i = c.self.invariant in
     let took : c.step.new.self.state ≡ step s command = search rules in
     let passed : refusal_of s command ≡ None = search rules in
@@ -97,7 +97,7 @@ record_from-reply-requires-clause-members g c =
 pub record_from-reply-requires-clause-limits : goal.record_from-reply-requires-clause-limits
 record_from-reply-requires-clause-limits g c =
     let s = c.self.inside.market.state in
-    let command = c.args.command in
+    let command = c.args.command.now in
     let i = c.self.invariant in
     let t = c.step.new.self.state in
     let took : t ≡ step s command = search rules in

@@ -13,6 +13,6 @@ invariant_of-result g c =
     record {
       replayed = ap (λ (m : Settled). m.state) fresh ∙ sym (replay-opening settings) ∙ ap replay (sym journal);
       lawful = ap is_lawful journal ∙ is_lawful-opening settings;
-      hand = ap (λ (m : Settled). m.hand) fresh;
+      ready = ap (λ (m : Settled). m.ready) fresh;
       positions = c.in_ok-positions.ensures ∙ ap (λ (m : Settled). recorded m.state.settings.members m.state.trades) (sym fresh);
     }

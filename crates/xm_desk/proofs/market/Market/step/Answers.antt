@@ -4,7 +4,7 @@ use Rattle.xm_desk.specs.Settled.{Settled, Unsettled}
 use Rattle.xm_rules.specs.State.{State}
 use Rattle.xm_rules.specs.Step.{new_trades, step}
 use Rattle.xm_rules.specs.declared.orders.Trade.{Trade}
-use Rattle.xm_desk.specs.declared.unsettled.Hand.TheVariants.{Empty}
+use Rattle.xm_desk.specs.declared.unsettled.Ready.TheVariants.{Nothing}
 use Rattle.xm_desk.proofs.market.Market.step.Goals as goal
 
 pub invariant_of-self : goal.invariant_of-self
@@ -17,8 +17,8 @@ invariant_of-self g c =
 pub returns-clause-state : goal.returns-clause-state
 returns-clause-state g c =
     let before = ap (λ (m : Settled). m.state) c.self.view_is in
-    ap (λ (u : Unsettled). let m : Settled = record { state = u.state; hand = u.hand } in m) c.step.ensures.stepped
-    ∙ ap (λ (s : State). let m : Settled = record { state = step s c.args.command.now; hand = Empty } in m) before
+    ap (λ (u : Unsettled). let m : Settled = record { state = u.state; ready = u.ready } in m) c.step.ensures.stepped
+    ∙ ap (λ (s : State). let m : Settled = record { state = step s c.args.accepted.now.command.value; ready = Nothing } in m) before
 
 pub returns-clause-appended : goal.returns-clause-appended
 returns-clause-appended g c =

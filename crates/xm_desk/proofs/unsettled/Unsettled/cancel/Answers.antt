@@ -20,7 +20,7 @@ invariant_of-self g c =
       opening = c.self.invariant.opening;
       widths = c.self.invariant.widths;
       frame =
-          fewer u.accepted u.stops u.pending u.book c.remove.new.self u.tape.room u.tape.room u.hand.value c.self.invariant.frame
+          fewer u.accepted u.stops u.pending u.book c.remove.new.self u.tape.room u.tape.room u.ready.value c.self.invariant.frame
           (ap (λ (l : TimeList). l.reserved) left) (ap (λ (l : TimeList). l.adds) left) (omega (arith, orders, few)) (omega (arith, orders, few));
     }
 
@@ -34,7 +34,7 @@ invariant_of-self-else-is_none g c =
       opening = c.self.invariant.opening;
       widths = c.self.invariant.widths;
       frame =
-          fewer u.accepted u.stops u.pending u.book c.remove.new.self u.tape.room u.tape.room u.hand.value c.self.invariant.frame
+          fewer u.accepted u.stops u.pending u.book c.remove.new.self u.tape.room u.tape.room u.ready.value c.self.invariant.frame
           (ap (λ (l : TimeList). l.reserved) left) (ap (λ (l : TimeList). l.adds) left) (omega (arith, orders, few)) (omega (arith, orders, few));
     }
 
@@ -48,7 +48,7 @@ returns-else-is_none g c =
     let of_book : TimeList → Unsettled = λ l. record {
       state = record { settings = u.settings; accepted = u.accepted; phase = u.phase; orders = l.orders; stops = u.stops.stops; trades = u.tape.trades; sweeps = u.sweeps };
       pending = u.pending.stops;
-      hand = u.hand.value;
+      ready = u.ready.value;
     } in
     let found : is_some (find (is_named m r) v.state.orders) ≡ true = ap (λ (w : Unsettled). is_some (find (is_named m r) w.state.orders)) (sym c.self.view_is) ∙ ap is_some (sym c.remove.ensures.found) ∙ c.if-is_none.ensures in
     ap of_book c.remove.ensures.left ∙ ap leaves c.self.view_is

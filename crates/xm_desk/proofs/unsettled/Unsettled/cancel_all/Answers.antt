@@ -18,7 +18,7 @@ invariant_of-self g c =
       opening = c.self.invariant.opening;
       widths = c.self.invariant.widths;
       frame =
-          fewer u.accepted u.stops u.pending u.book c.remove_all.new.self u.tape.room u.tape.room u.hand.value c.self.invariant.frame
+          fewer u.accepted u.stops u.pending u.book c.remove_all.new.self u.tape.room u.tape.room u.ready.value c.self.invariant.frame
           (ap (λ (l : TimeList). l.reserved) left) (ap (λ (l : TimeList). l.adds) left) (omega (arith, orders, few)) (omega (arith, orders, few));
     }
 
@@ -31,7 +31,7 @@ returns g c =
     let of_book : TimeList → Unsettled = λ b. record {
       state = record { settings = u.settings; accepted = u.accepted; phase = u.phase; orders = b.orders; stops = u.stops.stops; trades = u.tape.trades; sweeps = u.sweeps };
       pending = u.pending.stops;
-      hand = u.hand.value;
+      ready = u.ready.value;
     } in
     let cancels : Unsettled → Unsettled = λ w. record w { state = record w.state { orders = without_member m w.state.orders; stops = without_stops_of m w.state.stops } } in
     let done : c.cancel_any_stop.new.self ≡ with_stops (without_stops_of m l.state.stops) l = search rules in

@@ -8,8 +8,8 @@ use Rattle.xm_desk.proofs.Sweeping.{sized-swept}
 use Rattle.xm_desk.specs.Frame.{IsFramed}
 use Rattle.xm_desk.specs.Settled.{Unsettled, possible_trades, trades_in}
 use Rattle.xm_desk.specs.Tape.{TapeView, swept_by}
-use Rattle.xm_desk.specs.declared.unsettled.Hand.{Hand}
-use Rattle.xm_desk.specs.declared.unsettled.Hand.TheVariants.{Kept}
+use Rattle.xm_desk.specs.declared.unsettled.Ready.{Ready}
+use Rattle.xm_desk.specs.declared.unsettled.Ready.TheVariants.{ForOrder}
 use Rattle.xm_rules.proofs.SweepSizes.{sweep_leaves_no_more}
 use Rattle.xm_rules.specs.Sweep.{Sweep, rest_after, sweep_trades}
 use Rattle.xm_desk.proofs.unsettled.Unsettled.execute.Goals as goal
@@ -18,8 +18,8 @@ pub release-requires : goal.release-requires
 release-requires g c =
     let u = c.self.inside in
     let place = c.of.result in
-    let hand : u.hand.value ≡ Kept place = ap (λ (v : Unsettled). v.hand) c.self.view_is ∙ c.requires.can.joins.hand ∙ ap Kept (sym c.of.ensures) in
-    let framed = subst (λ (h : Hand). IsFramed u.accepted u.book u.stops u.pending u.tape.room h) hand c.self.invariant.frame in
+    let ready : u.ready.value ≡ ForOrder place = ap (λ (v : Unsettled). v.ready) c.self.view_is ∙ c.requires.can.joins.ready ∙ ap ForOrder (sym c.of.ensures) in
+    let framed = subst (λ (h : Ready). IsFramed u.accepted u.book u.stops u.pending u.tape.room h) ready c.self.invariant.frame in
     let same = ap (λ (l : TimeList). l.reserved) c.sweep-swept.ensures.orders in
     subst (λ (ps : List Place). list_any (same_place place) ps ≡ true) (sym same) (kept-there u.book.reserved u.stops.stops u.pending.stops place framed.reserved)
 
@@ -27,7 +27,7 @@ pub invariant_of-self : goal.invariant_of-self
 invariant_of-self g c =
     let u = c.self.inside in
     let place = c.of.result in
-    let hand : u.hand.value ≡ Kept place = ap (λ (v : Unsettled). v.hand) c.self.view_is ∙ c.requires.can.joins.hand ∙ ap Kept (sym c.of.ensures) in
+    let ready : u.ready.value ≡ ForOrder place = ap (λ (v : Unsettled). v.ready) c.self.view_is ∙ c.requires.can.joins.ready ∙ ap ForOrder (sym c.of.ensures) in
     let w : Sweep = swept_by u.tape u.book.orders c.args.order.now u.settings.widths in
     let swept = c.sweep-swept.ensures.orders in
     let released = c.release.ensures.rest in
@@ -37,7 +37,7 @@ invariant_of-self g c =
       opening = ap (λ (t : TapeView). t.opening) c.sweep-swept.ensures.trades ∙ c.self.invariant.opening;
       widths = c.self.invariant.widths;
       frame =
-          gives-up u.accepted u.stops u.pending u.book c.release.new.self u.tape.room c.sweep-swept.new.self.room u.hand.value place hand c.self.invariant.frame
+          gives-up u.accepted u.stops u.pending u.book c.release.new.self u.tape.room c.sweep-swept.new.self.room u.ready.value place ready c.self.invariant.frame
           (subst (λ (ps : List Place). SamePlaces ps (place ∷ c.release.new.self.reserved)) (ap (λ (l : TimeList). l.reserved) swept) c.release.ensures.places)
           (sym (ap (λ (l : TimeList). l.adds) released) ∙ ap (λ (l : TimeList). l.adds) swept)
           (omega (arith, orders, left, c.sweep-swept.ensures.used_up.at_most, c.sweep-swept.ensures.room)) (omega (arith, orders, left, sweep_leaves_no_more w));
@@ -55,7 +55,7 @@ returns-then-swept-eq0-clause-made g c =
       trades = made;
       appended = ap (λ (t : TapeView). t.trades) c.sweep-swept.ensures.trades ∙ ap (λ (x : Unsettled). x.state.trades ++ made) c.self.view_is;
       sized = sized-swept (u.sweeps + 1) w c.requires.can.joins.rest;
-      fewer = omega (arith, orders, left, c.sweep-swept.ensures.used_up.at_most, ap possible_trades c.self.view_is, ap trades_in c.requires.can.joins.hand, ap (λ (x : Unsettled). trades_in x.hand) c.self.view_is, ap trades_in c.of-then-swept-eq0.ensures);
+      fewer = omega (arith, orders, left, c.sweep-swept.ensures.used_up.at_most, ap possible_trades c.self.view_is, ap trades_in c.requires.can.joins.ready, ap (λ (x : Unsettled). trades_in x.ready) c.self.view_is, ap trades_in c.of-then-swept-eq0.ensures);
     }
 
 pub returns-else-swept-eq0-clause-made : goal.returns-else-swept-eq0-clause-made

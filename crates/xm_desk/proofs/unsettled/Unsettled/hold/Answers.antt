@@ -5,7 +5,7 @@ use Rattle.xm_desk.proofs.unsettled.Unsettled.hold.Goals as goal
 
 pub add-requires-clause-room : goal.add-requires-clause-room
 add-requires-clause-room g c =
-    c.self.invariant.frame.ready c.args.stop (ap (λ (v : Unsettled). v.hand) c.self.view_is ∙ c.requires.hand)
+    c.self.invariant.frame.stop c.args.stop.now (ap (λ (v : Unsettled). v.ready) c.self.view_is ∙ c.requires.ready)
 
 pub invariant_of-self : goal.invariant_of-self
 invariant_of-self g c =
@@ -13,5 +13,5 @@ invariant_of-self g c =
     rw c.of.ensures (record {
       opening = c.self.invariant.opening;
       widths = c.self.invariant.widths;
-      frame = holds u.accepted u.book u.stops c.add.new.self u.pending u.tape.room u.hand.value c.args.stop (ap (λ (v : Unsettled). v.hand) c.self.view_is ∙ c.requires.hand) c.self.invariant.frame c.add.ensures;
+      frame = holds u.accepted u.book u.stops c.add.new.self u.pending u.tape.room u.ready.value c.args.stop.now (ap (λ (v : Unsettled). v.ready) c.self.view_is ∙ c.requires.ready) c.self.invariant.frame c.add.ensures;
     })

@@ -4,14 +4,14 @@ use Rattle.xm_desk.proofs.Frames.{grown, keeps-place}
 use Rattle.xm_desk.specs.Frame.{IsFramed}
 use Rattle.xm_desk.specs.Settled.{Unsettled}
 use Rattle.xm_desk.specs.Tape.{TapeView}
-use Rattle.xm_desk.specs.declared.unsettled.Hand.TheVariants.{Empty}
+use Rattle.xm_desk.specs.declared.unsettled.Ready.TheVariants.{Nothing}
 use Rattle.xm_rules.specs.declared.orders.Stop.{Stop}
 use Rattle.xm_desk.proofs.unsettled.Unsettled.reserve_place.Goals as goal
 
 pub invariant_of-self-in_err-reserve_for : goal.invariant_of-self-in_err-reserve_for
 invariant_of-self-in_err-reserve_for g c =
     let u = c.self.inside in
-    let hand : u.hand.value ≡ Empty = ap (λ (v : Unsettled). v.hand) c.self.view_is ∙ c.requires.hand in
+    let ready : u.ready.value ≡ Nothing = ap (λ (v : Unsettled). v.ready) c.self.view_is ∙ c.requires.ready in
     let none = ap (λ (v : Unsettled). length v.pending) c.self.view_is ∙ ap (λ (ss : List Stop). length ss) c.requires.settled in
     let taped : c.reserve.new.self ≡ record u.tape { room = c.len.result + c.len-2.result + 1 } = search rules in
     let room = ap (λ (t : TapeView). t.room) taped in
@@ -22,14 +22,14 @@ invariant_of-self-in_err-reserve_for g c =
       opening = opening;
       widths = c.self.invariant.widths;
       frame =
-          subst (λ (b : TimeList). IsFramed u.accepted b u.stops u.pending c.reserve.new.self.room u.hand.value) (sym same)
-          (grown u.accepted u.stops u.pending u.hand.value hand u.book u.stops u.pending u.tape.room c.reserve.new.self.room c.self.invariant.frame refl refl (omega arith) (omega (arith, enough)));
+          subst (λ (b : TimeList). IsFramed u.accepted b u.stops u.pending c.reserve.new.self.room u.ready.value) (sym same)
+          (grown u.accepted u.stops u.pending u.ready.value ready u.book u.stops u.pending u.tape.room c.reserve.new.self.room c.self.invariant.frame refl refl (omega arith) (omega (arith, enough)));
     }
 
 pub invariant_of-self-2 : goal.invariant_of-self-2
 invariant_of-self-2 g c =
     let u = c.self.inside in
-    let hand : u.hand.value ≡ Empty = ap (λ (v : Unsettled). v.hand) c.self.view_is ∙ c.requires.hand in
+    let ready : u.ready.value ≡ Nothing = ap (λ (v : Unsettled). v.ready) c.self.view_is ∙ c.requires.ready in
     let none = ap (λ (v : Unsettled). length v.pending) c.self.view_is ∙ ap (λ (ss : List Stop). length ss) c.requires.settled in
     let taped : c.reserve.new.self ≡ record u.tape { room = c.len.result + c.len-2.result + 1 } = search rules in
     let room = ap (λ (t : TapeView). t.room) taped in
@@ -40,6 +40,6 @@ invariant_of-self-2 g c =
       opening = opening;
       widths = c.self.invariant.widths;
       frame =
-          keeps-place u.accepted u.stops u.pending u.hand.value hand u.book c.reserve_for.new.self c.reserve.new.self.room
-          (grown u.accepted u.stops u.pending u.hand.value hand u.book u.stops u.pending u.tape.room c.reserve.new.self.room c.self.invariant.frame refl refl (omega arith) (omega (arith, enough))) enough c.args.place.now more;
+          keeps-place u.accepted u.stops u.pending u.ready.value ready u.book c.reserve_for.new.self c.reserve.new.self.room
+          (grown u.accepted u.stops u.pending u.ready.value ready u.book u.stops u.pending u.tape.room c.reserve.new.self.room c.self.invariant.frame refl refl (omega arith) (omega (arith, enough))) enough c.args.place.now more;
     })

@@ -2,14 +2,14 @@ use Rattle.std.proofs.Common.{◌≡◌, ◌∙◌, ◌+◌, ◌≤◌, List, le
 use Rattle.xm_desk.proofs.Frames.{grown, spares}
 use Rattle.xm_desk.specs.Settled.{Unsettled}
 use Rattle.xm_desk.specs.Tape.{TapeView}
-use Rattle.xm_desk.specs.declared.unsettled.Hand.TheVariants.{Empty}
+use Rattle.xm_desk.specs.declared.unsettled.Ready.TheVariants.{Nothing}
 use Rattle.xm_rules.specs.declared.orders.Stop.{Stop}
 use Rattle.xm_desk.proofs.unsettled.Unsettled.reserve_trade.Goals as goal
 
 pub invariant_of-self-2 : goal.invariant_of-self-2
 invariant_of-self-2 g c =
     let u = c.self.inside in
-    let hand : u.hand.value ≡ Empty = ap (λ (v : Unsettled). v.hand) c.self.view_is ∙ c.requires.hand in
+    let ready : u.ready.value ≡ Nothing = ap (λ (v : Unsettled). v.ready) c.self.view_is ∙ c.requires.ready in
     let none = ap (λ (v : Unsettled). length v.pending) c.self.view_is ∙ ap (λ (ss : List Stop). length ss) c.requires.settled in
     let taped : c.reserve.new.self ≡ record u.tape { room = c.len.result + c.len-2.result + 1 } = search rules in
     let room = ap (λ (t : TapeView). t.room) taped in
@@ -19,6 +19,6 @@ invariant_of-self-2 g c =
       opening = opening;
       widths = c.self.invariant.widths;
       frame =
-          spares u.accepted u.stops u.pending u.hand.value hand u.book c.reserve.new.self.room
-          (grown u.accepted u.stops u.pending u.hand.value hand u.book u.stops u.pending u.tape.room c.reserve.new.self.room c.self.invariant.frame refl refl (omega arith) (omega (arith, enough))) enough;
+          spares u.accepted u.stops u.pending u.ready.value ready u.book c.reserve.new.self.room
+          (grown u.accepted u.stops u.pending u.ready.value ready u.book u.stops u.pending u.tape.room c.reserve.new.self.room c.self.invariant.frame refl refl (omega arith) (omega (arith, enough))) enough;
     })

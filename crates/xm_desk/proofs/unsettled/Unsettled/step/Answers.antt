@@ -7,17 +7,17 @@ use Rattle.xm_desk.proofs.unsettled.Unsettled.step.Given.{Over}
 use Rattle.xm_desk.proofs.unsettled.Unsettled.step.Goals as goal
 
 pub settle-requires : goal.settle-requires
-settle-requires g c = can-settle c.args.self.now c.args.command.now c.requires.settled c.requires.lawful c.requires.counted c.act.new.self c.act.ensures.acted
+settle-requires g c = can-settle c.args.self.now c.args.accepted.now.command.value c.requires.settled c.requires.accepted.lawful c.requires.counted c.act.new.self c.act.ensures.acted
 
-pub count-requires-clause-hand : goal.count-requires-clause-hand
-count-requires-clause-hand g c = c.settle.ensures.standing.hand
+pub count-requires-clause-ready : goal.count-requires-clause-ready
+count-requires-clause-ready g c = c.settle.ensures.standing.ready
 
 pub count-requires-clause-room : goal.count-requires-clause-room
 count-requires-clause-room g c = c.settle.ensures.standing.accepted
 
 pub returns-clause-stepped : goal.returns-clause-stepped
 returns-clause-stepped g c =
-    stepped c.args.self.now c.args.command.now c.requires.settled c.requires.lawful c.requires.counted c.act.new.self c.settle.new.self c.count.new.self c.act.ensures.acted c.settle.ensures.settled c.count.ensures
+    stepped c.args.self.now c.args.accepted.now.command.value c.requires.settled c.requires.accepted.lawful c.requires.counted c.act.new.self c.settle.new.self c.count.new.self c.act.ensures.acted c.settle.ensures.settled c.count.ensures
 
 pub returns-clause-made : goal.returns-clause-made
 returns-clause-made g c =
@@ -32,8 +32,8 @@ few g c =
     let u = c.self.inside in
     let v = c.args.self.now in
     let is = c.self.view_is in
-    few-possible v u.accepted v.state.settings.limit u.tape.room u.book u.stops u.pending u.hand.value c.self.invariant.frame (sym (ap (λ (w : Unsettled). w.state.orders) is))
-    (sym (ap (λ (w : Unsettled). w.state.stops) is)) (sym (ap (λ (w : Unsettled). w.pending) is)) (sym (ap (λ (w : Unsettled). w.hand) is))
+    few-possible v u.accepted v.state.settings.limit u.tape.room u.book u.stops u.pending u.ready.value c.self.invariant.frame (sym (ap (λ (w : Unsettled). w.state.orders) is))
+    (sym (ap (λ (w : Unsettled). w.state.stops) is)) (sym (ap (λ (w : Unsettled). w.pending) is)) (sym (ap (λ (w : Unsettled). w.ready) is))
     (omega (arith, c.requires.counted.accepted, ap (λ (w : Unsettled). w.state.accepted) is)) (omega (arith, c.get.ensures.value, c.get.ensures.high, ap (λ (w : Unsettled). w.state.settings.limit) is))
 
 pub returns-clause-counted : goal.returns-clause-counted
@@ -43,5 +43,5 @@ returns-clause-counted g c =
     let t = c.settle.new.self in
     let accepted =
     ap (λ (w : Unsettled). w.state.accepted) c.settle.ensures.settled ∙ (settle-keeps a.state a.pending).accepted ∙ ap (λ (w : Unsettled). w.state.accepted) c.act.ensures.acted
-    ∙ (act-keeps u.state c.args.command.now).accepted in
+    ∙ (act-keeps u.state c.args.accepted.now.command.value).accepted in
     counted-after u c.count.new.self (returns-clause-made g c) (few g c) t c.count.ensures (ap (λ (w : Unsettled). w.pending) c.settle.ensures.settled) c.settle.ensures.standing c.requires.counted accepted

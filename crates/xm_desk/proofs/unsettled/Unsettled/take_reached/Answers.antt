@@ -18,7 +18,7 @@ invariant_of-self g c =
       opening = c.self.invariant.opening;
       widths = c.self.invariant.widths;
       frame =
-          subst (λ (h : HeldStops). IsFramed u.accepted u.book h c.take_reached.new.pending u.tape.room u.hand.value) (sym c.take_reached.ensures.held)
-          (moves u.accepted u.book u.stops (filter stay u.stops.stops) (filter gone u.stops.stops) u.pending c.take_reached.new.pending u.tape.room u.hand.value c.self.invariant.frame
+          subst (λ (h : HeldStops). IsFramed u.accepted u.book h c.take_reached.new.pending u.tape.room u.ready.value) (sym c.take_reached.ensures.held)
+          (moves u.accepted u.book u.stops (filter stay u.stops.stops) (filter gone u.stops.stops) u.pending c.take_reached.new.pending u.tape.room u.ready.value c.self.invariant.frame
           (λ f. split f gone u.stops.stops) (length-filter_both gone stay (λ stop. refl) u.stops.stops) c.take_reached.ensures.pending);
     }

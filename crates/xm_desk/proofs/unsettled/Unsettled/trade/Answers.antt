@@ -26,7 +26,7 @@ invariant_of-self g c =
       opening = ap (λ (t : TapeView). t.opening) c.allot.ensures.trades ∙ c.self.invariant.opening;
       widths = c.self.invariant.widths;
       frame =
-          ends_call b.accepted b.stops b.pending b.book c.allot.new.book b.tape.room c.allot.new.self.room b.hand.value (ap (λ (v : Unsettled). v.hand) c.self.view_is ∙ c.requires.hand) c.self.invariant.frame
+          ends_call b.accepted b.stops b.pending b.book c.allot.new.book b.tape.room c.allot.new.self.room b.ready.value (ap (λ (v : Unsettled). v.ready) c.self.view_is ∙ c.requires.ready) c.self.invariant.frame
           (ap (λ (l : TimeList). l.reserved) left) (ap (λ (l : TimeList). l.adds) left) (omega (arith, orders, c.allot.ensures.used, c.allot.ensures.room)) (omega (arith, orders, fewer-orders u));
     })
 
@@ -40,5 +40,5 @@ returns-clause-made g c =
       trades = made;
       appended = ap (λ (t : TapeView). t.trades) c.allot.ensures.trades ∙ ap (λ (x : Unsettled). x.state.trades ++ made) c.self.view_is;
       sized = sized-trades u (b.sweeps + 1) c.len.ensures.book.rests;
-      fewer = omega (arith, orders, c.allot.ensures.used, ap possible_trades c.self.view_is, ap trades_in c.requires.hand, ap (λ (x : Unsettled). trades_in x.hand) c.self.view_is, ap trades_in c.of.ensures);
+      fewer = omega (arith, orders, c.allot.ensures.used, ap possible_trades c.self.view_is, ap trades_in c.requires.ready, ap (λ (x : Unsettled). trades_in x.ready) c.self.view_is, ap trades_in c.of.ensures);
     }
