@@ -7,7 +7,7 @@ use Rattle.xm_book.specs.Places.{place_of}
 use Rattle.xm_desk.proofs.Named.{any-find, any-left_out}
 use Rattle.xm_desk.specs.Incoming.{CanComeIn}
 use Rattle.xm_desk.specs.Made.{uses}
-use Rattle.xm_desk.specs.Settled.{Unsettled}
+use Rattle.xm_desk.specs.Settled.{Unsettled, came}
 use Rattle.xm_desk.specs.declared.unsettled.Ready.TheVariants.{ForOrder}
 use Rattle.xm_rules.specs.Commands.{is_in_range}
 use Rattle.xm_rules.specs.Orders.{is_named, is_stop_named, removed, removed_stop}
@@ -83,7 +83,7 @@ leaves-as-cancelled s member reference none =
 
 -- and can come in again
 pub can-come-again : (v t : Unsettled) (o : Order) → t ≡ without o.member o.reference v → v.ready ≡ ForOrder (place_of o) → is_in_range o.rest ≡ true
-    → v.state.accepted < v.state.settings.limit + PHASE_COMMANDS_MORE → v.state.sweeps < v.state.settings.limit + PHASE_COMMANDS_MORE → CanComeIn t o
+    → v.state.accepted < v.state.settings.limit + PHASE_COMMANDS_MORE → v.state.sweeps < came v.state.settings (v.state.settings.limit + PHASE_COMMANDS_MORE) → CanComeIn t o
 can-come-again v t o after ready rest accepted sweeps =
     let left : CanComeIn (without o.member o.reference v) o = record {
       joins = record { ready = ready; name = any-left_out (is_named o.member o.reference) v.state.orders; rest = rest; accepted = accepted };

@@ -93,7 +93,7 @@ joined_once OneTrade = omega arith
 joined_once (ForOrder place) = omega arith
 joined_once (ForStop stop) = omega arith
 
--- ---- the order in ready
+-- ---- the order for which a place is ready
 
 module _ (accepted : ℕ) (held : HeldStops) (pending : PendingStops) where
   -- it joins the book
@@ -249,7 +249,7 @@ moves accepted book held stay leave pending new room ready f sums lengths moved 
     } in
     subst (λ (x : PendingStops). IsFramed accepted book (record held { stops = stay }) x room ready) (sym moved) frame
 
--- the first pending stop is at ready
+-- the first pending stop is ready to come in
 pub first-is : (stops : List Stop) (stop : Stop) → slice_get stops 0 ≡ Some stop → stops ≡ stop ∷ drop 1 stops
 first-is [] stop e = cc
 first-is (s ∷ stops) stop e = let same : s ≡ stop = cc in ap (λ (x : Stop). x ∷ stops) same

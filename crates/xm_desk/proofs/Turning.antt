@@ -105,7 +105,7 @@ module _ (u : Unsettled) (can : CanSettle u) (stop : Stop) (first : slice_get (u
   abbrev left : List Stop
   left = drop 1 (u.pending ++ reached u.state)
 
-  -- the stop is at ready
+  -- the stop is ready to come in
   abbrev before : Unsettled
   before = record u { state = s; pending = left; ready = ForOrder (place_of_stop stop) }
 

@@ -1,7 +1,7 @@
 -- What an order relies on that comes in.
 use Rattle.std.specs.Prelude.{◌≡◌, ◌+◌, ◌<◌, false, IsTrue}
 use Rattle.xm_book.specs.Places.{place_of}
-use Rattle.xm_desk.specs.Settled.{Unsettled}
+use Rattle.xm_desk.specs.Settled.{Unsettled, came}
 use Rattle.xm_desk.specs.declared.unsettled.Ready.TheVariants.{ForOrder}
 use Rattle.xm_rules.specs.Commands.{is_in_range}
 use Rattle.xm_rules.specs.Refusals.{has_order}
@@ -18,4 +18,4 @@ pub record CanJoin (u : Unsettled) (o : Order) : Type 0 where
 -- and there is a number for its sweep
 pub record CanComeIn (u : Unsettled) (o : Order) : Type 0 where
   pub joins : CanJoin u o
-  pub sweeps : u.state.sweeps < u.state.settings.limit + PHASE_COMMANDS_MORE
+  pub sweeps : u.state.sweeps < came u.state.settings (u.state.settings.limit + PHASE_COMMANDS_MORE)

@@ -1,6 +1,6 @@
 -- The trades of one command, and of all so far.
 use Rattle.std.specs.Prelude.{◌≡◌, ◌≤◌, ◌<◌, ◌+◌, ◌*◌, ℕ, List, [], ◌++◌, All, IsTrue, count_by, length}
-use Rattle.xm_desk.specs.Settled.{Unsettled, places_in, possible_trades}
+use Rattle.xm_desk.specs.Settled.{Unsettled, came, places_in, possible_trades}
 use Rattle.xm_rules.specs.Commands.{is_in_range}
 use Rattle.xm_rules.specs.Orders.{is_named, is_stop_named}
 use Rattle.xm_rules.specs.State.{State}
@@ -28,21 +28,21 @@ HaveUnits stops = All (λ (stop : Stop). IsTrue (is_in_range stop.quantity)) sto
 abbrev pub uses : ℕ → ℕ → State → ℕ
 uses member reference s = count_by (is_named member reference) s.orders + count_by (is_stop_named member reference) s.stops
 
--- between commands: sweeps, with those to which stops may come, and trades are counted by the accepted commands, and those by the
--- journal's limit; no two orders or stops have one name; each stop has units
+-- between commands: sweeps, with those to which stops may come, are counted by the entries that came, trades by the accepted
+-- commands, and those by the journal's limit; no two orders or stops have one name; each stop has units
 pub record IsCounted (s : State) : Type 0 where
   pub accepted : s.accepted ≤ s.settings.limit + PHASE_COMMANDS_MORE
-  pub sweeps : s.sweeps + length s.stops ≤ s.accepted
+  pub sweeps : s.sweeps + length s.stops ≤ came s.settings s.accepted
   pub number : length s.trades ≤ 2000000 * s.accepted
   pub sized : AreSized s.trades
   pub names : (member reference : ℕ) → uses member reference s ≤ 1
   pub units : HaveUnits s.stops
 
--- while stops are settled: nothing is at ready, the command is not counted yet, and the same holds with the pending stops
+-- while stops are settled: nothing is ready, the command is not counted yet, and the same holds with the pending stops
 pub record CanSettle (u : Unsettled) : Type 0 where
   pub ready : places_in u.ready ≡ []
   pub accepted : u.state.accepted < u.state.settings.limit + PHASE_COMMANDS_MORE
-  pub sweeps : u.state.sweeps + length u.state.stops + length u.pending ≤ u.state.accepted + 1
+  pub sweeps : u.state.sweeps + length u.state.stops + length u.pending ≤ came u.state.settings u.state.accepted + 1
   pub names : (member reference : ℕ) → uses member reference u.state + count_by (is_stop_named member reference) u.pending ≤ 1
   pub units : HaveUnits u.state.stops
   pub pending_units : HaveUnits u.pending

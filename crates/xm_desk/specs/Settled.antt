@@ -5,10 +5,11 @@ use Rattle.xm_book.specs.declared.places.Place.{Place}
 use Rattle.xm_desk.specs.declared.unsettled.Ready.{Ready}
 use Rattle.xm_desk.specs.declared.unsettled.Ready.TheVariants.{Nothing, OneTrade, ForOrder, ForStop, Used}
 use Rattle.xm_rules.specs.Settling.{order_of_stop}
-use Rattle.xm_rules.specs.State.{State}
+use Rattle.xm_rules.specs.State.{State, opening}
 use Rattle.xm_rules.specs.declared.orders.Stop.{Stop}
+use Rattle.xm_rules.specs.declared.settings.DeskSettings.{DeskSettings}
 
--- settled up to the pending stops: a state, the stops that are pending, and what the command has at ready
+-- settled up to the pending stops: a state, the stops that are pending, and what is ready for the command
 pub record Unsettled : Type 0 where
   pub state : State
   pub pending : List Stop
@@ -23,7 +24,7 @@ pub record Settled : Type 0 where
 abbrev pub place_of_stop : Stop → Place
 place_of_stop stop = place_of (order_of_stop stop)
 
--- the places in the book that are kept for the order in ready
+-- the places in the book that are ready for an order
 abbrev pub places_in : Ready → List Place
 places_in (ForOrder place) = place ∷ []
 places_in (ForStop stop) = place_of_stop stop ∷ []
@@ -46,7 +47,7 @@ trades_in (ForOrder place) = 1
 trades_in (ForStop stop) = 1
 trades_in _ = 0
 
--- what was at ready is used
+-- what was ready is used
 abbrev pub once_used : Ready → Ready
 once_used Nothing = Nothing
 once_used _ = Used
@@ -54,3 +55,7 @@ once_used _ = Used
 -- how many trades may still be made: each but the last of a sweep or of a call uses up an order
 abbrev pub possible_trades : Unsettled → ℕ
 possible_trades u = length u.state.orders + length u.state.stops + length u.pending + trades_in u.ready
+
+-- how many entries of orders and stops may have come: those that the day opens with, and one for each of so many commands
+abbrev pub came : DeskSettings → ℕ → ℕ
+came settings commands = length (opening settings).orders + length (opening settings).stops + commands

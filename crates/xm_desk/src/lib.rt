@@ -2,16 +2,9 @@
 #![tactic(auto)]
 
 mod accepted;
-mod calls;
-mod changes;
-mod checks;
 mod desk;
 mod entries;
-mod growth;
-mod incoming;
-mod market;
 mod opening;
-mod settling;
 mod tape;
 mod unsettled;
 

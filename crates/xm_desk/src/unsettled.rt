@@ -7,6 +7,14 @@ ghost use Rattle.xm_desk.specs.Settled.{once_used};
 ghost use Rattle.xm_rules.specs.State.{ref1, ref2};
 ghost use Rattle.xm_rules.specs.Step.{act};
 
+mod calls;
+mod changes;
+mod checks;
+mod growth;
+mod incoming;
+pub mod market;
+mod settling;
+
 use crate::accepted::{Accepted, Action};
 use crate::tape::Tape;
 use std::alloc::Allocator;
@@ -36,24 +44,24 @@ pub enum Ready {
 /// kept ready for the command.
 #[derive(Drop)]
 pub struct Unsettled<A: Allocator + Copy> {
-    pub settings: DeskSettings,
-    pub accepted: u64,
-    pub phase: Phase,
-    pub book: Book<A>,
-    pub stops: Stops<A>,
-    pub pending: Pending<A>,
-    pub tape: Tape<A>,
+    settings: DeskSettings,
+    accepted: u64,
+    phase: Phase,
+    book: Book<A>,
+    stops: Stops<A>,
+    pending: Pending<A>,
+    tape: Tape<A>,
     // The number of sweeps, and of calls that traded.
-    pub sweeps: u64,
+    sweeps: u64,
     // A snapshot has no bytes.
-    pub ready: Snapshot<Ready>,
+    ready: Snapshot<Ready>,
 }
 
 impl<A: Allocator + Copy> Model for Unsettled<A> {
     ghost use Rattle.std.specs.Prelude.{◌≡◌, true};
     ghost use Rattle.xm_desk.specs.Frame.{IsFramed};
     ghost use Rattle.xm_desk.specs.Opening.{are_widths};
-    ghost use Rattle.xm_desk.specs.Settled.{Unsettled};
+    ghost use Rattle.xm_desk.specs.Settled.{Unsettled, came};
 
     ghost Value = { Unsettled };
 
@@ -74,7 +82,7 @@ impl<A: Allocator + Copy> Model for Unsettled<A> {
     ghost invariant = { λ u. record {
       opening : u.tape.opening ≡ u.settings.reference;
       widths : are_widths u.settings.widths ≡ true;
-      frame : IsFramed u.accepted u.book u.stops u.pending u.tape.room u.ready.value;
+      frame : IsFramed (came u.settings u.accepted) u.book u.stops u.pending u.tape.room u.ready.value;
     } };
 }
 

@@ -4,7 +4,7 @@ use Rattle.xm_book.specs.TimeList.{TimeList}
 use Rattle.xm_desk.proofs.Frames.{fewer}
 use Rattle.xm_desk.proofs.Shorter.{filter-shorter}
 use Rattle.xm_desk.proofs.Changing.{stop-unnamed}
-use Rattle.xm_desk.specs.Settled.{Unsettled}
+use Rattle.xm_desk.specs.Settled.{Unsettled, came}
 use Rattle.xm_rules.specs.Orders.{is_named, removed}
 use Rattle.xm_rules.specs.declared.orders.Order.{Order}
 use Rattle.xm_rules.specs.declared.orders.Stop.{Stop}
@@ -20,7 +20,7 @@ invariant_of-self g c =
       opening = c.self.invariant.opening;
       widths = c.self.invariant.widths;
       frame =
-          fewer u.accepted u.stops u.pending u.book c.remove.new.self u.tape.room u.tape.room u.ready.value c.self.invariant.frame
+          fewer (came u.settings u.accepted) u.stops u.pending u.book c.remove.new.self u.tape.room u.tape.room u.ready.value c.self.invariant.frame
           (ap (λ (l : TimeList). l.reserved) left) (ap (λ (l : TimeList). l.adds) left) (omega (arith, orders, few)) (omega (arith, orders, few));
     }
 
@@ -34,7 +34,7 @@ invariant_of-self-else-is_none g c =
       opening = c.self.invariant.opening;
       widths = c.self.invariant.widths;
       frame =
-          fewer u.accepted u.stops u.pending u.book c.remove.new.self u.tape.room u.tape.room u.ready.value c.self.invariant.frame
+          fewer (came u.settings u.accepted) u.stops u.pending u.book c.remove.new.self u.tape.room u.tape.room u.ready.value c.self.invariant.frame
           (ap (λ (l : TimeList). l.reserved) left) (ap (λ (l : TimeList). l.adds) left) (omega (arith, orders, few)) (omega (arith, orders, few));
     }
 

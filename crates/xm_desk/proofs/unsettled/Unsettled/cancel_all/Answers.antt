@@ -2,7 +2,7 @@ use Rattle.std.proofs.Common.{◌≡◌, ◌∙◌, ◌==◌, List, ap, length, 
 use Rattle.xm_book.specs.TimeList.{TimeList}
 use Rattle.xm_desk.proofs.Frames.{fewer}
 use Rattle.xm_desk.proofs.Shorter.{filter-shorter}
-use Rattle.xm_desk.specs.Settled.{Unsettled}
+use Rattle.xm_desk.specs.Settled.{Unsettled, came}
 use Rattle.xm_rules.specs.Orders.{without_member, without_stops_of}
 use Rattle.xm_rules.specs.declared.orders.Order.{Order}
 use Rattle.xm_rules.specs.declared.orders.Stop.{Stop}
@@ -18,7 +18,7 @@ invariant_of-self g c =
       opening = c.self.invariant.opening;
       widths = c.self.invariant.widths;
       frame =
-          fewer u.accepted u.stops u.pending u.book c.remove_all.new.self u.tape.room u.tape.room u.ready.value c.self.invariant.frame
+          fewer (came u.settings u.accepted) u.stops u.pending u.book c.remove_all.new.self u.tape.room u.tape.room u.ready.value c.self.invariant.frame
           (ap (λ (l : TimeList). l.reserved) left) (ap (λ (l : TimeList). l.adds) left) (omega (arith, orders, few)) (omega (arith, orders, few));
     }
 

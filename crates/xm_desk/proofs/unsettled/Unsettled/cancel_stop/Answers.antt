@@ -3,6 +3,7 @@ use Rattle.std.specs.List.{list_any}
 use Rattle.xm_book.specs.Places.{SamePlaces, place_of, same_place}
 use Rattle.xm_book.specs.TimeList.{TimeList}
 use Rattle.xm_book.specs.declared.places.Place.{Place}
+use Rattle.xm_desk.specs.Settled.{came}
 use Rattle.xm_desk.proofs.Frames.{stop-leaves}
 use Rattle.xm_desk.proofs.Leaving.{found-taken, held-reserved, not-found, taken-length, taken-sums}
 use Rattle.xm_desk.specs.Frame.{IsFramed}
@@ -18,7 +19,7 @@ release-requires g c =
     let taken = found-taken c.args.member c.args.reference u.stops.stops stop c.len.ensures.names (sym c.remove.ensures.found ∙ c.in-Some.is) in
     let is = c.of.ensures ∙ ap place_of c.order_of_stop.ensures in
     subst (λ (p : Place). list_any (same_place p) u.book.reserved ≡ true) (sym is)
-    (held-reserved u.accepted u.book u.stops u.pending u.tape.room u.ready.value stop c.self.invariant.frame (removed_stop c.args.member c.args.reference u.stops.stops) taken)
+    (held-reserved (came u.settings u.accepted) u.book u.stops u.pending u.tape.room u.ready.value stop c.self.invariant.frame (removed_stop c.args.member c.args.reference u.stops.stops) taken)
 
 pub invariant_of-self : goal.invariant_of-self
 invariant_of-self g c =
@@ -32,8 +33,8 @@ invariant_of-self g c =
       opening = c.self.invariant.opening;
       widths = c.self.invariant.widths;
       frame =
-          subst (λ (h : HeldStops). IsFramed u.accepted c.release.new.self h u.pending u.tape.room u.ready.value) (sym c.remove.ensures.left)
-          (stop-leaves u.accepted u.book c.release.new.self u.stops left u.pending u.tape.room u.ready.value stop c.self.invariant.frame
+          subst (λ (h : HeldStops). IsFramed (came u.settings u.accepted) c.release.new.self h u.pending u.tape.room u.ready.value) (sym c.remove.ensures.left)
+          (stop-leaves (came u.settings u.accepted) u.book c.release.new.self u.stops left u.pending u.tape.room u.ready.value stop c.self.invariant.frame
           (subst (λ (p : Place). SamePlaces u.book.reserved (p ∷ c.release.new.self.reserved)) is c.release.ensures.places) (sym (ap (λ (l : TimeList). l.orders) rest)) (sym (ap (λ (l : TimeList). l.adds) rest))
           (taken-sums stop u.stops.stops left taken) (taken-length stop u.stops.stops left taken));
     }
@@ -46,5 +47,5 @@ invariant_of-self-in_default g c =
     record {
       opening = c.self.invariant.opening;
       widths = c.self.invariant.widths;
-      frame = subst (λ (h : HeldStops). IsFramed u.accepted u.book h u.pending u.tape.room u.ready.value) (sym same) c.self.invariant.frame;
+      frame = subst (λ (h : HeldStops). IsFramed (came u.settings u.accepted) u.book h u.pending u.tape.room u.ready.value) (sym same) c.self.invariant.frame;
     }

@@ -6,7 +6,7 @@ use Rattle.xm_book.specs.declared.places.Place.{Place}
 use Rattle.xm_desk.proofs.Frames.{gives-up, kept-there}
 use Rattle.xm_desk.proofs.Sweeping.{sized-swept}
 use Rattle.xm_desk.specs.Frame.{IsFramed}
-use Rattle.xm_desk.specs.Settled.{Unsettled, possible_trades, trades_in}
+use Rattle.xm_desk.specs.Settled.{Unsettled, possible_trades, trades_in, came}
 use Rattle.xm_desk.specs.Tape.{TapeView, swept_by}
 use Rattle.xm_desk.specs.declared.unsettled.Ready.{Ready}
 use Rattle.xm_desk.specs.declared.unsettled.Ready.TheVariants.{ForOrder}
@@ -19,7 +19,7 @@ release-requires g c =
     let u = c.self.inside in
     let place = c.of.result in
     let ready : u.ready.value ≡ ForOrder place = ap (λ (v : Unsettled). v.ready) c.self.view_is ∙ c.requires.can.joins.ready ∙ ap ForOrder (sym c.of.ensures) in
-    let framed = subst (λ (h : Ready). IsFramed u.accepted u.book u.stops u.pending u.tape.room h) ready c.self.invariant.frame in
+    let framed = subst (λ (h : Ready). IsFramed (came u.settings u.accepted) u.book u.stops u.pending u.tape.room h) ready c.self.invariant.frame in
     let same = ap (λ (l : TimeList). l.reserved) c.sweep-swept.ensures.orders in
     subst (λ (ps : List Place). list_any (same_place place) ps ≡ true) (sym same) (kept-there u.book.reserved u.stops.stops u.pending.stops place framed.reserved)
 
@@ -37,7 +37,7 @@ invariant_of-self g c =
       opening = ap (λ (t : TapeView). t.opening) c.sweep-swept.ensures.trades ∙ c.self.invariant.opening;
       widths = c.self.invariant.widths;
       frame =
-          gives-up u.accepted u.stops u.pending u.book c.release.new.self u.tape.room c.sweep-swept.new.self.room u.ready.value place ready c.self.invariant.frame
+          gives-up (came u.settings u.accepted) u.stops u.pending u.book c.release.new.self u.tape.room c.sweep-swept.new.self.room u.ready.value place ready c.self.invariant.frame
           (subst (λ (ps : List Place). SamePlaces ps (place ∷ c.release.new.self.reserved)) (ap (λ (l : TimeList). l.reserved) swept) c.release.ensures.places)
           (sym (ap (λ (l : TimeList). l.adds) released) ∙ ap (λ (l : TimeList). l.adds) swept)
           (omega (arith, orders, left, c.sweep-swept.ensures.used_up.at_most, c.sweep-swept.ensures.room)) (omega (arith, orders, left, sweep_leaves_no_more w));

@@ -2,7 +2,7 @@ use Rattle.std.proofs.Common.{◌≡◌, ◌∙◌, ap, length, sym, subst, arit
 use Rattle.xm_book.specs.TimeList.{TimeList}
 use Rattle.xm_desk.proofs.Frames.{gives-up, kept-there}
 use Rattle.xm_desk.specs.Frame.{IsFramed}
-use Rattle.xm_desk.specs.Settled.{Unsettled}
+use Rattle.xm_desk.specs.Settled.{Unsettled, came}
 use Rattle.xm_desk.specs.declared.unsettled.Ready.{Ready}
 use Rattle.xm_desk.specs.declared.unsettled.Ready.TheVariants.{ForOrder}
 use Rattle.xm_desk.proofs.unsettled.Unsettled.give_up_place.Goals as goal
@@ -11,7 +11,7 @@ pub release-requires : goal.release-requires
 release-requires g c =
     let u = c.self.inside in
     let ready : u.ready.value ≡ ForOrder c.args.place = ap (λ (v : Unsettled). v.ready) c.self.view_is ∙ c.requires in
-    let framed = subst (λ (h : Ready). IsFramed u.accepted u.book u.stops u.pending u.tape.room h) ready c.self.invariant.frame in
+    let framed = subst (λ (h : Ready). IsFramed (came u.settings u.accepted) u.book u.stops u.pending u.tape.room h) ready c.self.invariant.frame in
     kept-there u.book.reserved u.stops.stops u.pending.stops c.args.place framed.reserved
 
 pub invariant_of-self : goal.invariant_of-self
@@ -24,6 +24,6 @@ invariant_of-self g c =
       opening = c.self.invariant.opening;
       widths = c.self.invariant.widths;
       frame =
-          gives-up u.accepted u.stops u.pending u.book c.release.new.self u.tape.room u.tape.room u.ready.value c.args.place ready c.self.invariant.frame
+          gives-up (came u.settings u.accepted) u.stops u.pending u.book c.release.new.self u.tape.room u.tape.room u.ready.value c.args.place ready c.self.invariant.frame
           c.release.ensures.places (sym (ap (λ (l : TimeList). l.adds) left)) (omega (arith, orders)) (omega (arith, orders));
     })

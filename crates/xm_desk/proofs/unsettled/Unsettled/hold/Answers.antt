@@ -1,6 +1,6 @@
 use Rattle.std.proofs.Common.{◌∙◌, ap}
 use Rattle.xm_desk.proofs.Frames.{holds}
-use Rattle.xm_desk.specs.Settled.{Unsettled}
+use Rattle.xm_desk.specs.Settled.{Unsettled, came}
 use Rattle.xm_desk.proofs.unsettled.Unsettled.hold.Goals as goal
 
 pub add-requires-clause-room : goal.add-requires-clause-room
@@ -13,5 +13,5 @@ invariant_of-self g c =
     rw c.of.ensures (record {
       opening = c.self.invariant.opening;
       widths = c.self.invariant.widths;
-      frame = holds u.accepted u.book u.stops c.add.new.self u.pending u.tape.room u.ready.value c.args.stop.now (ap (λ (v : Unsettled). v.ready) c.self.view_is ∙ c.requires.ready) c.self.invariant.frame c.add.ensures;
+      frame = holds (came u.settings u.accepted) u.book u.stops c.add.new.self u.pending u.tape.room u.ready.value c.args.stop.now (ap (λ (v : Unsettled). v.ready) c.self.view_is ∙ c.requires.ready) c.self.invariant.frame c.add.ensures;
     })

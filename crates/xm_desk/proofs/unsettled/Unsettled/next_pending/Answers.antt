@@ -3,7 +3,7 @@ use Rattle.xm_book.specs.Places.{place_of}
 use Rattle.xm_book.specs.declared.places.Place.{Place}
 use Rattle.xm_desk.proofs.Frames.{comes-next}
 use Rattle.xm_desk.specs.Frame.{IsFramed}
-use Rattle.xm_desk.specs.Settled.{Unsettled, places_in}
+use Rattle.xm_desk.specs.Settled.{Unsettled, places_in, came}
 use Rattle.xm_desk.specs.declared.unsettled.Ready.TheVariants.{ForOrder}
 use Rattle.xm_stops.specs.HeldStops.{PendingStops}
 use Rattle.xm_desk.proofs.unsettled.Unsettled.next_pending.Goals as goal
@@ -13,11 +13,11 @@ invariant_of-self-2 g c =
     let u = c.self.inside in
     let is = c.of.ensures ∙ ap place_of c.order_of_stop.ensures in
     let none = ap (λ (v : Unsettled). places_in v.ready) c.self.view_is ∙ c.requires in
-    let framed = comes-next u.accepted u.book u.stops u.pending u.tape.room c.in_ok-stop.stop (sym c.pop.ensures.first ∙ c.in_ok-stop.was) u.ready.value none c.self.invariant.frame in
+    let framed = comes-next (came u.settings u.accepted) u.book u.stops u.pending u.tape.room c.in_ok-stop.stop (sym c.pop.ensures.first ∙ c.in_ok-stop.was) u.ready.value none c.self.invariant.frame in
     rw c.of-2.ensures (record {
       opening = c.self.invariant.opening;
       widths = c.self.invariant.widths;
       frame =
-          subst (λ (p : PendingStops). IsFramed u.accepted u.book u.stops p u.tape.room (ForOrder c.of.result)) (sym c.pop.ensures.rest)
-          (subst (λ (p : Place). IsFramed u.accepted u.book u.stops (let left : PendingStops = record u.pending { stops = Rattle.std.specs.Prelude.drop 1 u.pending.stops } in left) u.tape.room (ForOrder p)) (sym is) framed);
+          subst (λ (p : PendingStops). IsFramed (came u.settings u.accepted) u.book u.stops p u.tape.room (ForOrder c.of.result)) (sym c.pop.ensures.rest)
+          (subst (λ (p : Place). IsFramed (came u.settings u.accepted) u.book u.stops (let left : PendingStops = record u.pending { stops = Rattle.std.specs.Prelude.drop 1 u.pending.stops } in left) u.tape.room (ForOrder p)) (sym is) framed);
     })

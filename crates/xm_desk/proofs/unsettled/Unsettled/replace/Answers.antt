@@ -4,7 +4,7 @@ use Rattle.xm_desk.proofs.Changing.{can-come-again, leaves-as-cancelled, without
 use Rattle.xm_desk.proofs.Frames.{fewer}
 use Rattle.xm_desk.proofs.Making.{makes-both, makes-none}
 use Rattle.xm_desk.proofs.Shorter.{filter-shorter}
-use Rattle.xm_desk.specs.Settled.{Unsettled, possible_trades}
+use Rattle.xm_desk.specs.Settled.{Unsettled, possible_trades, came}
 use Rattle.xm_desk.specs.declared.unsettled.Ready.TheVariants.{Used}
 use Rattle.xm_rules.specs.Orders.{is_named}
 use Rattle.xm_rules.specs.Settling.{come}
@@ -23,7 +23,7 @@ invariant_of-self g c =
       opening = c.self.invariant.opening;
       widths = c.self.invariant.widths;
       frame =
-          fewer u.accepted u.stops u.pending u.book c.remove.new.self u.tape.room u.tape.room u.ready.value c.self.invariant.frame
+          fewer (came u.settings u.accepted) u.stops u.pending u.book c.remove.new.self u.tape.room u.tape.room u.ready.value c.self.invariant.frame
           (ap (λ (l : TimeList). l.reserved) left) (ap (λ (l : TimeList). l.adds) left) (omega (arith, orders, few)) (omega (arith, orders, few));
     }
 

@@ -2,7 +2,7 @@ use Rattle.std.proofs.Common.{◌≡◌, ◌∙◌, ◌+◌, ◌≤◌, List, le
 use Rattle.xm_book.specs.TimeList.{Reserves, TimeList}
 use Rattle.xm_desk.proofs.Frames.{grown, keeps-place}
 use Rattle.xm_desk.specs.Frame.{IsFramed}
-use Rattle.xm_desk.specs.Settled.{Unsettled}
+use Rattle.xm_desk.specs.Settled.{Unsettled, came}
 use Rattle.xm_desk.specs.Tape.{TapeView}
 use Rattle.xm_desk.specs.declared.unsettled.Ready.TheVariants.{Nothing}
 use Rattle.xm_rules.specs.declared.orders.Stop.{Stop}
@@ -22,8 +22,8 @@ invariant_of-self-in_err-reserve_for g c =
       opening = opening;
       widths = c.self.invariant.widths;
       frame =
-          subst (λ (b : TimeList). IsFramed u.accepted b u.stops u.pending c.reserve.new.self.room u.ready.value) (sym same)
-          (grown u.accepted u.stops u.pending u.ready.value ready u.book u.stops u.pending u.tape.room c.reserve.new.self.room c.self.invariant.frame refl refl (omega arith) (omega (arith, enough)));
+          subst (λ (b : TimeList). IsFramed (came u.settings u.accepted) b u.stops u.pending c.reserve.new.self.room u.ready.value) (sym same)
+          (grown (came u.settings u.accepted) u.stops u.pending u.ready.value ready u.book u.stops u.pending u.tape.room c.reserve.new.self.room c.self.invariant.frame refl refl (omega arith) (omega (arith, enough)));
     }
 
 pub invariant_of-self-2 : goal.invariant_of-self-2
@@ -40,6 +40,6 @@ invariant_of-self-2 g c =
       opening = opening;
       widths = c.self.invariant.widths;
       frame =
-          keeps-place u.accepted u.stops u.pending u.ready.value ready u.book c.reserve_for.new.self c.reserve.new.self.room
-          (grown u.accepted u.stops u.pending u.ready.value ready u.book u.stops u.pending u.tape.room c.reserve.new.self.room c.self.invariant.frame refl refl (omega arith) (omega (arith, enough))) enough c.args.place.now more;
+          keeps-place (came u.settings u.accepted) u.stops u.pending u.ready.value ready u.book c.reserve_for.new.self c.reserve.new.self.room
+          (grown (came u.settings u.accepted) u.stops u.pending u.ready.value ready u.book u.stops u.pending u.tape.room c.reserve.new.self.room c.self.invariant.frame refl refl (omega arith) (omega (arith, enough))) enough c.args.place.now more;
     })

@@ -4,7 +4,7 @@ use Rattle.xm_book.specs.TimeList.{Reserves, TimeList}
 use Rattle.xm_book.specs.declared.places.Place.{Place}
 use Rattle.xm_desk.proofs.Frames.{grown, keeps-stop}
 use Rattle.xm_desk.specs.Frame.{IsFramed}
-use Rattle.xm_desk.specs.Settled.{Unsettled}
+use Rattle.xm_desk.specs.Settled.{Unsettled, came}
 use Rattle.xm_desk.specs.Tape.{TapeView}
 use Rattle.xm_desk.specs.declared.unsettled.Ready.TheVariants.{Nothing}
 use Rattle.xm_rules.specs.declared.orders.Stop.{Stop}
@@ -25,8 +25,8 @@ invariant_of-self-in_err-reserve-2 g c =
       opening = opening;
       widths = c.self.invariant.widths;
       frame =
-          subst (λ (p : PendingStops). IsFramed u.accepted u.book u.stops p c.reserve.new.self.room u.ready.value) (sym same)
-          (grown u.accepted u.stops u.pending u.ready.value ready u.book u.stops u.pending u.tape.room c.reserve.new.self.room c.self.invariant.frame refl refl (omega arith) (omega (arith, enough)));
+          subst (λ (p : PendingStops). IsFramed (came u.settings u.accepted) u.book u.stops p c.reserve.new.self.room u.ready.value) (sym same)
+          (grown (came u.settings u.accepted) u.stops u.pending u.ready.value ready u.book u.stops u.pending u.tape.room c.reserve.new.self.room c.self.invariant.frame refl refl (omega arith) (omega (arith, enough)));
     }
 
 pub invariant_of-self-in_err-reserve_one : goal.invariant_of-self-in_err-reserve_one
@@ -46,8 +46,8 @@ invariant_of-self-in_err-reserve_one g c =
       opening = opening;
       widths = c.self.invariant.widths;
       frame =
-          subst (λ (h : HeldStops). IsFramed u.accepted u.book h c.reserve-2.new.self c.reserve.new.self.room u.ready.value) (sym same)
-          (grown u.accepted u.stops u.pending u.ready.value ready u.book u.stops c.reserve-2.new.self u.tape.room c.reserve.new.self.room c.self.invariant.frame refl still (omega (arith, waiting)) (omega (arith, enough)));
+          subst (λ (h : HeldStops). IsFramed (came u.settings u.accepted) u.book h c.reserve-2.new.self c.reserve.new.self.room u.ready.value) (sym same)
+          (grown (came u.settings u.accepted) u.stops u.pending u.ready.value ready u.book u.stops c.reserve-2.new.self u.tape.room c.reserve.new.self.room c.self.invariant.frame refl still (omega (arith, waiting)) (omega (arith, enough)));
     }
 
 pub invariant_of-self-in_err-reserve_for : goal.invariant_of-self-in_err-reserve_for
@@ -68,8 +68,8 @@ invariant_of-self-in_err-reserve_for g c =
       opening = opening;
       widths = c.self.invariant.widths;
       frame =
-          subst (λ (b : TimeList). IsFramed u.accepted b c.reserve_one.new.self c.reserve-2.new.self c.reserve.new.self.room u.ready.value) (sym same)
-          (grown u.accepted u.stops u.pending u.ready.value ready u.book c.reserve_one.new.self c.reserve-2.new.self u.tape.room c.reserve.new.self.room c.self.invariant.frame (ap (λ (h : HeldStops). h.stops) held) still (omega (arith, waiting)) (omega (arith, enough)));
+          subst (λ (b : TimeList). IsFramed (came u.settings u.accepted) b c.reserve_one.new.self c.reserve-2.new.self c.reserve.new.self.room u.ready.value) (sym same)
+          (grown (came u.settings u.accepted) u.stops u.pending u.ready.value ready u.book c.reserve_one.new.self c.reserve-2.new.self u.tape.room c.reserve.new.self.room c.self.invariant.frame (ap (λ (h : HeldStops). h.stops) held) still (omega (arith, waiting)) (omega (arith, enough)));
     }
 
 pub invariant_of-self-2 : goal.invariant_of-self-2
@@ -88,13 +88,13 @@ invariant_of-self-2 g c =
     let held : c.reserve_one.new.self ≡ record u.stops { ready = Some stop } = search rules in
     let is = c.of.ensures ∙ ap place_of c.order_of_stop.ensures in
     let more : Reserves c.of.result u.book c.reserve_for.new.self = search rules in
-    let framed = grown u.accepted u.stops u.pending u.ready.value ready u.book c.reserve_one.new.self c.reserve-2.new.self u.tape.room c.reserve.new.self.room c.self.invariant.frame (ap (λ (h : HeldStops). h.stops) held) still (omega (arith, waiting)) (omega (arith, enough)) in
+    let framed = grown (came u.settings u.accepted) u.stops u.pending u.ready.value ready u.book c.reserve_one.new.self c.reserve-2.new.self u.tape.room c.reserve.new.self.room c.self.invariant.frame (ap (λ (h : HeldStops). h.stops) held) still (omega (arith, waiting)) (omega (arith, enough)) in
     let same = ap (λ (h : HeldStops). length h.stops) held in
     rw c.of-2.ensures (record {
       opening = opening;
       widths = c.self.invariant.widths;
       frame =
-          keeps-stop u.accepted c.reserve_one.new.self c.reserve-2.new.self u.ready.value ready u.book c.reserve_for.new.self c.reserve.new.self.room framed
+          keeps-stop (came u.settings u.accepted) c.reserve_one.new.self c.reserve-2.new.self u.ready.value ready u.book c.reserve_for.new.self c.reserve.new.self.room framed
           (omega (arith, same, ap (λ (ss : List Stop). length ss) still, enough)) stop (subst (λ (p : Place). Reserves p u.book c.reserve_for.new.self) is more)
           (ap (λ (h : HeldStops). h.ready) held) (omega (arith, same, waiting, c.len-3.ensures.len));
     })

@@ -1,6 +1,6 @@
 use Rattle.std.proofs.Common.{◌≡◌, ◌∙◌, ◌+◌, ◌≤◌, List, length, rules, refl, ap, arith}
 use Rattle.xm_desk.proofs.Frames.{grown, spares}
-use Rattle.xm_desk.specs.Settled.{Unsettled}
+use Rattle.xm_desk.specs.Settled.{Unsettled, came}
 use Rattle.xm_desk.specs.Tape.{TapeView}
 use Rattle.xm_desk.specs.declared.unsettled.Ready.TheVariants.{Nothing}
 use Rattle.xm_rules.specs.declared.orders.Stop.{Stop}
@@ -19,6 +19,6 @@ invariant_of-self-2 g c =
       opening = opening;
       widths = c.self.invariant.widths;
       frame =
-          spares u.accepted u.stops u.pending u.ready.value ready u.book c.reserve.new.self.room
-          (grown u.accepted u.stops u.pending u.ready.value ready u.book u.stops u.pending u.tape.room c.reserve.new.self.room c.self.invariant.frame refl refl (omega arith) (omega (arith, enough))) enough;
+          spares (came u.settings u.accepted) u.stops u.pending u.ready.value ready u.book c.reserve.new.self.room
+          (grown (came u.settings u.accepted) u.stops u.pending u.ready.value ready u.book u.stops u.pending u.tape.room c.reserve.new.self.room c.self.invariant.frame refl refl (omega arith) (omega (arith, enough))) enough;
     })

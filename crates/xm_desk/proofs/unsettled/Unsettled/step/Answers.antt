@@ -1,7 +1,7 @@
 use Rattle.std.proofs.Common.{◌∙◌, ◌≤◌, ap, sym, arith}
 use Rattle.xm_desk.proofs.Making.{makes-both, makes-none}
 use Rattle.xm_desk.proofs.Stepping.{can-settle, counted-after, few-possible, stepped}
-use Rattle.xm_desk.specs.Settled.{Unsettled, possible_trades}
+use Rattle.xm_desk.specs.Settled.{Unsettled, possible_trades, came}
 use Rattle.xm_rules.proofs.Kept.{act-keeps, settle-keeps}
 use Rattle.xm_desk.proofs.unsettled.Unsettled.step.Given.{Over}
 use Rattle.xm_desk.proofs.unsettled.Unsettled.step.Goals as goal
@@ -32,7 +32,7 @@ few g c =
     let u = c.self.inside in
     let v = c.args.self.now in
     let is = c.self.view_is in
-    few-possible v u.accepted v.state.settings.limit u.tape.room u.book u.stops u.pending u.ready.value c.self.invariant.frame (sym (ap (λ (w : Unsettled). w.state.orders) is))
+    few-possible v (came u.settings u.accepted) v.state.settings.limit u.tape.room u.book u.stops u.pending u.ready.value c.self.invariant.frame (sym (ap (λ (w : Unsettled). w.state.orders) is))
     (sym (ap (λ (w : Unsettled). w.state.stops) is)) (sym (ap (λ (w : Unsettled). w.pending) is)) (sym (ap (λ (w : Unsettled). w.ready) is))
     (omega (arith, c.requires.counted.accepted, ap (λ (w : Unsettled). w.state.accepted) is)) (omega (arith, c.get.ensures.value, c.get.ensures.high, ap (λ (w : Unsettled). w.state.settings.limit) is))
 

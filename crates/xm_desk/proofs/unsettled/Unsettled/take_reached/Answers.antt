@@ -1,5 +1,6 @@
 use Rattle.std.proofs.Common.{filter, not, refl, sym, subst}
 use Rattle.std.proofs.lemmas.List.Filters.{length-filter_both}
+use Rattle.xm_desk.specs.Settled.{came}
 use Rattle.xm_desk.proofs.Frames.{moves}
 use Rattle.xm_desk.specs.Frame.{IsFramed}
 use Rattle.xm_rules.proofs.SettledSums.{split}
@@ -18,7 +19,7 @@ invariant_of-self g c =
       opening = c.self.invariant.opening;
       widths = c.self.invariant.widths;
       frame =
-          subst (λ (h : HeldStops). IsFramed u.accepted u.book h c.take_reached.new.pending u.tape.room u.ready.value) (sym c.take_reached.ensures.held)
-          (moves u.accepted u.book u.stops (filter stay u.stops.stops) (filter gone u.stops.stops) u.pending c.take_reached.new.pending u.tape.room u.ready.value c.self.invariant.frame
+          subst (λ (h : HeldStops). IsFramed (came u.settings u.accepted) u.book h c.take_reached.new.pending u.tape.room u.ready.value) (sym c.take_reached.ensures.held)
+          (moves (came u.settings u.accepted) u.book u.stops (filter stay u.stops.stops) (filter gone u.stops.stops) u.pending c.take_reached.new.pending u.tape.room u.ready.value c.self.invariant.frame
           (λ f. split f gone u.stops.stops) (length-filter_both gone stay (λ stop. refl) u.stops.stops) c.take_reached.ensures.pending);
     }

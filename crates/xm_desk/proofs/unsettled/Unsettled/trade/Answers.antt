@@ -3,7 +3,7 @@ use Rattle.xm_auction.specs.Allotment.{uncrossing_of}
 use Rattle.xm_book.specs.TimeList.{TimeList}
 use Rattle.xm_desk.proofs.CallsEnd.{fewer-orders, sized-trades}
 use Rattle.xm_desk.proofs.Frames.{ends_call}
-use Rattle.xm_desk.specs.Settled.{Unsettled, possible_trades, trades_in}
+use Rattle.xm_desk.specs.Settled.{Unsettled, came, possible_trades, trades_in}
 use Rattle.xm_desk.specs.Tape.{TapeView}
 use Rattle.xm_rules.proofs.Prices.{some_volume}
 use Rattle.xm_rules.specs.Allotment.{Uncrossing, auction_trades}
@@ -26,7 +26,7 @@ invariant_of-self g c =
       opening = ap (λ (t : TapeView). t.opening) c.allot.ensures.trades ∙ c.self.invariant.opening;
       widths = c.self.invariant.widths;
       frame =
-          ends_call b.accepted b.stops b.pending b.book c.allot.new.book b.tape.room c.allot.new.self.room b.ready.value (ap (λ (v : Unsettled). v.ready) c.self.view_is ∙ c.requires.ready) c.self.invariant.frame
+          ends_call (came b.settings b.accepted) b.stops b.pending b.book c.allot.new.book b.tape.room c.allot.new.self.room b.ready.value (ap (λ (v : Unsettled). v.ready) c.self.view_is ∙ c.requires.ready) c.self.invariant.frame
           (ap (λ (l : TimeList). l.reserved) left) (ap (λ (l : TimeList). l.adds) left) (omega (arith, orders, c.allot.ensures.used, c.allot.ensures.room)) (omega (arith, orders, fewer-orders u));
     })
 

@@ -1,7 +1,7 @@
 use Rattle.std.proofs.Common.{◌≡◌, ◌∙◌, List, ap, subst}
 use Rattle.std.specs.Prelude.{IfOk}
 use Rattle.xm_rules.specs.declared.orders.Stop.{Stop}
-use Rattle.xm_desk.proofs.market.Market.stops.Goals as goal
+use Rattle.xm_desk.proofs.unsettled.market.Market.stops.Goals as goal
 
 pub returns : goal.returns
 returns g c =

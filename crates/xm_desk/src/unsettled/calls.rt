@@ -3,6 +3,7 @@ ghost use Rattle.std.specs.Prelude.{◌≡◌, ◌+◌, ◌<◌, [], IsTrue, Som
 ghost use Rattle.xm_auction.specs.Allotment.{uncrossing_of};
 ghost use Rattle.xm_desk.specs.Calls.{stage_after};
 ghost use Rattle.xm_desk.specs.Made.{Makes};
+ghost use Rattle.xm_desk.specs.Settled.{came};
 ghost use Rattle.xm_desk.specs.declared.unsettled.Ready.TheVariants.{Used, OneTrade};
 ghost use Rattle.xm_rules.specs.Auction.{auction_price};
 ghost use Rattle.xm_rules.specs.State.{ranges, ref1};
@@ -31,7 +32,7 @@ impl<A: Allocator + Copy> Unsettled<A> {
     pub fn end_call(&mut self, auction: Auction, stage: CallStage)
         requires phase { self.old.state.phase ≡ Call auction stage }
         requires ready { self.old.ready ≡ OneTrade }
-        requires sweeps { self.old.state.sweeps < self.old.state.settings.limit + PHASE_COMMANDS_MORE }
+        requires sweeps { self.old.state.sweeps < came self.old.state.settings (self.old.state.settings.limit + PHASE_COMMANDS_MORE) }
         ensures uncrossed { self.new ≡ record self.old {
           state = uncrossed_at self.old.state auction stage (auction_price (Call auction stage) self.old.state.orders (ref1 self.old.state));
           ready = Used;
@@ -88,7 +89,7 @@ impl<A: Allocator + Copy> Unsettled<A> {
     fn trade(&mut self, auction: Auction, stage: CallStage, price: Price, volume: u64)
         requires price { auction_price (Call auction stage) self.old.state.orders (ref1 self.old.state) ≡ Some (price, volume) }
         requires ready { self.old.ready ≡ OneTrade }
-        requires sweeps { self.old.state.sweeps < self.old.state.settings.limit + PHASE_COMMANDS_MORE }
+        requires sweeps { self.old.state.sweeps < came self.old.state.settings (self.old.state.settings.limit + PHASE_COMMANDS_MORE) }
         ensures traded { self.new ≡ record self.old {
           state = traded self.old.state (uncrossing_of auction stage self.old.state.orders price volume);
           ready = Used;

@@ -5,7 +5,7 @@ use Rattle.xm_rules.specs.State.{State}
 use Rattle.xm_rules.specs.Step.{new_trades, step}
 use Rattle.xm_rules.specs.declared.orders.Trade.{Trade}
 use Rattle.xm_desk.specs.declared.unsettled.Ready.TheVariants.{Nothing}
-use Rattle.xm_desk.proofs.market.Market.step.Goals as goal
+use Rattle.xm_desk.proofs.unsettled.market.Market.step.Goals as goal
 
 pub invariant_of-self : goal.invariant_of-self
 invariant_of-self g c =

@@ -2,6 +2,7 @@
 ghost use Rattle.std.specs.Prelude.{◌≡◌, ◌<◌, ◌≤◌, ◌+◌, IfSome, IsTrue, false, find, length};
 ghost use Rattle.xm_book.specs.Places.{place_of};
 ghost use Rattle.xm_desk.specs.Made.{Makes, uses};
+ghost use Rattle.xm_desk.specs.Settled.{came};
 ghost use Rattle.xm_desk.specs.declared.unsettled.Ready.TheVariants.{ForOrder, Used};
 ghost use Rattle.xm_rules.specs.Commands.{is_in_range};
 ghost use Rattle.xm_rules.specs.Orders.{is_named, removed_stop, with_rest, without_stops_of};
@@ -31,7 +32,7 @@ impl<A: Allocator + Copy> Unsettled<A> {
         requires name { has_stop self.old.state order.now.member order.now.reference ≡ false }
         requires rest { IsTrue (is_in_range order.now.rest) }
         requires accepted { self.old.state.accepted < self.old.state.settings.limit + PHASE_COMMANDS_MORE }
-        requires sweeps { self.old.state.sweeps < self.old.state.settings.limit + PHASE_COMMANDS_MORE }
+        requires sweeps { self.old.state.sweeps < came self.old.state.settings (self.old.state.settings.limit + PHASE_COMMANDS_MORE) }
         ensures replaced { self.new ≡ record self.old {
           state = come (cancelled self.old.state order.now.member order.now.reference) order.now;
           ready = Used;
