@@ -9,7 +9,7 @@ use Rattle.xm_auction.specs.declared.covered.Covered.{Covered}
 use Rattle.xm_auction.specs.declared.depth.Depth.{Depth}
 use Rattle.xm_auction.proofs.Bests.{best-is, best-none, reaches-on, reaches-other}
 use Rattle.xm_auction.proofs.Curves.{Nexts, depth-made, limit-made, next-candidate, next-units, next_reaches, nexts, of-candidate, reached-above, reached-more, unreached-below}
-use Rattle.xm_book.proofs.Members.{Contains-filter, Passes-filter}
+use Rattle.xm_slots.proofs.Members.{Contains-filter, Passes-filter}
 use Rattle.xm_rules.specs.Active.{active, limits}
 use Rattle.xm_rules.specs.Auction.{accepting, candidates, surplus, volume}
 use Rattle.xm_rules.specs.Sides.{opposite, reaches}

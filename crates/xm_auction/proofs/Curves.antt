@@ -9,7 +9,7 @@ use Rattle.std.proofs.lemmas.List.Sums.{sum_by-cons, sum_by-le-sum_by}
 use Rattle.xm_auction.specs.Depths.{units_to, depth_at, reached, later, orders_left}
 use Rattle.xm_auction.specs.declared.depth.Depth.{Depth}
 use Rattle.xm_auction.proofs.Bests.{Bests, best-says, reaches-on, reaches-other, reaches-itself}
-use Rattle.xm_book.proofs.Members.{Contains-filter, Contains-none, Contains-filter_map, Passes-filter}
+use Rattle.xm_slots.proofs.Members.{Contains-filter, Contains-none, Contains-filter_map, Passes-filter}
 use Rattle.xm_book.specs.Queues.{level_after, limits_after, market_sum, units_at}
 use Rattle.xm_ladders.specs.Ladder.{same_kind}
 use Rattle.xm_rules.specs.Active.{Positioned, active, is_active_on, limits, positioned_from}

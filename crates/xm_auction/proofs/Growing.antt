@@ -3,7 +3,7 @@ use Rattle.std.proofs.Common.{◌≡◌, ℕ, ◌<◌, List, [], ◌∷◌, ◌+
 use Rattle.std.specs.List.{filter_map, flat_map}
 use Rattle.std.proofs.lemmas.List.Elements.{Contains-append_cases}
 use Rattle.xm_book.proofs.Cutting.{CutAt, IsOther, cut_at, given_same, row_is}
-use Rattle.xm_book.proofs.Members.{Contains-here, Contains-there, Contains-none, IsGiven-filter_map}
+use Rattle.xm_slots.proofs.Members.{Contains-here, Contains-there, Contains-none, IsGiven-filter_map}
 use Rattle.xm_book.proofs.Sorting.{Below, in_order_last}
 use Rattle.xm_rules.specs.Active.{Positioned}
 use Rattle.xm_rules.specs.Priority.{in_order}

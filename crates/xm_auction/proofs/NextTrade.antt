@@ -6,7 +6,7 @@ use Rattle.std.proofs.lemmas.Bool.Decides.{nat_tests}
 use Rattle.xm_auction.proofs.Growing.{GivesLast, gives_last}
 use Rattle.xm_book.proofs.Cutting.{IsOther}
 use Rattle.xm_auction.proofs.Owners.{IsNext, apart_in, is_on, phase_of, upto}
-use Rattle.xm_book.proofs.Members.{Contains-filter, Passes-filter}
+use Rattle.xm_slots.proofs.Members.{Contains-filter, Passes-filter}
 use Rattle.xm_rules.specs.Active.{Positioned, is_active_on}
 use Rattle.xm_rules.specs.Allotment.{Uncrossing, auction_trades, end_unit, first_unit, parties, side_queue, takes_part, trade_of_pair, traded_units}
 use Rattle.xm_rules.specs.Orders.{trade_between}

@@ -8,7 +8,7 @@ use Rattle.xm_book.proofs.Taking.{TakesFrom, taken_is}
 use Rattle.xm_book.specs.Queues.{best_order, taken_from_any, taken_from_best}
 use Rattle.xm_book.specs.TimeList.{have_own_names}
 use Rattle.xm_book.proofs.Joining.{side-itself}
-use Rattle.xm_book.proofs.Members.{Contains-filter, Contains-here, Contains-there, Passes-filter}
+use Rattle.xm_slots.proofs.Members.{Contains-filter, Contains-here, Contains-there, Passes-filter}
 use Rattle.xm_rules.specs.Active.{Positioned, is_active, is_active_on, positioned_from}
 use Rattle.xm_rules.specs.Allotment.{Uncrossing, allotted, end_unit, first_unit, side_queue, takes_part}
 use Rattle.xm_rules.specs.Priority.{is_ahead, without_units}

@@ -9,7 +9,7 @@ use Rattle.xm_auction.specs.declared.covered.Covered.{Covered}
 use Rattle.xm_auction.proofs.Bests.{Bests, best-says, reaches-once}
 use Rattle.xm_auction.proofs.Curves.{market-alone}
 use Rattle.xm_auction.proofs.Winners.{Beats, HasOther, IsCovered, NotWorse, Wins, beats-covers, beats-not_worse, chosen_of_both, chosen_of_none, chosen_of_side, covered-wins, either_covers, found_at, own-falls, other-rises, surplus_at, volume_kept}
-use Rattle.xm_book.proofs.Members.{Contains-filter, Contains-here, Passes-filter}
+use Rattle.xm_slots.proofs.Members.{Contains-filter, Contains-here, Passes-filter}
 use Rattle.xm_book.specs.Queues.{market_sum}
 use Rattle.xm_rules.specs.Auction.{absolute_surplus, accepting, auction_price, candidates, kept_between, price_from, surplus, volume}
 use Rattle.xm_rules.specs.Sides.{best, opposite}

@@ -9,7 +9,7 @@ use Rattle.xm_book.proofs.Shortening.{no_more, one_less, some_there}
 use Rattle.xm_book.specs.Queues.{best_order, taken_from, taken_from_any, taken_from_best}
 use Rattle.xm_book.specs.TimeList.{have_own_names}
 use Rattle.xm_book.proofs.Cutting.{none_given}
-use Rattle.xm_book.proofs.Joining.{same_some}
+use Rattle.xm_slots.proofs.Tests.{same_some}
 use Rattle.xm_rules.specs.Active.{Positioned}
 use Rattle.xm_rules.specs.Allotment.{Uncrossing, allotted, auction_trades, end_unit, first_unit, parties, takes_part, trade_of_pair}
 use Rattle.xm_rules.specs.Auction.{volume as executable}

@@ -3,7 +3,7 @@ use Rattle.std.proofs.Common.{◌≡◌, ℕ, ◌<◌, List, [], ◌∷◌, ◌+
 use Rattle.std.specs.List.{filter_map, cons_option}
 use Rattle.std.proofs.lemmas.List.Elements.{filter_map-append}
 use Rattle.xm_book.proofs.Firsts.{later_in}
-use Rattle.xm_book.proofs.Members.{Contains-cases, Contains-here, Contains-there, Contains-none, IsGiven-filter_map}
+use Rattle.xm_slots.proofs.Members.{Contains-cases, Contains-here, Contains-there, Contains-none, IsGiven-filter_map}
 use Rattle.xm_book.proofs.Sorting.{Below, in_order_last}
 use Rattle.xm_rules.specs.Active.{Positioned}
 use Rattle.xm_rules.specs.Priority.{in_order}

@@ -5,69 +5,37 @@ use Rattle.std.specs.Prelude.{nat_lt}
 use Rattle.std.proofs.lemmas.Bool.{and_from, and_parts, false≢true}
 use Rattle.std.proofs.lemmas.Bool.Decides.{nat_tests}
 use Rattle.std.proofs.lemmas.List.Elements.{All-head, All-tail}
-use Rattle.xm_book.specs.Expiry.{is_below, is_done, outlives}
-use Rattle.xm_book.specs.Listing.{has_name, is_other_key, key_of, keys_in, listed_entry, listed_order}
-use Rattle.xm_book.specs.Slots.{SlotsView, get}
-use Rattle.xm_book.specs.declared.entry.Entry.{Entry}
-use Rattle.xm_book.specs.declared.listing.Listed.{Listed}
+use Rattle.xm_slots.specs.Listing.{is_below}
+use Rattle.xm_book.specs.Expiry.{is_done, outlives}
+use Rattle.xm_slots.specs.Listing.{is_other_key, keys_in, listed_entry}
+use Rattle.xm_book.specs.Listing.{has_name, key_of, listed_order}
+use Rattle.xm_slots.specs.Slots.{SlotsView, get}
+use Rattle.xm_slots.specs.declared.entry.Entry.{Entry}
+use Rattle.xm_slots.specs.declared.listing.Listed.{Listed}
 use Rattle.xm_book.specs.Indexed.{IsIndexed}
-use Rattle.xm_book.specs.Queued.{LiesAt, QueuedView}
-use Rattle.xm_book.proofs.Leaving.{all-stay, filters}
-use Rattle.xm_book.proofs.Members.{Contains-here, Contains-map, Contains-there, IsMade-map, Passes-filter, find-Some, list_any-false}
+use Rattle.xm_slots.specs.Listing.{LiesAt}
+use Rattle.xm_book.specs.Queued.{QueuedView}
+use Rattle.xm_slots.proofs.Leaving.{all-stay, filters, key-once}
+use Rattle.xm_slots.proofs.Tests.{find-filter, length-kept, none-found}
+use Rattle.xm_slots.proofs.Members.{Contains-here, Contains-map, Contains-there, IsMade-map, Passes-filter, find-Some, list_any-false}
 use Rattle.xm_book.specs.TimeList.{have_own_names}
 use Rattle.xm_rules.specs.Commands.{is_in_range, outlasts}
-use Rattle.xm_book.proofs.SlotKeys.{within-there}
-use Rattle.xm_book.proofs.Named.{find-filter, key-once, length-kept, name-once, named-at, none-found, not-named, orders-kept, own_names-kept, rests-kept}
+use Rattle.xm_slots.proofs.SlotKeys.{within-there}
+use Rattle.xm_book.proofs.Named.{name-once, named-at, not-named, orders-kept, own_names-kept, rests-kept}
 use Rattle.xm_names.specs.Names.{NamesOfMember, Retains, lookup, room}
 use Rattle.xm_rules.specs.Orders.{is_named}
 use Rattle.xm_rules.specs.declared.orders.Order.{Order}
 use Rattle.xm_queues.specs.Keys.{AreDistinct}
-
--- ---- each key is below the number of slots
-is-some : (o : Option Entry) (e : Entry) → o ≡ Some e → IsSome o
-is-some None e h = absurd (cc)
-is-some (Some x) e h = refl
-
-some-within : (slots : SlotsView) (key : ℕ) (e : Entry) → get slots key ≡ Some e → nat_lt key (length slots.slots) ≡ true
-some-within slots key e h = let l = within-there slots.slots key (is-some (get slots key) e h) in grind (arith, nat_tests)
-
-pub all-below : (slots : SlotsView) (xs : List Listed) → All (LiesAt slots) xs → list_all (is_below (length slots.slots)) xs ≡ true
-all-below slots [] h = refl
-all-below slots (x ∷ xs) h =
-    and_from (is_below (length slots.slots) x) (list_all (is_below (length slots.slots)) xs)
-    (some-within slots x.key (listed_entry x) (All-head (LiesAt slots) x xs h)) (all-below slots xs (All-tail (LiesAt slots) x xs h))
-
--- ---- one that isn't valid beyond the day leaves
-pub all-kept : (p q : Listed → Bool) (xs : List Listed) → list_all p xs ≡ true → list_all p (filter q xs) ≡ true
-all-kept p q [] h = refl
-all-kept p q (x ∷ xs) h = let parts = and_parts (p x) (list_all p xs) h in kept_if (q x) parts.0 (all-kept p q xs parts.1)
-  where
-    kept_if : (b : Bool) → p x ≡ true → list_all p (filter q xs) ≡ true → list_all p (if b then x ∷ filter q xs else filter q xs) ≡ true
-    kept_if true first rest = and_from (p x) (list_all p (filter q xs)) first rest
-    kept_if false first rest = rest
-
--- those that pass a test which it fails stay
-pub others-pass : (p : Listed → Bool) (xs : List Listed) (x : Listed) → AreDistinct (keys_in xs) → Contains xs x → p x ≡ false
-    → filter p (filter (is_other_key x.key) xs) ≡ filter p xs
-others-pass p xs x d at fails =
-    filters p (is_other_key x.key) xs ∙ all-stay x.key (filter p xs) absent
-  where
-    absent : Contains (keys_in (filter p xs)) x.key → ⊥
-    absent c =
-        let made = IsMade-map (λ (y : Listed). y.key) (filter p xs) x.key c in
-        let passes = Passes-filter p xs made.from made.contains in
-        let same : made.from ≡ x = key-once xs x made.from d at passes.contains made.made in
-        let k : true ≡ false = sym passes.passes ∙ ap p same ∙ fails in
-        cc
+use Rattle.xm_slots.proofs.Leaving.{others-pass}
 
 -- ---- the keys below a limit
-done-more : (today key : ℕ) (x : Listed) → is_done today key x ≡ true → (x.key ≡ key → outlives today x ≡ true) → is_done today (key + 1) x ≡ true
+done-more : (today key : ℕ) (x : Listed Order) → is_done today key x ≡ true → (x.key ≡ key → outlives today x ≡ true) → is_done today (key + 1) x ≡ true
 done-more today key x h valid = by_test (outlives today x) h valid
   where
     by_test : (b : Bool) → (not (nat_lt x.key key) || b) ≡ true → (x.key ≡ key → b ≡ true) → (not (nat_lt x.key (key + 1)) || b) ≡ true
     by_test b h valid = grind (arith, nat_tests)
 
-pub all-more : (today key : ℕ) (xs : List Listed) → list_all (is_done today key) xs ≡ true → ((x : Listed) → Contains xs x → x.key ≡ key → outlives today x ≡ true)
+pub all-more : (today key : ℕ) (xs : List (Listed Order)) → list_all (is_done today key) xs ≡ true → ((x : Listed Order) → Contains xs x → x.key ≡ key → outlives today x ≡ true)
     → list_all (is_done today (key + 1)) xs ≡ true
 all-more today key [] h there = refl
 all-more today key (x ∷ xs) h there =
@@ -76,7 +44,7 @@ all-more today key (x ∷ xs) h there =
     (done-more today key x parts.0 (there x (Contains-here x xs)))
     (all-more today key xs parts.1 (λ y c. there y (Contains-there x xs y c)))
 
-done-all : (today limit : ℕ) (x : Listed) → is_below limit x ≡ true → is_done today limit x ≡ true → outlives today x ≡ true
+done-all : (today limit : ℕ) (x : Listed Order) → is_below limit x ≡ true → is_done today limit x ≡ true → outlives today x ≡ true
 done-all today limit x b h = by_test (nat_lt x.key limit) b h
   where
     by_test : (t : Bool) → t ≡ true → (not t || outlives today x) ≡ true → outlives today x ≡ true
@@ -84,16 +52,16 @@ done-all today limit x b h = by_test (nat_lt x.key limit) b h
     by_test false e h = absurd (cc)
 
 -- at the end all that are left are valid beyond the day
-pub all-valid : (today limit : ℕ) (xs : List Listed) → list_all (is_below limit) xs ≡ true → list_all (is_done today limit) xs ≡ true → filter (outlives today) xs ≡ xs
+pub all-valid : (today limit : ℕ) (xs : List (Listed Order)) → list_all (is_below limit) xs ≡ true → list_all (is_done today limit) xs ≡ true → filter (outlives today) xs ≡ xs
 all-valid today limit [] b h = refl
 all-valid today limit (x ∷ xs) b h =
     let below = and_parts (is_below limit x) (list_all (is_below limit) xs) b in
     let done = and_parts (is_done today limit x) (list_all (is_done today limit) xs) h in
     (λ i. if done-all today limit x below.0 done.0 i then x ∷ filter (outlives today) xs else filter (outlives today) xs)
-    ∙ ap (λ (ys : List Listed). x ∷ ys) (all-valid today limit xs below.1 done.1)
+    ∙ ap (λ (ys : List (Listed Order)). x ∷ ys) (all-valid today limit xs below.1 done.1)
 
 -- before the first key nothing is asked
-pub none-done : (today : ℕ) (xs : List Listed) → list_all (is_done today 0) xs ≡ true
+pub none-done : (today : ℕ) (xs : List (Listed Order)) → list_all (is_done today 0) xs ≡ true
 none-done today [] = refl
 none-done today (x ∷ xs) = and_from (is_done today 0 x) (list_all (is_done today 0) xs) (before (outlives today x)) (none-done today xs)
   where
@@ -104,29 +72,29 @@ other-itself : (n key : ℕ) → n ≡ key → not (n == key) ≡ false
 other-itself n key e = grind (arith, nat_tests)
 
 -- ---- the order of a key leaves
-module _ (key : ℕ) (xs : List Listed) where
-  pub gone : (x : Listed) → Contains (filter (is_other_key key) xs) x → x.key ≡ key → ⊥
+module _ (key : ℕ) (xs : List (Listed Order)) where
+  pub gone : (x : Listed Order) → Contains (filter (is_other_key key) xs) x → x.key ≡ key → ⊥
   gone x at same =
       let passes = Passes-filter (is_other_key key) xs x at in
       let k : true ≡ false = sym passes.passes ∙ other-itself x.key key same in
       cc
 
   -- those that pass a test which it fails are as before
-  pub pass-as-before : (p : Listed → Bool) → AreDistinct (keys_in xs) → Contains (keys_in xs) key → ((x : Listed) → Contains xs x → x.key ≡ key → p x ≡ false)
+  pub pass-as-before : (p : Listed Order → Bool) → AreDistinct (keys_in xs) → Contains (keys_in xs) key → ((x : Listed Order) → Contains xs x → x.key ≡ key → p x ≡ false)
       → filter p (filter (is_other_key key) xs) ≡ filter p xs
   pass-as-before p d at fails =
-      let made = IsMade-map (λ (x : Listed). x.key) xs key at in
+      let made = IsMade-map (λ (x : Listed Order). x.key) xs key at in
       ap (λ (n : ℕ). filter p (filter (is_other_key n) xs)) (sym made.made) ∙ others-pass p xs made.from d made.contains (fails made.from made.contains made.made)
 
 -- ---- the name of each order that is left
-module _ (p : Listed → Bool) (xs : List Listed) (own : have_own_names (map listed_order xs) ≡ true) (m r : ℕ) where
-  abbrev is_it : Listed → Bool
+module _ (p : Listed Order → Bool) (xs : List (Listed Order)) (own : have_own_names (map listed_order xs) ≡ true) (m r : ℕ) where
+  abbrev is_it : Listed Order → Bool
   is_it = has_name m r
 
   abbrev key_if : Bool → Option ℕ → Option ℕ
   key_if b o = if b then o else None
 
-  out : (b : Bool) (o : Option Listed) → option_map (λ (x : Listed). x.key) (if b then o else None) ≡ key_if b (option_map (λ (x : Listed). x.key) o)
+  out : (b : Bool) (o : Option (Listed Order)) → option_map (λ (x : Listed Order). x.key) (if b then o else None) ≡ key_if b (option_map (λ (x : Listed Order). x.key) o)
   out true o = refl
   out false o = refl
 
@@ -134,16 +102,16 @@ module _ (p : Listed → Bool) (xs : List Listed) (own : have_own_names (map lis
   key-none none =
       let fails = list_any-false (is_named m r) (map listed_order xs) in
       let unnamed = none-found (is_named m r) (map listed_order xs) (not-named m r xs none) in
-      ap (option_map (λ (x : Listed). x.key)) (find-filter p is_it false xs (λ x at named. absurd (false≢true (sym (fails x.order unnamed (Contains-map listed_order xs x at)) ∙ named))))
+      ap (option_map (λ (x : Listed Order). x.key)) (find-filter p is_it false xs (λ x at named. absurd (false≢true (sym (fails x.item unnamed (Contains-map listed_order xs x at)) ∙ named))))
 
-  key-some : (key : ℕ) (b : Bool) → key_of m r xs ≡ Some key → ((x : Listed) → Contains xs x → x.key ≡ key → b ≡ p x) → key_of m r (filter p xs) ≡ key_if b (Some key)
+  key-some : (key : ℕ) (b : Bool) → key_of m r xs ≡ Some key → ((x : Listed Order) → Contains xs x → x.key ≡ key → b ≡ p x) → key_of m r (filter p xs) ≡ key_if b (Some key)
   key-some key b some says =
       let at = named-at m r key xs some in
       let it = find-Some is_it xs at.listed at.found in
-      ap (option_map (λ (x : Listed). x.key)) (find-filter p is_it b xs (λ x there named. ap p (name-once m r xs at.listed x own it.contains there it.passes named) ∙ sym (says at.listed it.contains at.key_is)))
+      ap (option_map (λ (x : Listed Order). x.key)) (find-filter p is_it b xs (λ x there named. ap p (name-once m r xs at.listed x own it.contains there it.passes named) ∙ sym (says at.listed it.contains at.key_is)))
       ∙ out b (find is_it xs) ∙ ap (key_if b) some
 
-  pub key-left : (answers : ℕ → Bool → Type 0) → ((key : ℕ) (b : Bool) → answers key b → (x : Listed) → Contains xs x → x.key ≡ key → b ≡ p x)
+  pub key-left : (answers : ℕ → Bool → Type 0) → ((key : ℕ) (b : Bool) → answers key b → (x : Listed Order) → Contains xs x → x.key ≡ key → b ≡ p x)
       → (old new : Option ℕ) → old ≡ key_of m r xs → Retains answers old new → new ≡ key_of m r (filter p xs)
   key-left answers says None new is left = left ∙ sym (key-none (sym is))
   key-left answers says (Some key) new is left = left.2 ∙ sym (key-some key left.0 (sym is) (says key left.0 left.1))

@@ -3,7 +3,7 @@ use Rattle.std.proofs.Common.{◌≡◌, ◌<◌, Bool, true, false, not, List, 
 use Rattle.std.specs.List.{list_any}
 use Rattle.std.proofs.lemmas.Bool.{both_ways, cases_eq, not-true, not_from_false, or_cases}
 use Rattle.xm_book.specs.Queues.{first}
-use Rattle.xm_book.proofs.Members.{Contains-cases, Contains-none, find-only, list_any-false, list_any-none}
+use Rattle.xm_slots.proofs.Members.{Contains-cases, Contains-none, find-only, list_any-false, list_any-none}
 use Rattle.xm_rules.specs.Active.{Positioned}
 use Rattle.xm_rules.specs.Priority.{is_ahead}
 use Rattle.xm_rules.specs.declared.orders.Side.{Side}

@@ -5,8 +5,8 @@ use Rattle.xm_book.specs.Levels.{same_restriction}
 use Rattle.xm_book.specs.Places.{same_place}
 use Rattle.xm_book.specs.Queued.{HasKindOf, HasPlaces, HoldsLevel, IsQueued, is_limit, is_limit_in, members}
 use Rattle.xm_book.specs.Reserved.{Gains}
-use Rattle.xm_book.specs.Slots.{SlotsView}
-use Rattle.xm_book.specs.declared.listing.Listed.{Listed}
+use Rattle.xm_slots.specs.Slots.{SlotsView}
+use Rattle.xm_slots.specs.declared.listing.Listed.{Listed}
 use Rattle.xm_book.specs.declared.places.Place.{Place}
 use Rattle.xm_book.proofs.Joining.{restriction-is, side-is}
 use Rattle.xm_book.proofs.Keeping.{kept-once, levels-fewer}
@@ -23,15 +23,16 @@ use Rattle.xm_rules.specs.Sides.{same_side}
 use Rattle.xm_rules.specs.declared.orders.OrderKind.{OrderKind}
 use Rattle.xm_rules.specs.declared.orders.Restriction.{Restriction}
 use Rattle.xm_rules.specs.declared.orders.Side.{Side}
+use Rattle.xm_rules.specs.declared.orders.Order.{Order}
 
-module _ {A : Type 0} (xs : List Listed) (entries : SlotsView) (links : List Link) (ladders : Ladders A) (capacity : ℕ) (links' : List Link)
+module _ {A : Type 0} (xs : List (Listed Order)) (entries : SlotsView Order) (links : List Link) (ladders : Ladders A) (capacity : ℕ) (links' : List Link)
     (same : (ends : Ends) (keys : List ℕ) → IsQueue links ends keys → IsQueue links' ends keys) (fits : capacity ≤ key_limit links') (ladders' : Ladders A)
     (levels : (s : Side) (r : Restriction) (k : OrderKind) → level_on (side_of s ladders') r k ≡ level_on (side_of s ladders) r k)
     (kinds : (s : Side) (r : Restriction) (k : OrderKind) → HasKind (ladder_on r (side_of s ladders)) k → HasKind (ladder_on r (side_of s ladders')) k) where
-  abbrev roomier : SlotsView
+  abbrev roomier : SlotsView Order
   roomier = record entries { capacity = capacity }
 
-  holds : (l : Option Level) (ys : List Listed) → HoldsLevel links l ys → HoldsLevel links' l ys
+  holds : (l : Option Level) (ys : List (Listed Order)) → HoldsLevel links l ys → HoldsLevel links' l ys
   holds None ys h = h
   holds (Some l) ys h = record { queue = same l.ends _ h.queue; orders = h.orders; units = h.units }
 
@@ -42,7 +43,7 @@ module _ {A : Type 0} (xs : List Listed) (entries : SlotsView) (links : List Lin
     count = h.count;
     few = h.few;
     small = h.small;
-    kinds = λ i d lt. (let x = get_or xs i d in kinds x.order.side x.order.restriction x.order.kind (h.kinds i d lt));
+    kinds = λ i d lt. (let x = get_or xs i d in kinds x.item.side x.item.restriction x.item.kind (h.kinds i d lt));
     levels = λ s r k. subst (λ (l : Option Level). HoldsLevel links' l (members s r k xs)) (sym (levels s r k)) (holds (level_on (side_of s ladders) r k) (members s r k xs) (h.levels s r k));
     fits = fits;
   }

@@ -7,16 +7,19 @@ use Rattle.std.proofs.lemmas.Bool.{and_parts, leb-true}
 use Rattle.std.proofs.lemmas.Bool.Decides.{nat_tests}
 use Rattle.std.proofs.lemmas.List.{length-append, length-map, map-append}
 use Rattle.xm_book.specs.Indexed.{IsIndexed, is_for}
-use Rattle.xm_book.specs.Listing.{has_name, is_other_key, key_of, keys_in, listed_entry, listed_order, reduced_at}
+use Rattle.xm_slots.specs.Listing.{is_other_key, keys_in, listed_entry}
+use Rattle.xm_book.specs.Listing.{has_name, key_of, listed_order, reduced_at}
 use Rattle.xm_book.specs.Places.{place_of}
 use Rattle.xm_book.specs.Queued.{QueuedView}
 use Rattle.xm_book.specs.Reserved.{Gains}
 use Rattle.xm_book.specs.TimeList.{Reserves, TimeList, have_own_names}
-use Rattle.xm_book.specs.declared.entry.Entry.{Entry}
-use Rattle.xm_book.specs.declared.listing.Listed.{Listed}
+use Rattle.xm_slots.specs.declared.entry.Entry.{Entry}
+use Rattle.xm_slots.specs.declared.listing.Listed.{Listed}
 use Rattle.xm_book.specs.declared.places.Place.{Place}
-use Rattle.xm_book.proofs.Members.{Contains-map, find-Some}
-use Rattle.xm_book.proofs.Named.{IsNamedAt, find-map, fewer-left, key-once, key_of-others, key_of-push, key_of-reduced, left-by-key, left-without, length-kept, named-at, none-found, not-named, nothing-of, orders-kept, orders-reduced, others, own_names-kept, own_names-push, own_names-reduced, reduced, reduced-by-key, rests-kept, rests-push, rests-reduced, some-found}
+use Rattle.xm_slots.proofs.Members.{Contains-map, find-Some}
+use Rattle.xm_book.proofs.Named.{IsNamedAt, find-map, fewer-left, key_of-others, key_of-push, key_of-reduced, left-by-key, left-without, named-at, not-named, nothing-of, orders-kept, orders-reduced, others, own_names-kept, own_names-push, own_names-reduced, reduced, reduced-by-key, rests-kept, rests-push, rests-reduced}
+use Rattle.xm_slots.proofs.Leaving.{key-once}
+use Rattle.xm_slots.proofs.Tests.{length-kept, none-found, some-found}
 use Rattle.xm_book.proofs.Reserved.{Gains-length, Gains-same, count_one}
 use Rattle.xm_names.specs.Names.{NamesOfMember, lookup, room}
 use Rattle.xm_queues.specs.Keys.{AreDistinct}
@@ -75,7 +78,7 @@ module _ (q : QueuedView) (names : List (ℕ × NamesOfMember)) (h : IsIndexed q
       by_find None e = refl
       by_find (Some key) e =
           let at = named-at member reference key q.orders (sym e) in
-          let there = some-found (is_named member reference) os at.listed.order (find-map member reference q.orders ∙ ap (option_map listed_order) at.found) in
+          let there = some-found (is_named member reference) os at.listed.item (find-map member reference q.orders ∙ ap (option_map listed_order) at.found) in
           absurd (let k : true ≡ false = sym there ∙ out in cc)
 
   -- ---- places
@@ -109,9 +112,9 @@ module _ (q : QueuedView) (names : List (ℕ × NamesOfMember)) (h : IsIndexed q
         room_if false m c e = omega (arith, c, e, h.names_room m)
 
   -- ---- an order joins, in its reserved place
-  module _ (o : Order) (time key : ℕ) (q' : QueuedView) (orders : q'.orders ≡ q.orders ++ record { key = key; time = time; order = o } ∷ []) (gain : Gains (place_of o) q'.reserved q.reserved) where
-    abbrev x : Listed
-    x = record { key = key; time = time; order = o }
+  module _ (o : Order) (time key : ℕ) (q' : QueuedView) (orders : q'.orders ≡ q.orders ++ record { key = key; time = time; item = o } ∷ []) (gain : Gains (place_of o) q'.reserved q.reserved) where
+    abbrev x : Listed Order
+    x = record { key = key; time = time; item = o }
 
     pub joined : map listed_order q'.orders ≡ os ++ o ∷ []
     joined = ap (map listed_order) orders ∙ map-append listed_order q.orders (x ∷ [])
@@ -152,21 +155,21 @@ module _ (q : QueuedView) (names : List (ℕ × NamesOfMember)) (h : IsIndexed q
     contains = (find-Some (has_name member reference) q.orders at.listed at.found).contains
 
     pub key-there : Contains (keys_in q.orders) key
-    key-there = subst (λ (n : ℕ). Contains (keys_in q.orders) n) at.key_is (Contains-map (λ (x : Listed). x.key) q.orders at.listed contains)
+    key-there = subst (λ (n : ℕ). Contains (keys_in q.orders) n) at.key_is (Contains-map (λ (x : Listed Order). x.key) q.orders at.listed contains)
 
-    pub found-order : find (is_named member reference) os ≡ Some at.listed.order
+    pub found-order : find (is_named member reference) os ≡ Some at.listed.item
     found-order = find-map member reference q.orders ∙ ap (option_map listed_order) at.found
 
     -- what its queue answers for its key
-    pub entry-found : (e : Option Entry) → ((x : Listed) → Contains q.orders x → x.key ≡ key → e ≡ Some (listed_entry x)) → option_map (λ (e : Entry). e.order) e ≡ find (is_named member reference) os
-    entry-found e answer = ap (option_map (λ (e : Entry). e.order)) (answer at.listed contains at.key_is) ∙ sym found-order
+    pub entry-found : (e : Option (Entry Order)) → ((x : Listed Order) → Contains q.orders x → x.key ≡ key → e ≡ Some (listed_entry x)) → option_map (λ (e : Entry Order). e.item) e ≡ find (is_named member reference) os
+    entry-found e answer = ap (option_map (λ (e : Entry Order). e.item)) (answer at.listed contains at.key_is) ∙ sym found-order
 
     -- the order that its queue gives up for its key
-    pub order-found : (o : Order) → ((x : Listed) → Contains q.orders x → x.key ≡ key → o ≡ x.order) → Some o ≡ find (is_named member reference) os
+    pub order-found : (o : Order) → ((x : Listed Order) → Contains q.orders x → x.key ≡ key → o ≡ x.item) → Some o ≡ find (is_named member reference) os
     order-found o answer = ap (λ (o : Order). Some o) (answer at.listed contains at.key_is) ∙ sym found-order
 
     pub known : list_any (is_named member reference) os ≡ true
-    known = some-found (is_named member reference) os at.listed.order found-order
+    known = some-found (is_named member reference) os at.listed.item found-order
 
     -- it leaves
     module _ (distinct : AreDistinct (keys_in q.orders)) (q' : QueuedView) (left : q' ≡ record q { orders = filter (is_other_key key) q.orders }) where
@@ -202,13 +205,13 @@ module _ (q : QueuedView) (names : List (ℕ × NamesOfMember)) (h : IsIndexed q
       })
 
     -- the rest that it is given
-    pub in-bounds : (rest : ℕ) → IfSome (find (is_named member reference) os) (λ (o : Order). (1 ≤ rest) × (rest ≤ o.rest)) → (1 ≤ rest) × (rest ≤ at.listed.order.rest)
+    pub in-bounds : (rest : ℕ) → IfSome (find (is_named member reference) os) (λ (o : Order). (1 ≤ rest) × (rest ≤ o.rest)) → (1 ≤ rest) × (rest ≤ at.listed.item.rest)
     in-bounds rest bounds = subst (λ (o : Option Order). IfSome o (λ (o : Order). (1 ≤ rest) × (rest ≤ o.rest))) found-order bounds
 
     pub bounds-of-key : (rest : ℕ) → IfSome (find (is_named member reference) os) (λ (o : Order). (1 ≤ rest) × (rest ≤ o.rest)) → AreDistinct (keys_in q.orders)
-        → (x : Listed) → Contains q.orders x → x.key ≡ key → (1 ≤ rest) × (rest ≤ x.order.rest)
+        → (x : Listed Order) → Contains q.orders x → x.key ≡ key → (1 ≤ rest) × (rest ≤ x.item.rest)
     bounds-of-key rest bounds distinct x there same =
-        subst (λ (y : Listed). (1 ≤ rest) × (rest ≤ y.order.rest)) (sym (key-once q.orders at.listed x distinct contains there (same ∙ sym at.key_is))) (in-bounds rest bounds)
+        subst (λ (y : Listed Order). (1 ≤ rest) × (rest ≤ y.item.rest)) (sym (key-once q.orders at.listed x distinct contains there (same ∙ sym at.key_is))) (in-bounds rest bounds)
 
     -- it is reduced
     module _ (rest : ℕ) (distinct : AreDistinct (keys_in q.orders)) (q' : QueuedView) (less : q' ≡ record q { orders = map (reduced_at key rest) q.orders }) where
@@ -220,7 +223,7 @@ module _ (q : QueuedView) (names : List (ℕ × NamesOfMember)) (h : IsIndexed q
       pub seen-reduced : seen q' ≡ record (seen q) { orders = with_rest member reference rest os }
       seen-reduced = ap seen reduced-is ∙ (λ i. record (seen q) { orders = orders-reduced member reference rest q.orders i })
 
-      pub order-reduced : (1 ≤ rest) × (rest ≤ at.listed.order.rest) → IsIndexed q' names
+      pub order-reduced : (1 ≤ rest) × (rest ≤ at.listed.item.rest) → IsIndexed q' names
       order-reduced bounds = subst (λ (v : QueuedView). IsIndexed v names) (sym reduced-is) (record {
         named = λ m r. h.named m r ∙ sym (key_of-reduced member reference rest m r q.orders);
         names_room = h.names_room;
@@ -231,8 +234,8 @@ module _ (q : QueuedView) (names : List (ℕ × NamesOfMember)) (h : IsIndexed q
         };
       })
         where
-          old : is_in_range at.listed.order.rest ≡ true
-          old = all-at (λ (o : Order). is_in_range o.rest) os at.listed.order h.sound.rests (is_named member reference) found-order
+          old : is_in_range at.listed.item.rest ≡ true
+          old = all-at (λ (o : Order). is_in_range o.rest) os at.listed.item h.sound.rests (is_named member reference) found-order
 
           range : is_in_range rest ≡ true
-          range = in_range rest bounds.0 (omega (arith, bounds.1, range-high at.listed.order.rest old))
+          range = in_range rest bounds.0 (omega (arith, bounds.1, range-high at.listed.item.rest old))

@@ -8,13 +8,14 @@ use Rattle.std.proofs.lemmas.Bool.Decides.{nat_tests}
 use Rattle.std.proofs.lemmas.List.{append-nil, map-append, length-append}
 use Rattle.std.proofs.lemmas.List.Elements.{All-contains, Contains-get_or, All-append, All-cons, All-nil, filter-append}
 use Rattle.std.proofs.lemmas.List.Sums.{count_by-le-length, length-filter, sum_by-append, sum_by-cons}
-use Rattle.xm_book.specs.Slots.{SlotsView, Updates, get, used}
+use Rattle.xm_slots.specs.Slots.{SlotsView, Updates, get, used}
 use Rattle.xm_book.specs.Levels.{IsFound, at_level, level_for, same_restriction}
-use Rattle.xm_book.specs.Listing.{keys_in}
-use Rattle.xm_book.specs.Queued.{HasItsKind, HoldsLevel, IsLevelOf, IsQueued, LiesAt, is_member, members, units_in}
-use Rattle.xm_book.specs.declared.entry.Entry.{Entry}
-use Rattle.xm_book.specs.declared.listing.Listed.{Listed}
-use Rattle.xm_book.proofs.Members.{Contains-cases, Contains-here, Contains-none, Contains-there, IsMade-map, Passes-filter}
+use Rattle.xm_slots.specs.Listing.{keys_in}
+use Rattle.xm_slots.specs.Listing.{LiesAt}
+use Rattle.xm_book.specs.Queued.{HasItsKind, HoldsLevel, IsLevelOf, IsQueued, is_member, members, units_in}
+use Rattle.xm_slots.specs.declared.entry.Entry.{Entry}
+use Rattle.xm_slots.specs.declared.listing.Listed.{Listed}
+use Rattle.xm_slots.proofs.Members.{Contains-cases, Contains-here, Contains-none, Contains-there, IsMade-map, Passes-filter}
 use Rattle.xm_ladders.specs.Ladder.{HasKind, same_kind}
 use Rattle.xm_ladders.specs.Ladders.{ladder_on, level_on, side_of}
 use Rattle.xm_ladders.specs.declared.ladders.Ladders.{Ladders}
@@ -31,18 +32,11 @@ use Rattle.xm_rules.specs.declared.orders.Restriction.{Restriction}
 use Rattle.xm_rules.specs.declared.orders.Restriction.TheVariants.{Free, OpeningOnly, AuctionsOnly, ClosingOnly}
 use Rattle.xm_rules.specs.declared.orders.Side.{Side}
 use Rattle.xm_rules.specs.declared.orders.Side.TheVariants.{Buy, Sell}
+use Rattle.xm_slots.proofs.Tests.{length-kept, same_some, some_none}
+use Rattle.xm_slots.proofs.Distinct.{distinct-push}
 
 pub range-high : (rest : ℕ) → is_in_range rest ≡ true → rest ≤ 1000000
 range-high rest h = leb-true rest 1000000 (and_parts (nat_le 1 rest) (nat_le rest 1000000) h).1
-
-pub length-kept : {X : Type 0} (p : X → Bool) (xs : List X) → length (filter p xs) ≤ length xs
-length-kept p xs = omega (arith, length-filter p xs, count_by-le-length p xs)
-
-pub some_none : {X : Type 0} {x : X} → Some x ≡ None → ⊥
-some_none h = cc
-
-pub same_some : {X : Type 0} {x y : X} → Some x ≡ Some y → x ≡ y
-same_some h = cc
 
 pub side-is : (s t : Side) → same_side s t ≡ true → s ≡ t
 side-is Buy Buy h = refl
@@ -107,60 +101,34 @@ at-itself s r k o h =
     (and_from (same_restriction o.restriction o.restriction) (same_kind o.kind o.kind) (restriction-itself o.restriction) (kind-itself o.kind))
 
 -- what a level that was looked for holds
-pub found-level : (links : List Link) (o : Option Level) (level : Level) (ms : List Listed) → IsFound o level → HoldsLevel links o ms → IsLevelOf links level ms
+pub found-level : (links : List Link) (o : Option Level) (level : Level) (ms : List (Listed Order)) → IsFound o level → HoldsLevel links o ms → IsLevelOf links level ms
 found-level links None level ms f e = record {
-  queue = subst (λ (ys : List Listed). IsQueue links level.ends (keys_in ys)) (sym e) (f.0 links);
+  queue = subst (λ (ys : List (Listed Order)). IsQueue links level.ends (keys_in ys)) (sym e) (f.0 links);
   orders = f.1.0 ∙ sym (ap length e);
   units = f.1.1 ∙ sym (ap units_in e);
 }
 found-level links (Some x) level ms f e = subst (λ (l : Level). IsLevelOf links l ms) (sym f) e
 
-Contains-end : (x y : ℕ) (ks : List ℕ) → Contains (ks ++ y ∷ []) x → Contains ks x ⊎ (x ≡ y)
-Contains-end x y [] c = end_by (Contains-cases y [] x c)
-  where
-    end_by : (y ≡ x) ⊎ Contains [] x → Contains [] x ⊎ (x ≡ y)
-    end_by (inl e) = inr (sym e)
-    end_by (inr n) = inl n
-Contains-end x y (k ∷ ks) c = end_by (λ n. Contains-end x y ks n) (Contains-cases k (ks ++ y ∷ []) x c)
-  where
-    end_by : (Contains (ks ++ y ∷ []) x → Contains ks x ⊎ (x ≡ y)) → (k ≡ x) ⊎ Contains (ks ++ y ∷ []) x → Contains (k ∷ ks) x ⊎ (x ≡ y)
-    end_by more (inl e) = inl (subst (λ (n : ℕ). Contains (k ∷ ks) n) e (Contains-here k ks))
-    end_by more (inr n) = one_by (more n)
-      where
-        one_by : Contains ks x ⊎ (x ≡ y) → Contains (k ∷ ks) x ⊎ (x ≡ y)
-        one_by (inl m) = inl (Contains-there k ks x m)
-        one_by (inr e) = inr e
-
--- keys stay different
-pub distinct-push : (key : ℕ) (ks : List ℕ) → AreDistinct ks → (Contains ks key → ⊥) → AreDistinct (ks ++ key ∷ [])
-distinct-push key [] d out = (λ c. Contains-none key c, tt)
-distinct-push key (k ∷ ks) d out =
-    (λ c. in_by (Contains-end k key ks c), distinct-push key ks d.1 (λ c. out (Contains-there k ks key c)))
-  where
-    in_by : Contains ks k ⊎ (k ≡ key) → ⊥
-    in_by (inl c) = d.0 c
-    in_by (inr e) = out (subst (λ (n : ℕ). Contains (k ∷ ks) n) e (Contains-here k ks))
-
 -- units of orders that are small
-pub units-few : (xs : List Listed) → All (λ (x : Listed). x.order.rest ≤ 1000000) xs → units_in xs ≤ 1000000 * length xs
+pub units-few : (xs : List (Listed Order)) → All (λ (x : Listed Order). x.item.rest ≤ 1000000) xs → units_in xs ≤ 1000000 * length xs
 units-few [] h = omega arith
 units-few (x ∷ xs) h =
-    let first : x.order.rest ≤ 1000000 = h 0 x (omega arith) in
+    let first : x.item.rest ≤ 1000000 = h 0 x (omega arith) in
     let rest = units-few xs (λ i d lt. h (suc i) d (omega arith)) in
-    omega (arith, first, rest, sum_by-cons (λ (y : Listed). y.order.rest) x xs)
+    omega (arith, first, rest, sum_by-cons (λ (y : Listed Order). y.item.rest) x xs)
 
-small-kept : (p : Listed → Bool) (xs : List Listed) → All (λ (x : Listed). x.order.rest ≤ 1000000) xs → All (λ (x : Listed). x.order.rest ≤ 1000000) (filter p xs)
-small-kept p xs h = λ i d lt. (let at = Passes-filter p xs (get_or (filter p xs) i d) (Contains-get_or (filter p xs) i d lt) in All-contains (λ (x : Listed). x.order.rest ≤ 1000000) xs (get_or (filter p xs) i d) h at.contains)
+small-kept : (p : Listed Order → Bool) (xs : List (Listed Order)) → All (λ (x : Listed Order). x.item.rest ≤ 1000000) xs → All (λ (x : Listed Order). x.item.rest ≤ 1000000) (filter p xs)
+small-kept p xs h = λ i d lt. (let at = Passes-filter p xs (get_or (filter p xs) i d) (Contains-get_or (filter p xs) i d lt) in All-contains (λ (x : Listed Order). x.item.rest ≤ 1000000) xs (get_or (filter p xs) i d) h at.contains)
 
-module _ {A : Type 0} (xs : List Listed) (entries : SlotsView) (links : List Link) (ladders : Ladders A) (h : IsQueued xs entries links ladders) where
+module _ {A : Type 0} (xs : List (Listed Order)) (entries : SlotsView Order) (links : List Link) (ladders : Ladders A) (h : IsQueued xs entries links ladders) where
   -- each key of a level has an order
-  pub has-order : (p : Listed → Bool) (key : ℕ) → Contains (keys_in (filter p xs)) key → (x : Listed) × (Contains xs x) × (p x ≡ true) × (x.key ≡ key) × LiesAt entries x
+  pub has-order : (p : Listed Order → Bool) (key : ℕ) → Contains (keys_in (filter p xs)) key → (x : Listed Order) × (Contains xs x) × (p x ≡ true) × (x.key ≡ key) × LiesAt entries x
   has-order p key at =
-      let made = IsMade-map (λ (x : Listed). x.key) (filter p xs) key at in
+      let made = IsMade-map (λ (x : Listed Order). x.key) (filter p xs) key at in
       let passes = Passes-filter p xs made.from made.contains in
       (made.from, passes.contains, passes.passes, made.made, All-contains (LiesAt entries) xs made.from h.lie passes.contains)
 
-  pub vacant-key : (p : Listed → Bool) (key : ℕ) → get entries key ≡ None → Contains (keys_in (filter p xs)) key → ⊥
+  pub vacant-key : (p : Listed Order → Bool) (key : ℕ) → get entries key ≡ None → Contains (keys_in (filter p xs)) key → ⊥
   vacant-key p key vacant at = let x = has-order p key at in some_none (sym x.4 ∙ ap (get entries) x.3 ∙ vacant)
 
   module _ (o : Order) (level : Level) (f : IsFound (level_for o ladders) level) where
@@ -180,10 +148,10 @@ module _ {A : Type 0} (xs : List Listed) (entries : SlotsView) (links : List Lin
     apart s r k off n a b =
         let y = has-order (is_member o.side o.restriction o.kind) n a in
         let z = has-order (is_member s r k) n b in
-        let one : Some (record { order = y.0.order; time = y.0.time }) ≡ Some (record { order = z.0.order; time = z.0.time }) = sym y.4 ∙ ap (get entries) (y.3 ∙ sym z.3) ∙ z.4 in
-        let same : y.0.order ≡ z.0.order = ap (λ (e : Entry). e.order) (same_some one) in
-        let i = is-at o.side o.restriction o.kind y.0.order y.2 in
-        let j = is-at s r k z.0.order z.2 in
+        let one : Some (record { item = y.0.item; time = y.0.time }) ≡ Some (record { item = z.0.item; time = z.0.time }) = sym y.4 ∙ ap (get entries) (y.3 ∙ sym z.3) ∙ z.4 in
+        let same : y.0.item ≡ z.0.item = ap (λ (e : Entry Order). e.item) (same_some one) in
+        let i = is-at o.side o.restriction o.kind y.0.item y.2 in
+        let j = is-at s r k z.0.item z.2 in
         let at : IsAt s r k o = record {
           side = j.side ∙ sym (ap (λ (w : Order). w.side) same) ∙ sym i.side;
           restriction = j.restriction ∙ sym (ap (λ (w : Order). w.restriction) same) ∙ sym i.restriction;
@@ -191,27 +159,27 @@ module _ {A : Type 0} (xs : List Listed) (entries : SlotsView) (links : List Lin
         } in
         absurd (false≢true (sym off ∙ at-itself s r k o at))
 
-    module _ (time key : ℕ) (vacant : get entries key ≡ None) (entries' : SlotsView) (u : Updates entries entries' key (Some (record { order = o; time = time }))) (len : used entries' ≡ used entries + 1)
+    module _ (time key : ℕ) (vacant : get entries key ≡ None) (entries' : SlotsView Order) (u : Updates entries entries' key (Some (record { item = o; time = time }))) (len : used entries' ≡ used entries + 1)
         (cap : entries'.capacity ≡ entries.capacity) (links' : List Link) (ends' : Ends) (last : (keys : List ℕ) → IsQueue links level.ends keys → IsQueue links' ends' (keys ++ key ∷ []))
         (others : (other : Ends) (keys keys' : List ℕ) → IsQueue links level.ends keys → IsQueue links other keys' → AreApart keys keys' → (Contains keys' key → ⊥) → IsQueue links' other keys')
         (limit : key_limit links' ≡ key_limit links) (ladders' : Ladders A)
         (puts : (s : Side) (r : Restriction) (k : OrderKind) → level_on (side_of s ladders') r k ≡ (if at_level s r k o then Some (record { ends = ends'; orders = level.orders + 1; units = level.units + o.rest }) else level_on (side_of s ladders) r k))
         (few : length xs < 2000000) (small : o.rest ≤ 1000000)
         (kind : HasKind (ladder_on o.restriction (side_of o.side ladders)) o.kind) (kinds-kept : (s : Side) (r : Restriction) (k : OrderKind) → HasKind (ladder_on r (side_of s ladders)) k → HasKind (ladder_on r (side_of s ladders')) k) where
-      abbrev x : Listed
-      x = record { key = key; time = time; order = o }
+      abbrev x : Listed Order
+      x = record { key = key; time = time; item = o }
 
       abbrev new_level : Level
       new_level = record { ends = ends'; orders = level.orders + 1; units = level.units + o.rest }
 
-      abbrev ms : List Listed
+      abbrev ms : List (Listed Order)
       ms = members o.side o.restriction o.kind xs
 
       longer : IsLevelOf links' new_level (ms ++ x ∷ [])
       longer = record {
-        queue = subst (λ (ks : List ℕ). IsQueue links' ends' ks) (sym (map-append (λ (y : Listed). y.key) ms (x ∷ []))) (last (keys_in ms) here.queue);
+        queue = subst (λ (ks : List ℕ). IsQueue links' ends' ks) (sym (map-append (λ (y : Listed Order). y.key) ms (x ∷ []))) (last (keys_in ms) here.queue);
         orders = omega (arith, here.orders, length-append ms (x ∷ []));
-        units = omega (arith, here.units, sum_by-append (λ (y : Listed). y.order.rest) ms (x ∷ []), sum_by-cons (λ (y : Listed). y.order.rest) x []);
+        units = omega (arith, here.units, sum_by-append (λ (y : Listed Order). y.item.rest) ms (x ∷ []), sum_by-cons (λ (y : Listed Order). y.item.rest) x []);
       }
 
       module _ (s : Side) (r : Restriction) (k : OrderKind) where
@@ -225,13 +193,13 @@ module _ {A : Type 0} (xs : List Listed) (entries : SlotsView) (links : List Lin
         holds_if : (b : Bool) → at_level s r k o ≡ b → HoldsLevel links' (if b then Some new_level else level_on (side_of s ladders) r k) (members s r k xs ++ (if b then x ∷ [] else []))
         holds_if true t =
             let at = is-at s r k o t in
-            subst (λ (ys : List Listed). IsLevelOf links' new_level (ys ++ x ∷ [])) (λ i. members (sym at.side i) (sym at.restriction i) (sym at.kind i) xs) longer
+            subst (λ (ys : List (Listed Order)). IsLevelOf links' new_level (ys ++ x ∷ [])) (λ i. members (sym at.side i) (sym at.restriction i) (sym at.kind i) xs) longer
         holds_if false t =
-            subst (λ (ys : List Listed). HoldsLevel links' (level_on (side_of s ladders) r k) ys) (sym (append-nil (members s r k xs))) (kept t (level_on (side_of s ladders) r k) (h.levels s r k))
+            subst (λ (ys : List (Listed Order)). HoldsLevel links' (level_on (side_of s ladders) r k) ys) (sym (append-nil (members s r k xs))) (kept t (level_on (side_of s ladders) r k) (h.levels s r k))
 
         holds : HoldsLevel links' (level_on (side_of s ladders') r k) (members s r k (xs ++ x ∷ []))
         holds = subst (λ (l : Option Level). HoldsLevel links' l (members s r k (xs ++ x ∷ []))) (sym (puts s r k))
-            (subst (λ (ys : List Listed). HoldsLevel links' (if at_level s r k o then Some new_level else level_on (side_of s ladders) r k) ys) (sym pushed) (holds_if (at_level s r k o) refl))
+            (subst (λ (ys : List (Listed Order)). HoldsLevel links' (if at_level s r k o then Some new_level else level_on (side_of s ladders) r k) ys) (sym pushed) (holds_if (at_level s r k o) refl))
 
       lie-old : All (LiesAt entries') xs
       lie-old = λ i d lt. (let y = get_or xs i d in let old = h.lie i d lt in u.others y.key (λ same. some_none (sym old ∙ ap (get entries) same ∙ vacant)) ∙ old)
@@ -239,11 +207,11 @@ module _ {A : Type 0} (xs : List Listed) (entries : SlotsView) (links : List Lin
       pub joined : IsQueued (xs ++ x ∷ []) entries' links' ladders'
       joined = record {
         lie = All-append (LiesAt entries') xs (x ∷ []) lie-old (All-cons (LiesAt entries') x [] u.changed (All-nil (LiesAt entries')));
-        distinct = subst AreDistinct (sym (map-append (λ (y : Listed). y.key) xs (x ∷ []))) (distinct-push key (keys_in xs) h.distinct (λ c. (let made = IsMade-map (λ (y : Listed). y.key) xs key c in some_none (sym (All-contains (LiesAt entries) xs made.from h.lie made.contains) ∙ ap (get entries) made.made ∙ vacant))));
+        distinct = subst AreDistinct (sym (map-append (λ (y : Listed Order). y.key) xs (x ∷ []))) (distinct-push key (keys_in xs) h.distinct (λ c. (let made = IsMade-map (λ (y : Listed Order). y.key) xs key c in some_none (sym (All-contains (LiesAt entries) xs made.from h.lie made.contains) ∙ ap (get entries) made.made ∙ vacant))));
         count = omega (arith, len, h.count, length-append xs (x ∷ []));
         few = omega (arith, few, length-append xs (x ∷ []));
-        small = All-append (λ (y : Listed). y.order.rest ≤ 1000000) xs (x ∷ []) h.small (All-cons (λ (y : Listed). y.order.rest ≤ 1000000) x [] small (All-nil (λ (y : Listed). y.order.rest ≤ 1000000)));
-        kinds = All-append (HasItsKind ladders') xs (x ∷ []) (λ i d lt. (let y = get_or xs i d in kinds-kept y.order.side y.order.restriction y.order.kind (h.kinds i d lt)))
+        small = All-append (λ (y : Listed Order). y.item.rest ≤ 1000000) xs (x ∷ []) h.small (All-cons (λ (y : Listed Order). y.item.rest ≤ 1000000) x [] small (All-nil (λ (y : Listed Order). y.item.rest ≤ 1000000)));
+        kinds = All-append (HasItsKind ladders') xs (x ∷ []) (λ i d lt. (let y = get_or xs i d in kinds-kept y.item.side y.item.restriction y.item.kind (h.kinds i d lt)))
             (All-cons (HasItsKind ladders') x [] (kinds-kept o.side o.restriction o.kind kind) (All-nil (HasItsKind ladders')));
         levels = holds;
         fits = omega (arith, cap, limit, h.fits);

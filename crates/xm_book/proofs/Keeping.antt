@@ -5,12 +5,13 @@ use Rattle.std.proofs.lemmas.Bool.{and_parts, leb-true}
 use Rattle.std.proofs.lemmas.Bool.Decides.{nat_tests}
 use Rattle.std.proofs.lemmas.List.{length-append}
 use Rattle.xm_book.specs.Levels.{level_for, same_restriction}
-use Rattle.xm_book.specs.Listing.{reduced_at, rises}
+use Rattle.xm_slots.specs.Listing.{rises}
+use Rattle.xm_book.specs.Listing.{reduced_at}
 use Rattle.xm_book.specs.Places.{place_of, same_place}
 use Rattle.xm_book.specs.Queued.{HasPlaces, is_limit, is_limit_in}
 use Rattle.xm_book.specs.Reserved.{Gains}
-use Rattle.xm_book.specs.Slots.{SlotsView}
-use Rattle.xm_book.specs.declared.listing.Listed.{Listed}
+use Rattle.xm_slots.specs.Slots.{SlotsView}
+use Rattle.xm_slots.specs.declared.listing.Listed.{Listed}
 use Rattle.xm_book.specs.declared.places.Place.{Place}
 use Rattle.xm_book.proofs.Joining.{restriction-itself, side-itself}
 use Rattle.xm_book.proofs.Placing.{levels-less}
@@ -27,42 +28,14 @@ use Rattle.xm_rules.specs.declared.orders.OrderKind.TheVariants.{Market, Limit}
 use Rattle.xm_rules.specs.declared.orders.Restriction.{Restriction}
 use Rattle.xm_rules.specs.declared.orders.Side.{Side}
 
--- ---- times
-pub rises-push : (l : ℕ) (xs : List Listed) (x : Listed) → rises l xs x.time ≡ true → rises l (xs ++ x ∷ []) (x.time + 1) ≡ true
-rises-push l [] x h = last l x.time h
-  where
-    last : (l t : ℕ) → nat_le l t ≡ true → (nat_le l t && nat_le (t + 1) (t + 1)) ≡ true
-    last l t h = grind (arith, nat_tests)
-rises-push l (y ∷ xs) x h =
-    (λ i. left-true (nat_le l y.time) (rises (y.time + 1) xs x.time) h i && rises-push (y.time + 1) xs x (right-true (nat_le l y.time) (rises (y.time + 1) xs x.time) h) i)
-
-lower : (l m : ℕ) (xs : List Listed) (high : ℕ) → l ≤ m → rises m xs high ≡ true → rises l xs high ≡ true
-lower l m [] high le h = grind (arith, nat_tests)
-lower l m (x ∷ xs) high le h =
-    let parts = and_parts (nat_le m x.time) (rises (x.time + 1) xs high) h in
-    (λ i. below l m x.time le parts.0 i && parts.1 i)
-  where
-    below : (l m n : ℕ) → l ≤ m → nat_le m n ≡ true → nat_le l n ≡ true
-    below l m n le h = grind (arith, nat_tests)
-
-pub rises-kept : (p : Listed → Bool) (l : ℕ) (xs : List Listed) (high : ℕ) → rises l xs high ≡ true → rises l (filter p xs) high ≡ true
-rises-kept p l [] high h = h
-rises-kept p l (x ∷ xs) high h =
-    let parts = and_parts (nat_le l x.time) (rises (x.time + 1) xs high) h in
-    kept_if (p x) parts.0 (leb-true l x.time parts.0) (rises-kept p (x.time + 1) xs high parts.1)
-  where
-    kept_if : (b : Bool) → nat_le l x.time ≡ true → l ≤ x.time → rises (x.time + 1) (filter p xs) high ≡ true → rises l (if b then x ∷ filter p xs else filter p xs) high ≡ true
-    kept_if true at le rest = (λ i. at i && rest i)
-    kept_if false at le rest = lower l (x.time + 1) (filter p xs) high (omega arith) rest
-
-same-time : (key rest : ℕ) (x : Listed) → (reduced_at key rest x).time ≡ x.time
+same-time : (key rest : ℕ) (x : Listed Order) → (reduced_at key rest x).time ≡ x.time
 same-time key rest x = same_if (nat_eq x.key key)
   where
-    same_if : (b : Bool) → (if b then (let o = x.order in record x { order = record o { rest = rest } }) else x).time ≡ x.time
+    same_if : (b : Bool) → (if b then (let o = x.item in record x { item = record o { rest = rest } }) else x).time ≡ x.time
     same_if true = refl
     same_if false = refl
 
-pub rises-reduced : (key rest l : ℕ) (xs : List Listed) (high : ℕ) → rises l xs high ≡ true → rises l (map (reduced_at key rest) xs) high ≡ true
+pub rises-reduced : (key rest l : ℕ) (xs : List (Listed Order)) (high : ℕ) → rises l xs high ≡ true → rises l (map (reduced_at key rest) xs) high ≡ true
 rises-reduced key rest l [] high h = h
 rises-reduced key rest l (x ∷ xs) high h =
     let parts = and_parts (nat_le l x.time) (rises (x.time + 1) xs high) h in
@@ -75,9 +48,9 @@ levels-fewer l k n zero r = subst (λ (i : ℕ). HasLevels l k i) (let z : n + 0
 levels-fewer l k n (suc m) r =
     levels-fewer l k n m (levels-less l k (n + m) (subst (λ (i : ℕ). HasLevels l k i) (let s : n + suc m ≡ (n + m) + 1 = omega arith in s) r))
 
-module _ {A : Type 0} (xs : List Listed) (ps : List Place) (entries : SlotsView) (ladders : Ladders A) (h : HasPlaces xs ps entries ladders) where
+module _ {A : Type 0} (xs : List (Listed Order)) (ps : List Place) (entries : SlotsView Order) (ladders : Ladders A) (h : HasPlaces xs ps entries ladders) where
   -- where there are no more orders and no place more, and no room was used
-  pub places-kept : (ys : List Listed) → length ys ≤ length xs → (entries' : SlotsView) → entries.capacity ≤ entries'.capacity → (ladders' : Ladders A)
+  pub places-kept : (ys : List (Listed Order)) → length ys ≤ length xs → (entries' : SlotsView Order) → entries.capacity ≤ entries'.capacity → (ladders' : Ladders A)
       → ((s : Side) (r : Restriction) (k : OrderKind) → HasKind (ladder_on r (side_of s ladders)) k → HasKind (ladder_on r (side_of s ladders')) k)
       → ((s : Side) (r : Restriction) (k : OrderKind) (n : ℕ) → HasLevels (ladder_on r (side_of s ladders)) k n → HasLevels (ladder_on r (side_of s ladders')) k n)
       → HasPlaces ys ps entries' ladders'
@@ -101,7 +74,7 @@ pub kept-once : (f : Place → Bool) (b : Bool) (p : Place) (ps qs : List Place)
 kept-once f b p ps qs gain e = gain.counts f ∙ count_one f p ps ∙ ap (λ (c : Bool). (if c then 1 else 0) + count_by f ps) e
 
 -- an order uses its place
-module _ {A : Type 0} (xs : List Listed) (ps : List Place) (entries : SlotsView) (ladders : Ladders A) (h : HasPlaces xs ps entries ladders) (o : Order) (qs : List Place) (gain : Gains (place_of o) qs ps) where
+module _ {A : Type 0} (xs : List (Listed Order)) (ps : List Place) (entries : SlotsView Order) (ladders : Ladders A) (h : HasPlaces xs ps entries ladders) (o : Order) (qs : List Place) (gain : Gains (place_of o) qs ps) where
   pub some-place : 0 < length ps
   some-place = omega (arith, Gains-length (place_of o) qs ps gain)
 
@@ -121,7 +94,7 @@ module _ {A : Type 0} (xs : List Listed) (ps : List Place) (entries : SlotsView)
           subst (λ (n : ℕ). HasLevels (ladder_on o.restriction (side_of o.side ladders)) (Limit p) n) (let z : 0 + 1 ≡ 1 = refl in z)
           (h.levels_room o.side o.restriction (Limit p) 0 (omega (arith, one)))
 
-  module _ (x : Listed) (entries' : SlotsView) (cap : entries'.capacity ≡ entries.capacity) (ladders' : Ladders A)
+  module _ (x : Listed Order) (entries' : SlotsView Order) (cap : entries'.capacity ≡ entries.capacity) (ladders' : Ladders A)
       (kinds : (s : Side) (r : Restriction) (k : OrderKind) → HasKind (ladder_on r (side_of s ladders)) k → HasKind (ladder_on r (side_of s ladders')) k)
       (used : (s : Side) (r : Restriction) (k : OrderKind) (n : ℕ) → HasLevels (ladder_on r (side_of s ladders)) k (n + 1) → HasLevels (ladder_on r (side_of s ladders')) k n)
       (kept : IsSome (level_for o ladders) → (s : Side) (r : Restriction) (k : OrderKind) (n : ℕ) → HasLevels (ladder_on r (side_of s ladders)) k n → HasLevels (ladder_on r (side_of s ladders')) k n)

@@ -1,4 +1,3 @@
-pub mod Collecting
 pub mod Cutting
 pub mod Expiring
 pub mod FirstKinds
@@ -12,7 +11,6 @@ pub mod Keeping
 pub mod Leaving
 pub mod LevelSums
 pub mod Limited
-pub mod Members
 pub mod Merging
 pub mod Named
 pub mod Naming
@@ -26,9 +24,7 @@ pub mod Reserved
 pub mod Reserving
 pub mod Sameness
 pub mod Shortening
-pub mod SlotKeys
 pub mod Sorting
 pub mod Standing
 pub mod Taking
-pub mod Timeline
 pub mod Walking

@@ -6,8 +6,8 @@ use Rattle.std.proofs.lemmas.Bool.Decides.{nat_tests}
 use Rattle.xm_book.specs.Fronts.{IsBestOf, has_worse, is_on, is_worse}
 use Rattle.xm_book.specs.Listing.{listed_order}
 use Rattle.xm_book.specs.Queues.{level_after, limits_after, units_at}
-use Rattle.xm_book.specs.declared.listing.Listed.{Listed}
-use Rattle.xm_book.proofs.Members.{Contains-cases, Contains-filter, Contains-filter_map, Contains-here, Contains-map, Contains-none, Contains-there, IsGiven-filter_map, IsMade-map, Passes-filter}
+use Rattle.xm_slots.specs.declared.listing.Listed.{Listed}
+use Rattle.xm_slots.proofs.Members.{Contains-cases, Contains-filter, Contains-filter_map, Contains-here, Contains-map, Contains-none, Contains-there, IsGiven-filter_map, IsMade-map, Passes-filter}
 use Rattle.xm_rules.specs.Active.{Positioned, active, is_active, is_active_on, limits, positioned_from}
 use Rattle.xm_rules.specs.Orders.{limit_of}
 use Rattle.xm_rules.specs.Priority.{is_better}
@@ -77,38 +77,38 @@ orders_placed : (n : ℕ) (os : List Order) → map (λ (i : Positioned). i.orde
 orders_placed n [] = refl
 orders_placed n (o ∷ os) = ap (λ (l : List Order). o ∷ l) (orders_placed (n + 1) os)
 
-module _ (phase : Phase) (side : Side) (xs : List Listed) where
+module _ (phase : Phase) (side : Side) (xs : List (Listed Order)) where
   abbrev pub queue : List Positioned
   queue = active phase side (map listed_order xs)
 
   -- an active order of the list is placed in the queue, and what is placed there is one
-  pub placed : (x : Listed) → Contains xs x → (is_active phase x.order.restriction && same_side side x.order.side) ≡ true → (i : Positioned) × Contains queue i × (i.order ≡ x.order)
+  pub placed : (x : Listed Order) → Contains xs x → (is_active phase x.item.restriction && same_side side x.item.side) ≡ true → (i : Positioned) × Contains queue i × (i.order ≡ x.item)
   placed x c t =
-      let made = IsMade-map (λ (i : Positioned). i.order) (positioned_from 0 (map listed_order xs)) x.order
-      (subst (λ (os : List Order). Contains os x.order) (sym (orders_placed 0 (map listed_order xs))) (Contains-map listed_order xs x c)) in (
+      let made = IsMade-map (λ (i : Positioned). i.order) (positioned_from 0 (map listed_order xs)) x.item
+      (subst (λ (os : List Order). Contains os x.item) (sym (orders_placed 0 (map listed_order xs))) (Contains-map listed_order xs x c)) in (
         made.from,
         Contains-filter (is_active_on phase side) (positioned_from 0 (map listed_order xs)) made.from
             (ap (λ (o : Order). is_active phase o.restriction && same_side side o.side) made.made ∙ t) made.contains,
         made.made,
       )
 
-  pub listed-at : (i : Positioned) → Contains queue i → (x : Listed) × Contains xs x × (x.order ≡ i.order) × ((is_active phase x.order.restriction && same_side side x.order.side) ≡ true)
+  pub listed-at : (i : Positioned) → Contains queue i → (x : Listed Order) × Contains xs x × (x.item ≡ i.order) × ((is_active phase x.item.restriction && same_side side x.item.side) ≡ true)
   listed-at i c =
       let p = Passes-filter (is_active_on phase side) (positioned_from 0 (map listed_order xs)) i c in
       let made = IsMade-map listed_order xs i.order
       (subst (λ (os : List Order). Contains os i.order) (orders_placed 0 (map listed_order xs)) (Contains-map (λ (j : Positioned). j.order) (positioned_from 0 (map listed_order xs)) i p.contains)) in
       (made.from, made.contains, made.made, ap (λ (o : Order). is_active phase o.restriction && same_side side o.side) made.made ∙ p.passes)
 
-  limit-in : (x : Listed) (p : ℕ) → Contains xs x → (is_active phase x.order.restriction && same_side side x.order.side) ≡ true → x.order.kind ≡ Limit p → Contains (limits queue) p
+  limit-in : (x : Listed Order) (p : ℕ) → Contains xs x → (is_active phase x.item.restriction && same_side side x.item.side) ≡ true → x.item.kind ≡ Limit p → Contains (limits queue) p
   limit-in x p c t e =
       let at = placed x c t in
       Contains-filter_map (λ (i : Positioned). limit_of i.order.kind) queue at.0 p (ap (λ (o : Order). limit_of o.kind) at.2 ∙ ap limit_of e) at.1
 
-  limit-out : (p : ℕ) → Contains (limits queue) p → (x : Listed) × Contains xs x × ((is_active phase x.order.restriction && same_side side x.order.side) ≡ true) × (x.order.kind ≡ Limit p)
+  limit-out : (p : ℕ) → Contains (limits queue) p → (x : Listed Order) × Contains xs x × ((is_active phase x.item.restriction && same_side side x.item.side) ≡ true) × (x.item.kind ≡ Limit p)
   limit-out p c =
       let given = IsGiven-filter_map (λ (i : Positioned). limit_of i.order.kind) queue p c in
       let at = listed-at given.from given.contains in
-      (at.0, at.1, at.3, limit_is at.0.order.kind p (ap (λ (o : Order). limit_of o.kind) at.2 ∙ given.given))
+      (at.0, at.1, at.3, limit_is at.0.item.kind p (ap (λ (o : Order). limit_of o.kind) at.2 ∙ given.given))
 
   module _ (after : Option ℕ) where
     after-in : (after : Option ℕ) (p : ℕ) → Contains (limits queue) p → is_worse side after (Limit p) ≡ true → Contains (limits_after side after queue) p
@@ -120,11 +120,11 @@ module _ (phase : Phase) (side : Side) (xs : List Listed) where
     after-out (Some a) p c = let at = Passes-filter (λ q. not (reaches side q a)) (limits queue) p c in (at.contains, at.passes)
 
     -- an active order that passes has one of these limits, and each of them is that of one
-    limit-there : (p : ℕ) → Contains (limits_after side after queue) p → (x : Listed) × Contains xs x × (is_on phase side (has_worse side after) x ≡ true) × (x.order.kind ≡ Limit p)
+    limit-there : (p : ℕ) → Contains (limits_after side after queue) p → (x : Listed Order) × Contains xs x × (is_on phase side (has_worse side after) x ≡ true) × (x.item.kind ≡ Limit p)
     limit-there p c =
         let at = after-out after p c in
         let x = limit-out p at.0 in
-        (x.0, x.1, and_from (is_active phase x.0.order.restriction && same_side side x.0.order.side) (is_worse side after x.0.order.kind) x.2 (ap (is_worse side after) x.3 ∙ at.1), x.3)
+        (x.0, x.1, and_from (is_active phase x.0.item.restriction && same_side side x.0.item.side) (is_worse side after x.0.item.kind) x.2 (ap (is_worse side after) x.3 ∙ at.1), x.3)
 
     pub best-limit : (o : Option ℕ) → IsBestOf side (is_on phase side (has_worse side after)) xs o → o ≡ best side (limits_after side after queue)
     best-limit None none =
@@ -133,7 +133,7 @@ module _ (phase : Phase) (side : Side) (xs : List Listed) where
         let x = first.0 in
         let kind = first.1 in
         let is = first.2 in
-        let parts = and_parts (is_active phase x.order.restriction && same_side side x.order.side) (is_worse side after x.order.kind) is.passing in
+        let parts = and_parts (is_active phase x.item.restriction && same_side side x.item.side) (is_worse side after x.item.kind) is.passing in
         sym (best_is side p (limits_after side after queue) (after-in after p (limit-in x p is.contained parts.0 kind) (ap (is_worse side after) (sym kind) ∙ parts.1))
         (λ q c. let y = limit-there q c in
         not-false (reaches side p q) ((λ i. is_better side (sym y.3 i) (sym kind i)) ∙ is.none y.0 y.1 y.2)))

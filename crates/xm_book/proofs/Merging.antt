@@ -6,9 +6,9 @@ use Rattle.std.proofs.lemmas.Bool.{or_left, or_right, or_cases, or_from}
 use Rattle.std.proofs.lemmas.Bool.Decides.{nat_tests}
 use Rattle.xm_book.specs.Fronts.{IsBestOf, IsFirst, IsFirstOf, better_of_two, earlier_of_two, has_better, is_earlier, is_in, is_on}
 use Rattle.xm_book.specs.Levels.{same_restriction}
-use Rattle.xm_book.specs.Listing.{listed_entry}
-use Rattle.xm_book.specs.declared.entry.Entry.{Entry}
-use Rattle.xm_book.specs.declared.listing.Listed.{Listed}
+use Rattle.xm_slots.specs.Listing.{listed_entry}
+use Rattle.xm_slots.specs.declared.entry.Entry.{Entry}
+use Rattle.xm_slots.specs.declared.listing.Listed.{Listed}
 use Rattle.xm_rules.specs.Active.{is_active}
 use Rattle.xm_rules.specs.Priority.{is_better}
 use Rattle.xm_rules.specs.Sides.{reaches, same_side}
@@ -21,34 +21,35 @@ use Rattle.xm_rules.specs.declared.orders.Side.TheVariants.{Buy, Sell}
 use Rattle.xm_rules.specs.Settling.{is_continuous}
 use Rattle.xm_rules.specs.declared.phases.Phase.{Phase}
 use Rattle.xm_rules.specs.declared.phases.Phase.TheVariants.{PreTrading, Call, Continuous, PostTrading, Ended}
+use Rattle.xm_rules.specs.declared.orders.Order.{Order}
 
 -- an order in which of two at most one is ahead, and what isn't ahead of one that isn't ahead isn't ahead
-pub record IsOrder (ahead : Listed → Listed → Bool) : Type 0 where
-  pub once : (a b : Listed) → ahead a b ≡ true → ahead b a ≡ false
-  pub off : (a b c : Listed) → ahead a b ≡ false → ahead b c ≡ false → ahead a c ≡ false
+pub record IsOrder (ahead : Listed Order → Listed Order → Bool) : Type 0 where
+  pub once : (a b : Listed Order) → ahead a b ≡ true → ahead b a ≡ false
+  pub off : (a b c : Listed Order) → ahead a b ≡ false → ahead b c ≡ false → ahead a c ≡ false
 
-either : (p q : Listed → Bool) (x : Listed) (P : Type 0) → (p x ≡ true → P) → (q x ≡ true → P) → (p x ≡ true) ⊎ (q x ≡ true) → P
+either : (p q : Listed Order → Bool) (x : Listed Order) (P : Type 0) → (p x ≡ true → P) → (q x ≡ true → P) → (p x ≡ true) ⊎ (q x ≡ true) → P
 either p q x P f g (inl h) = f h
 either p q x P f g (inr h) = g h
 
-module _ (ahead : Listed → Listed → Bool) (order : IsOrder ahead) (p q : Listed → Bool) (xs : List Listed) where
+module _ (ahead : Listed Order → Listed Order → Bool) (order : IsOrder ahead) (p q : Listed Order → Bool) (xs : List (Listed Order)) where
   -- the one of two firsts that is ahead is the first of both
-  pub second_ahead : (a b : Listed) → ahead b a ≡ true → IsFirst ahead p xs a → IsFirst ahead q xs b → IsFirst ahead (λ x. p x || q x) xs b
+  pub second_ahead : (a b : Listed Order) → ahead b a ≡ true → IsFirst ahead p xs a → IsFirst ahead q xs b → IsFirst ahead (λ x. p x || q x) xs b
   second_ahead a b e of_p of_q = record {
     contained = of_q.contained;
     passing = or_right (p b) (q b) of_q.passing;
     none = λ x c h. either p q x (ahead x b ≡ false) (λ i. order.off x a b (of_p.none x c i) (order.once b a e)) (λ i. of_q.none x c i) (or_cases (p x) (q x) h);
   }
 
-  pub first_ahead : (a b : Listed) → ahead b a ≡ false → IsFirst ahead p xs a → IsFirst ahead q xs b → IsFirst ahead (λ x. p x || q x) xs a
+  pub first_ahead : (a b : Listed Order) → ahead b a ≡ false → IsFirst ahead p xs a → IsFirst ahead q xs b → IsFirst ahead (λ x. p x || q x) xs a
   first_ahead a b e of_p of_q = record {
     contained = of_p.contained;
     passing = or_left (p a) (q a) of_p.passing;
     none = λ x c h. either p q x (ahead x a ≡ false) (λ i. of_p.none x c i) (λ i. order.off x b a (of_q.none x c i) e) (or_cases (p x) (q x) h);
   }
 
-module _ (ahead : Listed → Listed → Bool) (p q : Listed → Bool) (xs : List Listed) where
-  pub second_alone : (b : Listed) → ((x : Listed) → Contains xs x → p x ≡ false) → IsFirst ahead q xs b → IsFirst ahead (λ x. p x || q x) xs b
+module _ (ahead : Listed Order → Listed Order → Bool) (p q : Listed Order → Bool) (xs : List (Listed Order)) where
+  pub second_alone : (b : Listed Order) → ((x : Listed Order) → Contains xs x → p x ≡ false) → IsFirst ahead q xs b → IsFirst ahead (λ x. p x || q x) xs b
   second_alone b none of_q = record {
     contained = of_q.contained;
     passing = or_right (p b) (q b) of_q.passing;
@@ -59,18 +60,18 @@ module _ (ahead : Listed → Listed → Bool) (p q : Listed → Bool) (xs : List
   one_of_two true b e h = refl
   one_of_two false b e h = absurd (cc)
 
-  pub first_alone : (a : Listed) → ((x : Listed) → Contains xs x → q x ≡ false) → IsFirst ahead p xs a → IsFirst ahead (λ x. p x || q x) xs a
+  pub first_alone : (a : Listed Order) → ((x : Listed Order) → Contains xs x → q x ≡ false) → IsFirst ahead p xs a → IsFirst ahead (λ x. p x || q x) xs a
   first_alone a none of_p = record {
     contained = of_p.contained;
     passing = or_left (p a) (q a) of_p.passing;
     none = λ x c h. of_p.none x c (one_of_two (p x) (q x) (none x c) h);
   }
 
-  pub neither : ((x : Listed) → Contains xs x → p x ≡ false) → ((x : Listed) → Contains xs x → q x ≡ false) → (x : Listed) → Contains xs x → (p x || q x) ≡ false
+  pub neither : ((x : Listed Order) → Contains xs x → p x ≡ false) → ((x : Listed Order) → Contains xs x → q x ≡ false) → (x : Listed Order) → Contains xs x → (p x || q x) ≡ false
   neither f g x c = or_from (p x) (q x) (f x c) (g x c)
 
   -- of tests that agree there is one first
-  pub agrees : ((x : Listed) → p x ≡ q x) → (a : Listed) → IsFirst ahead p xs a → IsFirst ahead q xs a
+  pub agrees : ((x : Listed Order) → p x ≡ q x) → (a : Listed Order) → IsFirst ahead p xs a → IsFirst ahead q xs a
   agrees same a f = record {
     contained = f.contained;
     passing = sym (same a) ∙ f.passing;
@@ -87,19 +88,19 @@ times_off m n o h i = grind (arith, nat_tests)
 pub time-order : IsOrder is_earlier
 time-order = record { once = λ a b h. times_once a.time b.time h; off = λ a b c h i. times_off a.time b.time c.time h i }
 
-module _ (p q : Listed → Bool) (xs : List Listed) where
-  earlier_if : (a b : Entry) (x y : Listed) (t : Bool) → nat_lt b.time a.time ≡ t → a ≡ listed_entry x → b ≡ listed_entry y → IsFirst is_earlier p xs x → IsFirst is_earlier q xs y
+module _ (p q : Listed Order → Bool) (xs : List (Listed Order)) where
+  earlier_if : (a b : Entry Order) (x y : Listed Order) (t : Bool) → nat_lt b.time a.time ≡ t → a ≡ listed_entry x → b ≡ listed_entry y → IsFirst is_earlier p xs x → IsFirst is_earlier q xs y
       → IsFirstOf is_earlier (λ x. p x || q x) xs (if t then Some b else Some a)
   earlier_if a b x y true e f g of_p of_q = (y, g, second_ahead is_earlier time-order p q xs x y (sym (λ i. nat_lt (g i).time (f i).time) ∙ e) of_p of_q)
   earlier_if a b x y false e f g of_p of_q = (x, f, first_ahead is_earlier time-order p q xs x y (sym (λ i. nat_lt (g i).time (f i).time) ∙ e) of_p of_q)
 
-  pub earlier-first : (a b : Option Entry) → IsFirstOf is_earlier p xs a → IsFirstOf is_earlier q xs b → IsFirstOf is_earlier (λ x. p x || q x) xs (earlier_of_two a b)
+  pub earlier-first : (a b : Option (Entry Order)) → IsFirstOf is_earlier p xs a → IsFirstOf is_earlier q xs b → IsFirstOf is_earlier (λ x. p x || q x) xs (earlier_of_two a b)
   earlier-first None None f g = neither is_earlier p q xs f g
   earlier-first None (Some b) f g = (g.0, g.1, second_alone is_earlier p q xs g.0 f g.2)
   earlier-first (Some a) None f g = (f.0, f.1, first_alone is_earlier p q xs f.0 g f.2)
   earlier-first (Some a) (Some b) f g = earlier_if a b f.0 g.0 (nat_lt b.time a.time) refl f.1 g.1 f.2 g.2
 
-pub first_agrees : (ahead : Listed → Listed → Bool) (p q : Listed → Bool) (xs : List Listed) → ((x : Listed) → p x ≡ q x) → (o : Option Entry) → IsFirstOf ahead p xs o → IsFirstOf ahead q xs o
+pub first_agrees : (ahead : Listed Order → Listed Order → Bool) (p q : Listed Order → Bool) (xs : List (Listed Order)) → ((x : Listed Order) → p x ≡ q x) → (o : Option (Entry Order)) → IsFirstOf ahead p xs o → IsFirstOf ahead q xs o
 first_agrees ahead p q xs same None f = λ x c. sym (same x) ∙ f x c
 first_agrees ahead p q xs same (Some e) f = (f.0, f.1, agrees ahead p q xs same f.0 f.2)
 
@@ -127,12 +128,12 @@ kinds_off Sell (Limit p) (Limit q) (Limit r) h i = limits_off r q p i h
 
 pub limit-order : (side : Side) → IsOrder (has_better side)
 limit-order side = record {
-  once = λ a b h. kinds_once side a.order.kind b.order.kind h;
-  off = λ a b c h i. kinds_off side a.order.kind b.order.kind c.order.kind h i;
+  once = λ a b h. kinds_once side a.item.kind b.item.kind h;
+  off = λ a b c h i. kinds_off side a.item.kind b.item.kind c.item.kind h i;
 }
 
-module _ (side : Side) (p q : Listed → Bool) (xs : List Listed) where
-  better_if : (a b : ℕ) (x y : Listed) (t : Bool) → reaches side a b ≡ t → x.order.kind ≡ Limit a → y.order.kind ≡ Limit b → IsFirst (has_better side) p xs x → IsFirst (has_better side) q xs y
+module _ (side : Side) (p q : Listed Order → Bool) (xs : List (Listed Order)) where
+  better_if : (a b : ℕ) (x y : Listed Order) (t : Bool) → reaches side a b ≡ t → x.item.kind ≡ Limit a → y.item.kind ≡ Limit b → IsFirst (has_better side) p xs x → IsFirst (has_better side) q xs y
       → IsBestOf side (λ x. p x || q x) xs (if t then Some a else Some b)
   better_if a b x y true e f g of_p of_q =
       (x, f, first_ahead (has_better side) (limit-order side) p q xs x y ((λ i. is_better side (g i) (f i)) ∙ ap not e) of_p of_q)
@@ -145,7 +146,7 @@ module _ (side : Side) (p q : Listed → Bool) (xs : List Listed) where
   better-best (Some a) None f g = (f.0, f.1, first_alone (has_better side) p q xs f.0 g f.2)
   better-best (Some a) (Some b) f g = better_if a b f.0 g.0 (reaches side a b) refl f.1 g.1 f.2 g.2
 
-best_agrees : (side : Side) (p q : Listed → Bool) (xs : List Listed) → ((x : Listed) → p x ≡ q x) → (o : Option ℕ) → IsBestOf side p xs o → IsBestOf side q xs o
+best_agrees : (side : Side) (p q : Listed Order → Bool) (xs : List (Listed Order)) → ((x : Listed Order) → p x ≡ q x) → (o : Option ℕ) → IsBestOf side p xs o → IsBestOf side q xs o
 best_agrees side p q xs same None f = λ x c. sym (same x) ∙ f x c
 best_agrees side p q xs same (Some e) f = (f.0, f.1, agrees (has_better side) p q xs same f.0 f.2)
 
@@ -185,29 +186,29 @@ only_free (Call auction stage) e r s k = absurd (cc)
 only_free PostTrading e r s k = absurd (cc)
 only_free Ended e r s k = absurd (cc)
 
-module _ (phase : Phase) (side : Side) (test : Listed → Bool) (xs : List Listed) where
+module _ (phase : Phase) (side : Side) (test : Listed Order → Bool) (xs : List (Listed Order)) where
   module _ (continuous : is_continuous phase ≡ true) where
-    pub free_alone : (x : Listed) → is_in phase side Free test x ≡ is_on phase side test x
-    free_alone x = only_free phase continuous x.order.restriction (same_side side x.order.side) (test x)
+    pub free_alone : (x : Listed Order) → is_in phase side Free test x ≡ is_on phase side test x
+    free_alone x = only_free phase continuous x.item.restriction (same_side side x.item.side) (test x)
 
     -- so the free orders alone give the answer
-    pub earliest_free : (o : Option Entry) → IsFirstOf is_earlier (is_in phase side Free test) xs o → IsFirstOf is_earlier (is_on phase side test) xs o
+    pub earliest_free : (o : Option (Entry Order)) → IsFirstOf is_earlier (is_in phase side Free test) xs o → IsFirstOf is_earlier (is_on phase side test) xs o
     earliest_free o first = first_agrees is_earlier (is_in phase side Free test) (is_on phase side test) xs free_alone o first
 
     pub best_free : (o : Option ℕ) → IsBestOf side (is_in phase side Free test) xs o → IsBestOf side (is_on phase side test) xs o
     best_free o first = best_agrees side (is_in phase side Free test) (is_on phase side test) xs free_alone o first
 
-  abbrev early : Listed → Bool
+  abbrev early : Listed Order → Bool
   early x = is_in phase side Free test x || is_in phase side OpeningOnly test x
 
-  abbrev late : Listed → Bool
+  abbrev late : Listed Order → Bool
   late x = is_in phase side AuctionsOnly test x || is_in phase side ClosingOnly test x
 
-  pub all_four : (x : Listed) → (early x || late x) ≡ is_on phase side test x
-  all_four x = of_four (is_active phase) x.order.restriction (same_side side x.order.side) (test x)
+  pub all_four : (x : Listed Order) → (early x || late x) ≡ is_on phase side test x
+  all_four x = of_four (is_active phase) x.item.restriction (same_side side x.item.side) (test x)
 
   -- the earliest is the earliest of four
-  pub earliest_of_four : (free opening auctions closing : Option Entry)
+  pub earliest_of_four : (free opening auctions closing : Option (Entry Order))
       → IsFirstOf is_earlier (is_in phase side Free test) xs free → IsFirstOf is_earlier (is_in phase side OpeningOnly test) xs opening
       → IsFirstOf is_earlier (is_in phase side AuctionsOnly test) xs auctions → IsFirstOf is_earlier (is_in phase side ClosingOnly test) xs closing
       → IsFirstOf is_earlier (is_on phase side test) xs (earlier_of_two (earlier_of_two free opening) (earlier_of_two auctions closing))

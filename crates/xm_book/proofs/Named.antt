@@ -7,14 +7,17 @@ use Rattle.std.proofs.lemmas.Bool.Decides.{nat_tests}
 use Rattle.std.proofs.lemmas.List.Elements.{All-head, All-tail, Contains-get_or}
 use Rattle.std.proofs.lemmas.List.Folds.{find-append, list_all-append, list_any-append}
 use Rattle.std.proofs.lemmas.List.Sums.{count_by-le-length, length-filter}
-use Rattle.xm_book.specs.Listing.{has_name, is_other_key, key_of, keys_in, listed_order, reduced_at}
+use Rattle.xm_slots.specs.Listing.{is_other_key, keys_in}
+use Rattle.xm_book.specs.Listing.{has_name, key_of, listed_order, reduced_at}
 use Rattle.xm_book.specs.TimeList.{have_own_names}
-use Rattle.xm_book.specs.declared.listing.Listed.{Listed}
-use Rattle.xm_book.proofs.Members.{Contains-cases, Contains-here, Contains-there, Contains-map, Contains-none, find-Some, find-none, list_any-false}
+use Rattle.xm_slots.specs.declared.listing.Listed.{Listed}
+use Rattle.xm_slots.proofs.Members.{Contains-cases, Contains-here, Contains-there, Contains-map, Contains-none, find-Some, find-none, list_any-false}
 use Rattle.xm_queues.specs.Keys.{AreDistinct}
 use Rattle.xm_rules.specs.Commands.{is_in_range}
 use Rattle.xm_rules.specs.Orders.{is_named, removed, with_rest, without_member}
 use Rattle.xm_rules.specs.declared.orders.Order.{Order}
+use Rattle.xm_slots.proofs.Tests.{any-kept, filter-same, find-filter, keep-all, length-kept, none-found, some-found}
+use Rattle.xm_slots.proofs.Leaving.{key-once}
 
 same_test : (m n : ℕ) → (m == n) ≡ (n == m)
 same_test m n = grind (arith, nat_tests)
@@ -45,81 +48,51 @@ one-name member reference a b h k = (λ i. is_named (h-is.0 i) (h-is.1 i) b) ∙
     h-is : (a.member ≡ member) × (a.reference ≡ reference)
     h-is = named-is member reference a h
 
-pub find-map : (member reference : ℕ) (xs : List Listed) → find (is_named member reference) (map listed_order xs) ≡ option_map listed_order (find (has_name member reference) xs)
+pub find-map : (member reference : ℕ) (xs : List (Listed Order)) → find (is_named member reference) (map listed_order xs) ≡ option_map listed_order (find (has_name member reference) xs)
 find-map member reference [] = refl
 find-map member reference (x ∷ xs) = find_if (has_name member reference x) (find-map member reference xs)
   where
     find_if : (b : Bool) → find (is_named member reference) (map listed_order xs) ≡ option_map listed_order (find (has_name member reference) xs)
-        → (if b then Some x.order else find (is_named member reference) (map listed_order xs)) ≡ option_map listed_order (if b then Some x else find (has_name member reference) xs)
+        → (if b then Some x.item else find (is_named member reference) (map listed_order xs)) ≡ option_map listed_order (if b then Some x else find (has_name member reference) xs)
     find_if true rest = refl
     find_if false rest = rest
 
-pub none-found : {X : Type 0} (p : X → Bool) (xs : List X) → find p xs ≡ None → list_any p xs ≡ false
-none-found p [] h = refl
-none-found {X} p (x ∷ xs) h = none_if (p x) (none-found p xs) h
-  where
-    none_if : (b : Bool) → (find p xs ≡ None → list_any p xs ≡ false) → (if b then Some x else find p xs) ≡ None → (b || list_any p xs) ≡ false
-    none_if true rest e = absurd (cc)
-    none_if false rest e = rest e
-
-pub some-found : {X : Type 0} (p : X → Bool) (xs : List X) (x : X) → find p xs ≡ Some x → list_any p xs ≡ true
-some-found p [] x h = absurd (cc)
-some-found {X} p (y ∷ xs) x h = some_if (p y) (some-found p xs x) h
-  where
-    some_if : (b : Bool) → (find p xs ≡ Some x → list_any p xs ≡ true) → (if b then Some y else find p xs) ≡ Some x → (b || list_any p xs) ≡ true
-    some_if true rest e = refl
-    some_if false rest e = rest e
-
 -- an order that lies under the key of its name
-pub record IsNamedAt (member reference under : ℕ) (xs : List Listed) : Type 0 where
-  pub listed : Listed
+pub record IsNamedAt (member reference under : ℕ) (xs : List (Listed Order)) : Type 0 where
+  pub listed : Listed Order
   pub found : find (has_name member reference) xs ≡ Some listed
   pub key_is : listed.key ≡ under
 
-pub named-at : (member reference key : ℕ) (xs : List Listed) → key_of member reference xs ≡ Some key → IsNamedAt member reference key xs
+pub named-at : (member reference key : ℕ) (xs : List (Listed Order)) → key_of member reference xs ≡ Some key → IsNamedAt member reference key xs
 named-at member reference key xs h = by_find (find (has_name member reference) xs) refl h
   where
-    by_find : (o : Option Listed) → find (has_name member reference) xs ≡ o → option_map (λ (x : Listed). x.key) o ≡ Some key → IsNamedAt member reference key xs
+    by_find : (o : Option (Listed Order)) → find (has_name member reference) xs ≡ o → option_map (λ (x : Listed Order). x.key) o ≡ Some key → IsNamedAt member reference key xs
     by_find None e k = absurd (cc)
     by_find (Some x) e k = record { listed = x; found = e; key_is = cc }
 
-pub not-named : (member reference : ℕ) (xs : List Listed) → key_of member reference xs ≡ None → find (is_named member reference) (map listed_order xs) ≡ None
+pub not-named : (member reference : ℕ) (xs : List (Listed Order)) → key_of member reference xs ≡ None → find (is_named member reference) (map listed_order xs) ≡ None
 not-named member reference xs h = find-map member reference xs ∙ ap (option_map listed_order) (by_find (find (has_name member reference) xs) h)
   where
-    by_find : (o : Option Listed) → option_map (λ (x : Listed). x.key) o ≡ None → o ≡ None
+    by_find : (o : Option (Listed Order)) → option_map (λ (x : Listed Order). x.key) o ≡ None → o ≡ None
     by_find None e = refl
     by_find (Some x) e = absurd (cc)
 
--- ---- under a key and of a name is one order alone
-pub key-once : (xs : List Listed) (x z : Listed) → AreDistinct (keys_in xs) → Contains xs x → Contains xs z → z.key ≡ x.key → z ≡ x
-key-once [] x z d c e k = absurd (Contains-none x c)
-key-once (y ∷ xs) x z d c e k = by_place (key-once xs x z d.1) (Contains-cases y xs x c) (Contains-cases y xs z e)
-  where
-    at : (w : Listed) → Contains xs w → w.key ≡ y.key → ⊥
-    at w there same = d.0 (subst (λ (n : ℕ). Contains (keys_in xs) n) same (Contains-map (λ (v : Listed). v.key) xs w there))
-
-    by_place : (Contains xs x → Contains xs z → z.key ≡ x.key → z ≡ x) → (y ≡ x) ⊎ Contains xs x → (y ≡ z) ⊎ Contains xs z → z ≡ x
-    by_place rest (inl a) (inl b) = sym b ∙ a
-    by_place rest (inl a) (inr b) = absurd (at z b (k ∙ sym (ap (λ (v : Listed). v.key) a)))
-    by_place rest (inr a) (inl b) = absurd (at x a (sym k ∙ sym (ap (λ (v : Listed). v.key) b)))
-    by_place rest (inr a) (inr b) = rest a b k
-
-pub name-once : (member reference : ℕ) (xs : List Listed) (x z : Listed) → have_own_names (map listed_order xs) ≡ true → Contains xs x → Contains xs z
+pub name-once : (member reference : ℕ) (xs : List (Listed Order)) (x z : Listed Order) → have_own_names (map listed_order xs) ≡ true → Contains xs x → Contains xs z
     → has_name member reference x ≡ true → has_name member reference z ≡ true → z ≡ x
 name-once member reference [] x z own c e h k = absurd (Contains-none x c)
 name-once member reference (y ∷ xs) x z own c e h k =
     by_place (name-once member reference xs x z parts.1) (Contains-cases y xs x c) (Contains-cases y xs z e)
   where
     any : Bool
-    any = list_any (is_named y.order.member y.order.reference) (map listed_order xs)
+    any = list_any (is_named y.item.member y.item.reference) (map listed_order xs)
 
     parts : (not any ≡ true) × (have_own_names (map listed_order xs) ≡ true)
     parts = and_parts (not any) (have_own_names (map listed_order xs)) own
 
-    at : (w : Listed) → Contains xs w → has_name member reference y ≡ true → has_name member reference w ≡ true → ⊥
+    at : (w : Listed Order) → Contains xs w → has_name member reference y ≡ true → has_name member reference w ≡ true → ⊥
     at w there s t =
-        let other = list_any-false (is_named y.order.member y.order.reference) (map listed_order xs) w.order (not-true any parts.0) (Contains-map listed_order xs w there) in
-        false≢true (sym other ∙ one-name member reference y.order w.order s t)
+        let other = list_any-false (is_named y.item.member y.item.reference) (map listed_order xs) w.item (not-true any parts.0) (Contains-map listed_order xs w there) in
+        false≢true (sym other ∙ one-name member reference y.item w.item s t)
 
     by_place : (Contains xs x → Contains xs z → has_name member reference x ≡ true → has_name member reference z ≡ true → z ≡ x) → (y ≡ x) ⊎ Contains xs x → (y ≡ z) ⊎ Contains xs z → z ≡ x
     by_place rest (inl a) (inl b) = sym b ∙ a
@@ -128,15 +101,15 @@ name-once member reference (y ∷ xs) x z own c e h k =
     by_place rest (inr a) (inr b) = rest a b h k
 
 -- the test by key is the test by name
-pub by-key : (member reference : ℕ) (xs : List Listed) (x : Listed) → AreDistinct (keys_in xs) → have_own_names (map listed_order xs) ≡ true → find (has_name member reference) xs ≡ Some x
-    → All (λ (z : Listed). (z.key == x.key) ≡ has_name member reference z) xs
+pub by-key : (member reference : ℕ) (xs : List (Listed Order)) (x : Listed Order) → AreDistinct (keys_in xs) → have_own_names (map listed_order xs) ≡ true → find (has_name member reference) xs ≡ Some x
+    → All (λ (z : Listed Order). (z.key == x.key) ≡ has_name member reference z) xs
 by-key member reference xs x d own f k e lt =
     let z = get_or xs k e in
     let here = find-Some (has_name member reference) xs x f in
     let there = Contains-get_or xs k e lt in
     same_tests (z.key == x.key) (has_name member reference z)
     (λ t. ap (has_name member reference) (key-once xs x z d here.contains there (eqb-true z.key x.key t)) ∙ here.passes)
-    (λ t. eq-eqb z.key x.key (ap (λ (v : Listed). v.key) (name-once member reference xs x z own here.contains there here.passes t)))
+    (λ t. eq-eqb z.key x.key (ap (λ (v : Listed Order). v.key) (name-once member reference xs x z own here.contains there here.passes t)))
 
 -- ---- an order joins
 pub own_names-push : (os : List Order) (o : Order) → list_any (is_named o.member o.reference) os ≡ false → have_own_names os ≡ true → have_own_names (os ++ o ∷ []) ≡ true
@@ -156,68 +129,52 @@ own_names-push (y ∷ os) o h own =
 pub rests-push : (p : Order → Bool) (os : List Order) (o : Order) → list_all p os ≡ true → p o ≡ true → list_all p (os ++ o ∷ []) ≡ true
 rests-push p os o h e = list_all-append p os (o ∷ []) ∙ (λ i. h i && (e i && true))
 
-abbrev key_in : Option Listed → Option ℕ
-key_in o = option_map (λ (x : Listed). x.key) o
+abbrev key_in : Option (Listed Order) → Option ℕ
+key_in o = option_map (λ (x : Listed Order). x.key) o
 
-last_if : (x : Listed) (b : Bool) (o : Option Listed) → (b ≡ true → o ≡ None) → key_in (option_or o (if b then Some x else None)) ≡ (if b then Some x.key else key_in o)
+last_if : (x : Listed Order) (b : Bool) (o : Option (Listed Order)) → (b ≡ true → o ≡ None) → key_in (option_or o (if b then Some x else None)) ≡ (if b then Some x.key else key_in o)
 last_if x true None h = refl
 last_if x true (Some y) h = absurd (let e : Some y ≡ None = h refl in cc)
 last_if x false None h = refl
 last_if x false (Some y) h = refl
 
-pub key_of-push : (member reference : ℕ) (xs : List Listed) (x : Listed) → list_any (is_named x.order.member x.order.reference) (map listed_order xs) ≡ false
-    → key_of member reference (xs ++ x ∷ []) ≡ (if (member == x.order.member) && (reference == x.order.reference) then Some x.key else key_of member reference xs)
+pub key_of-push : (member reference : ℕ) (xs : List (Listed Order)) (x : Listed Order) → list_any (is_named x.item.member x.item.reference) (map listed_order xs) ≡ false
+    → key_of member reference (xs ++ x ∷ []) ≡ (if (member == x.item.member) && (reference == x.item.reference) then Some x.key else key_of member reference xs)
 key_of-push member reference xs x h =
     ap key_in (find-append (has_name member reference) xs (x ∷ [])) ∙ last_if x (has_name member reference x) (find (has_name member reference) xs) alone
-    ∙ ap (λ (b : Bool). if b then Some x.key else key_of member reference xs) (named-test member reference x.order)
+    ∙ ap (λ (b : Bool). if b then Some x.key else key_of member reference xs) (named-test member reference x.item)
   where
-    other : has_name member reference x ≡ true → (b : Bool) (z : Listed) → Contains xs z → has_name member reference z ≡ b → b ≡ false
+    other : has_name member reference x ≡ true → (b : Bool) (z : Listed Order) → Contains xs z → has_name member reference z ≡ b → b ≡ false
     other t false z there e = refl
     other t true z there e =
-        let out = list_any-false (is_named x.order.member x.order.reference) (map listed_order xs) z.order h (Contains-map listed_order xs z there) in
-        absurd (false≢true (sym out ∙ one-name member reference x.order z.order t e))
+        let out = list_any-false (is_named x.item.member x.item.reference) (map listed_order xs) z.item h (Contains-map listed_order xs z there) in
+        absurd (false≢true (sym out ∙ one-name member reference x.item z.item t e))
 
     alone : has_name member reference x ≡ true → find (has_name member reference) xs ≡ None
     alone t = find-none (has_name member reference) xs (λ z there. other t (has_name member reference z) z there refl)
 
 -- ---- an order leaves
 -- those stay whose orders pass a test
-abbrev pub keeps : (Order → Bool) → Listed → Bool
-keeps test z = test z.order
+abbrev pub keeps : (Order → Bool) → Listed Order → Bool
+keeps test z = test z.item
 
-abbrev pub others : ℕ → ℕ → Listed → Bool
+abbrev pub others : ℕ → ℕ → Listed Order → Bool
 others member reference = keeps (λ (o : Order). not (is_named member reference o))
 
-filter-same : {X : Type 0} (p q : X → Bool) (xs : List X) → All (λ x. p x ≡ q x) xs → filter p xs ≡ filter q xs
-filter-same p q [] h = refl
-filter-same p q (x ∷ xs) h =
-    (λ i. if All-head (λ x. p x ≡ q x) x xs h i then x ∷ filter-same p q xs (All-tail (λ x. p x ≡ q x) x xs h) i else filter-same p q xs (All-tail (λ x. p x ≡ q x) x xs h) i)
-
 -- the order of a key leaves, which is that of a name
-pub left-by-key : (member reference : ℕ) (xs : List Listed) (x : Listed) → AreDistinct (keys_in xs) → have_own_names (map listed_order xs) ≡ true → find (has_name member reference) xs ≡ Some x
+pub left-by-key : (member reference : ℕ) (xs : List (Listed Order)) (x : Listed Order) → AreDistinct (keys_in xs) → have_own_names (map listed_order xs) ≡ true → find (has_name member reference) xs ≡ Some x
     → filter (is_other_key x.key) xs ≡ filter (others member reference) xs
 left-by-key member reference xs x d own f =
     filter-same (is_other_key x.key) (others member reference) xs (λ k e lt. ap not (by-key member reference xs x d own f k e lt))
 
-pub orders-kept : (test : Order → Bool) (xs : List Listed) → map listed_order (filter (keeps test) xs) ≡ filter test (map listed_order xs)
+pub orders-kept : (test : Order → Bool) (xs : List (Listed Order)) → map listed_order (filter (keeps test) xs) ≡ filter test (map listed_order xs)
 orders-kept test [] = refl
-orders-kept test (x ∷ xs) = kept_if (test x.order) (orders-kept test xs)
+orders-kept test (x ∷ xs) = kept_if (test x.item) (orders-kept test xs)
   where
     kept_if : (b : Bool) → map listed_order (filter (keeps test) xs) ≡ filter test (map listed_order xs)
-        → map listed_order (if b then x ∷ filter (keeps test) xs else filter (keeps test) xs) ≡ (if b then x.order ∷ filter test (map listed_order xs) else filter test (map listed_order xs))
-    kept_if true rest = ap (λ os. x.order ∷ os) rest
+        → map listed_order (if b then x ∷ filter (keeps test) xs else filter (keeps test) xs) ≡ (if b then x.item ∷ filter test (map listed_order xs) else filter test (map listed_order xs))
+    kept_if true rest = ap (λ os. x.item ∷ os) rest
     kept_if false rest = rest
-
-any-kept : {X : Type 0} (q p : X → Bool) (xs : List X) → list_any q xs ≡ false → list_any q (filter p xs) ≡ false
-any-kept q p [] h = refl
-any-kept {X} q p (x ∷ xs) h = kept_if (p x) parts.0 (any-kept q p xs parts.1)
-  where
-    parts : (q x ≡ false) × (list_any q xs ≡ false)
-    parts = or_parts (q x) (list_any q xs) h
-
-    kept_if : (b : Bool) → q x ≡ false → list_any q (filter p xs) ≡ false → list_any q (if b then x ∷ filter p xs else filter p xs) ≡ false
-    kept_if true at rest = (λ i. at i || rest i)
-    kept_if false at rest = rest
 
 pub own_names-kept : (p : Order → Bool) (os : List Order) → have_own_names os ≡ true → have_own_names (filter p os) ≡ true
 own_names-kept p [] h = refl
@@ -245,62 +202,46 @@ rests-kept q p (o ∷ os) h = kept_if (p o) parts.0 (rests-kept q p os parts.1)
     kept_if true at rest = (λ i. at i && rest i)
     kept_if false at rest = rest
 
-pub length-kept : {X : Type 0} (p : X → Bool) (xs : List X) → length (filter p xs) ≤ length xs
-length-kept p xs = omega (arith, length-filter p xs, count_by-le-length p xs)
-
-pub find-filter : {X : Type 0} (p q : X → Bool) (b : Bool) (xs : List X) → ((x : X) → Contains xs x → q x ≡ true → p x ≡ b) → find q (filter p xs) ≡ (if b then find q xs else None)
-find-filter p q true [] h = refl
-find-filter p q false [] h = refl
-find-filter {X} p q b (x ∷ xs) h = found_if b (q x) (p x) refl refl (h x (Contains-here x xs)) (find-filter p q b xs (λ y at. h y (Contains-there x xs y at)))
-  where
-    found_if : (b c d : Bool) → q x ≡ c → p x ≡ d → (q x ≡ true → p x ≡ b) → find q (filter p xs) ≡ (if b then find q xs else None) → find q (filter p (x ∷ xs)) ≡ (if b then find q (x ∷ xs) else None)
-    found_if true true true ec ed h rest = rw (ed, ec) refl
-    found_if false true false ec ed h rest = rw ed rest
-    found_if true true false ec ed h rest = absurd (false≢true (sym ed ∙ h ec))
-    found_if false true true ec ed h rest = absurd (false≢true (sym (h ec) ∙ ed))
-    found_if b false true ec ed h rest = rw (ed, ec) rest
-    found_if b false false ec ed h rest = rw (ed, ec) rest
-
-pub key_of-others : (m r member reference : ℕ) (xs : List Listed) → key_of member reference (filter (others m r) xs) ≡ (if (member == m) && (reference == r) then None else key_of member reference xs)
+pub key_of-others : (m r member reference : ℕ) (xs : List (Listed Order)) → key_of member reference (filter (others m r) xs) ≡ (if (member == m) && (reference == r) then None else key_of member reference xs)
 key_of-others m r member reference xs =
     ap key_in (find-filter (others m r) (has_name member reference) (not ((member == m) && (reference == r))) xs (λ x at. stays x)) ∙ turned ((member == m) && (reference == r))
   where
-    stays : (x : Listed) → has_name member reference x ≡ true → others m r x ≡ not ((member == m) && (reference == r))
-    stays x e = (λ i. not (((named-is member reference x.order e).0 i == m) && ((named-is member reference x.order e).1 i == r)))
+    stays : (x : Listed Order) → has_name member reference x ≡ true → others m r x ≡ not ((member == m) && (reference == r))
+    stays x e = (λ i. not (((named-is member reference x.item e).0 i == m) && ((named-is member reference x.item e).1 i == r)))
 
     turned : (b : Bool) → key_in (if not b then find (has_name member reference) xs else None) ≡ (if b then None else key_of member reference xs)
     turned true = refl
     turned false = refl
 
 -- ---- an order is reduced
-abbrev pub reduced : ℕ → ℕ → ℕ → Listed → Listed
-reduced member reference rest z = if has_name member reference z then (let o = z.order in record z { order = record o { rest = rest } }) else z
+abbrev pub reduced : ℕ → ℕ → ℕ → Listed Order → Listed Order
+reduced member reference rest z = if has_name member reference z then (let o = z.item in record z { item = record o { rest = rest } }) else z
 
 map-same : {X Y : Type 0} (f g : X → Y) (xs : List X) → All (λ x. f x ≡ g x) xs → map f xs ≡ map g xs
 map-same f g [] h = refl
 map-same f g (x ∷ xs) h = (λ i. All-head (λ x. f x ≡ g x) x xs h i ∷ map-same f g xs (All-tail (λ x. f x ≡ g x) x xs h) i)
 
 -- the order of a key is reduced, which is that of a name
-pub reduced-by-key : (member reference rest : ℕ) (xs : List Listed) (x : Listed) → AreDistinct (keys_in xs) → have_own_names (map listed_order xs) ≡ true → find (has_name member reference) xs ≡ Some x
+pub reduced-by-key : (member reference rest : ℕ) (xs : List (Listed Order)) (x : Listed Order) → AreDistinct (keys_in xs) → have_own_names (map listed_order xs) ≡ true → find (has_name member reference) xs ≡ Some x
     → map (reduced_at x.key rest) xs ≡ map (reduced member reference rest) xs
 reduced-by-key member reference rest xs x d own f =
     map-same (reduced_at x.key rest) (reduced member reference rest) xs
-    (λ k e lt. (let z = get_or xs k e in ap (λ (b : Bool). if b then (let o = z.order in record z { order = record o { rest = rest } }) else z) (by-key member reference xs x d own f k e lt)))
+    (λ k e lt. (let z = get_or xs k e in ap (λ (b : Bool). if b then (let o = z.item in record z { item = record o { rest = rest } }) else z) (by-key member reference xs x d own f k e lt)))
 
-pub orders-reduced : (member reference rest : ℕ) (xs : List Listed) → map listed_order (map (reduced member reference rest) xs) ≡ with_rest member reference rest (map listed_order xs)
+pub orders-reduced : (member reference rest : ℕ) (xs : List (Listed Order)) → map listed_order (map (reduced member reference rest) xs) ≡ with_rest member reference rest (map listed_order xs)
 orders-reduced member reference rest [] = refl
 orders-reduced member reference rest (x ∷ xs) = (λ i. order_if (has_name member reference x) i ∷ orders-reduced member reference rest xs i)
   where
-    order_if : (b : Bool) → listed_order (if b then (let o = x.order in record x { order = record o { rest = rest } }) else x) ≡ (if b then record x.order { rest = rest } else x.order)
+    order_if : (b : Bool) → listed_order (if b then (let o = x.item in record x { item = record o { rest = rest } }) else x) ≡ (if b then record x.item { rest = rest } else x.item)
     order_if true = refl
     order_if false = refl
 
 module _ (member reference rest m r : ℕ) where
-  key_if : (x : Listed) (ys zs : List Listed) (b : Bool) → key_of m r ys ≡ key_of m r zs
-      → key_of m r ((if b then (let o = x.order in record x { order = record o { rest = rest } }) else x) ∷ ys) ≡ key_of m r (x ∷ zs)
+  key_if : (x : Listed Order) (ys zs : List (Listed Order)) (b : Bool) → key_of m r ys ≡ key_of m r zs
+      → key_of m r ((if b then (let o = x.item in record x { item = record o { rest = rest } }) else x) ∷ ys) ≡ key_of m r (x ∷ zs)
   key_if x ys zs true h = found_if (has_name m r x)
     where
-      found_if : (c : Bool) → key_in (if c then Some (let o = x.order in record x { order = record o { rest = rest } }) else find (has_name m r) ys) ≡ key_in (if c then Some x else find (has_name m r) zs)
+      found_if : (c : Bool) → key_in (if c then Some (let o = x.item in record x { item = record o { rest = rest } }) else find (has_name m r) ys) ≡ key_in (if c then Some x else find (has_name m r) zs)
       found_if true = refl
       found_if false = h
   key_if x ys zs false h = found_if (has_name m r x)
@@ -309,7 +250,7 @@ module _ (member reference rest m r : ℕ) where
       found_if true = refl
       found_if false = h
 
-  pub key_of-reduced : (xs : List Listed) → key_of m r (map (reduced member reference rest) xs) ≡ key_of m r xs
+  pub key_of-reduced : (xs : List (Listed Order)) → key_of m r (map (reduced member reference rest) xs) ≡ key_of m r xs
   key_of-reduced [] = refl
   key_of-reduced (x ∷ xs) = key_if x (map (reduced member reference rest) xs) xs (has_name member reference x) (key_of-reduced xs)
 
@@ -348,13 +289,6 @@ rests-reduced member reference rest (o ∷ os) e h = (λ i. rest_if (is_named me
     rest_if : (b : Bool) → is_in_range o.rest ≡ true → is_in_range (let p : Order = if b then record o { rest = rest } else o in p).rest ≡ true
     rest_if true at = e
     rest_if false at = at
-
--- ---- nothing has the name
-keep-all : {X : Type 0} (p : X → Bool) (xs : List X) → list_any p xs ≡ false → filter (λ x. not (p x)) xs ≡ xs
-keep-all p [] h = refl
-keep-all p (x ∷ xs) h =
-    let parts = or_parts (p x) (list_any p xs) h in
-    (λ i. if not (parts.0 i) then x ∷ keep-all p xs parts.1 i else keep-all p xs parts.1 i)
 
 pub nothing-removed : (member reference : ℕ) (os : List Order) → list_any (is_named member reference) os ≡ false → removed member reference os ≡ os
 nothing-removed member reference os h = keep-all (is_named member reference) os h

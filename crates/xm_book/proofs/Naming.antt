@@ -5,7 +5,7 @@ use Rattle.std.proofs.lemmas.Bool.{and_parts, both_ways, not-true}
 use Rattle.std.proofs.lemmas.Bool.Decides.{nat_tests}
 use Rattle.xm_book.specs.Queues.{best_order, order_at, first}
 use Rattle.xm_book.specs.TimeList.{have_own_names}
-use Rattle.xm_book.proofs.Members.{Contains-cases, Contains-none, Contains-map, Passes-filter, find-Some, find-only, list_any-false}
+use Rattle.xm_slots.proofs.Members.{Contains-cases, Contains-none, Contains-map, Passes-filter, find-Some, find-only, list_any-false}
 use Rattle.xm_rules.specs.Active.{Positioned, positioned_from, active, is_active_on}
 use Rattle.xm_rules.specs.Orders.{is_named}
 use Rattle.xm_rules.specs.Priority.{is_ahead}

@@ -1,8 +1,9 @@
 -- Queues without an order.
 use Rattle.std.proofs.Common.{◌≤◌, List, [], Option, None, Some, refl, arith}
 use Rattle.std.proofs.lemmas.List.Elements.{All-nil}
-use Rattle.xm_book.specs.Queued.{HasItsKind, HoldsLevel, IsKept, LiesAt}
-use Rattle.xm_book.specs.declared.listing.Listed.{Listed}
+use Rattle.xm_slots.specs.Listing.{LiesAt}
+use Rattle.xm_book.specs.Queued.{HasItsKind, HoldsLevel, IsKept}
+use Rattle.xm_slots.specs.declared.listing.Listed.{Listed}
 use Rattle.xm_ladders.specs.Ladder.{IsCleared}
 use Rattle.xm_ladders.specs.Ladders.{level_on, side_of}
 use Rattle.xm_ladders.specs.declared.ladders.Ladders.{Ladders}
@@ -11,6 +12,7 @@ use Rattle.xm_queues.specs.declared.links.Link.{Link}
 use Rattle.xm_rules.specs.declared.orders.OrderKind.{OrderKind}
 use Rattle.xm_rules.specs.declared.orders.Restriction.{Restriction}
 use Rattle.xm_rules.specs.declared.orders.Side.{Side}
+use Rattle.xm_rules.specs.declared.orders.Order.{Order}
 
 cleared : (links : List Link) (l : Option Level) → IsCleared l → HoldsLevel links l []
 cleared links None c = refl
@@ -24,7 +26,7 @@ opened links ladders none = record {
     distinct = tt;
     count = refl;
     few = omega arith;
-    small = All-nil (λ (x : Listed). x.order.rest ≤ 1000000);
+    small = All-nil (λ (x : Listed Order). x.item.rest ≤ 1000000);
     kinds = All-nil (HasItsKind ladders);
     levels = λ s r k. cleared links (level_on (side_of s ladders) r k) (none s r k);
     fits = omega arith;

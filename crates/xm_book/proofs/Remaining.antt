@@ -6,7 +6,7 @@ use Rattle.std.proofs.lemmas.Bool.{and_parts, false_from_ne_true, ltb-true, lt-l
 use Rattle.std.proofs.lemmas.Bool.Decides.{nat_tests}
 use Rattle.xm_book.proofs.Firsts.{first_is, later_in}
 use Rattle.xm_book.specs.Queues.{best_order, first, order_at}
-use Rattle.xm_book.proofs.Members.{Contains-cases, Contains-filter, Contains-here, Contains-map, Contains-none, Contains-there, IsMade-map, Passes-filter, filter_none}
+use Rattle.xm_slots.proofs.Members.{Contains-cases, Contains-filter, Contains-here, Contains-map, Contains-none, Contains-there, IsMade-map, Passes-filter, filter_none}
 use Rattle.xm_rules.specs.Active.{Positioned, active, is_active_on, positioned_from}
 use Rattle.xm_rules.specs.Commands.{is_in_range}
 use Rattle.xm_rules.specs.Priority.{is_ahead, is_better, without_units}

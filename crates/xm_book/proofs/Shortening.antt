@@ -3,8 +3,9 @@ use Rattle.std.proofs.Common.{◌≡◌, ℕ, ◌-◌, ◌<◌, ◌≤◌, Bool,
 use Rattle.std.specs.List.{list_any}
 use Rattle.std.proofs.lemmas.Bool.{both_ways, eq-eqb, true_from_ne_false}
 use Rattle.xm_book.specs.Queues.{best_order, taken_from_any, taken_from_best}
-use Rattle.xm_book.proofs.Members.{list_any-false}
-use Rattle.xm_book.proofs.Named.{fewer-left, length-kept}
+use Rattle.xm_slots.proofs.Members.{list_any-false}
+use Rattle.xm_book.proofs.Named.{fewer-left}
+use Rattle.xm_slots.proofs.Tests.{length-kept}
 use Rattle.xm_book.proofs.Naming.{contains_best, named_itself}
 use Rattle.xm_rules.specs.Orders.{is_named, removed, with_rest}
 use Rattle.xm_rules.specs.declared.orders.Order.{Order}

@@ -2,7 +2,7 @@
 use Rattle.std.proofs.Common.{◌≡◌, ℕ, ◌<◌, Bool, true, false, if◌then◌else◌, List, [], ◌∷◌, ◌++◌, map, Contains, refl, ap, ◌∙◌, arith}
 use Rattle.std.specs.Prelude.{nat_le}
 use Rattle.std.proofs.lemmas.Bool.Decides.{nat_tests}
-use Rattle.xm_book.proofs.Members.{Contains-here, Contains-there}
+use Rattle.xm_slots.proofs.Members.{Contains-here, Contains-there}
 use Rattle.xm_rules.specs.Priority.{insert_in_order, sorted, in_order}
 
 module _ {A : Type 0} where

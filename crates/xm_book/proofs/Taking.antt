@@ -7,7 +7,7 @@ use Rattle.xm_book.specs.Queues.{best_order, taken_from}
 use Rattle.xm_book.proofs.Naming.{named_itself, one_of_name, order_in, own_positioned}
 use Rattle.xm_book.proofs.Remaining.{has_rest, lessened}
 use Rattle.xm_book.specs.TimeList.{TimeList, have_own_names}
-use Rattle.xm_book.proofs.Members.{Contains-here, Contains-there}
+use Rattle.xm_slots.proofs.Members.{Contains-here, Contains-there}
 use Rattle.xm_rules.specs.Active.{Positioned, positioned_from}
 use Rattle.xm_rules.specs.Orders.{is_named, removed, with_rest}
 use Rattle.xm_rules.specs.Priority.{without_units}

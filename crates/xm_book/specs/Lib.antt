@@ -7,9 +7,5 @@ pub mod Places
 pub mod Queued
 pub mod Queues
 pub mod Reserved
-pub mod Slot
-pub mod Slots
 pub mod TimeList
-pub mod Timeline
 pub mod Trades
-pub mod Vacancies

@@ -1,34 +1,26 @@
 -- Orders in time order, with their keys and the numbers of their adds.
-use Rattle.std.specs.Prelude.{ℕ, ◌+◌, ◌==◌, Bool, ◌&&◌, not, if◌then◌else◌, nat_le, List, [], ◌∷◌, map, find, Option, option_map}
-use Rattle.xm_book.specs.declared.entry.Entry.{Entry}
-use Rattle.xm_book.specs.declared.listing.Listed.{Listed}
+use Rattle.std.specs.Prelude.{ℕ, ◌==◌, Bool, if◌then◌else◌, List, find, Option, option_map}
 use Rattle.xm_rules.specs.Orders.{is_named}
 use Rattle.xm_rules.specs.declared.orders.Order.{Order}
+use Rattle.xm_slots.specs.declared.listing.Listed.{Listed}
 
-abbrev pub listed_order : Listed → Order
-listed_order x = x.order
+abbrev pub listed_order : Listed Order → Order
+listed_order x = x.item
 
-abbrev pub listed_entry : Listed → Entry
-listed_entry x = record { order = x.order; time = x.time }
+abbrev pub owner_of : Order → ℕ
+owner_of o = o.member
 
-abbrev pub keys_in : List Listed → List ℕ
-keys_in xs = map (λ (x : Listed). x.key) xs
-
-abbrev pub is_other_key : ℕ → Listed → Bool
-is_other_key key x = not (x.key == key)
+-- the order with another rest
+abbrev pub reduced_to : ℕ → Order → Order
+reduced_to rest o = record o { rest = rest }
 
 -- the order of the key has another rest
-abbrev pub reduced_at : ℕ → ℕ → Listed → Listed
-reduced_at key rest x = if x.key == key then (let o = x.order in record x { order = record o { rest = rest } }) else x
+abbrev pub reduced_at : ℕ → ℕ → Listed Order → Listed Order
+reduced_at key rest x = if x.key == key then (let o = x.item in record x { item = record o { rest = rest } }) else x
 
--- times that rise strictly, the first of which is no lower than the first number, and the last lower than the second
-abbrev pub rises : ℕ → List Listed → ℕ → Bool
-rises low [] high = nat_le low high
-rises low (x ∷ xs) high = nat_le low x.time && rises (x.time + 1) xs high
-
-abbrev pub has_name : ℕ → ℕ → Listed → Bool
-has_name member reference x = is_named member reference x.order
+abbrev pub has_name : ℕ → ℕ → Listed Order → Bool
+has_name member reference x = is_named member reference x.item
 
 -- the key of the order of a name
-abbrev pub key_of : ℕ → ℕ → List Listed → Option ℕ
-key_of member reference xs = option_map (λ (x : Listed). x.key) (find (has_name member reference) xs)
+abbrev pub key_of : ℕ → ℕ → List (Listed Order) → Option ℕ
+key_of member reference xs = option_map (λ (x : Listed Order). x.key) (find (has_name member reference) xs)

@@ -10,7 +10,6 @@ ghost use Rattle.xm_rules.specs.declared.orders.Order.{Order};
 ghost use Rattle.xm_rules.specs.Orders.{is_named, removed, with_rest, without_member};
 ghost use Rattle.xm_rules.specs.Sides.{best};
 
-use crate::entry::Entry;
 use crate::expiry::drop_expired;
 use crate::order_queues::OrderQueues;
 use crate::places::Place;
@@ -18,6 +17,7 @@ use std::alloc::Allocator;
 use std::marker::Model;
 use xm_names::{Names, Seed};
 use xm_rules::{Order, OrderKind, OutOfMemory, Phase, Side};
+use xm_slots::Entry;
 use xm_ticks::Price;
 
 /// The live orders of one security. A clause sees them in time order, with the places that are
@@ -51,11 +51,11 @@ impl<A: Allocator + Copy> Model for Book<A> {
 }
 
 /// The order of an entry.
-fn order_of(found: Option<&Entry>) -> Option<&Order>
-    ensures { option_copied result ≡ option_map (λ e. e.order) (option_copied found.entry) }
+fn order_of(found: Option<&Entry<Order>>) -> Option<&Order>
+    ensures { option_copied result ≡ option_map (λ e. e.item) (option_copied found.entry) }
 {
     match found {
-        Some(entry) => Some(&entry.order),
+        Some(entry) => Some(&entry.item),
         None => None,
     }
 }
@@ -77,7 +77,7 @@ impl<A: Allocator + Copy> Book<A> {
     {
         let entries = self.queues.in_time(None)?;
         let alloc = *entries.allocator();
-        let orders = entries.iter().map(|entry| entry.order).collect(alloc)?;
+        let orders = entries.iter().map(|entry| entry.item).collect(alloc)?;
         Ok(orders)
     }
 
@@ -89,7 +89,7 @@ impl<A: Allocator + Copy> Book<A> {
         let alloc = *entries.allocator();
         let references = entries
             .iter()
-            .map(|entry| entry.order.reference)
+            .map(|entry| entry.item.reference)
             .collect(alloc)?;
         Ok(references)
     }

@@ -4,8 +4,9 @@ ghost use Rattle.std.specs.List.{list_all};
 ghost use Rattle.xm_book.specs.Expiry.{is_done, outlives};
 ghost use Rattle.xm_book.specs.Indexed.{IsIndexed};
 ghost use Rattle.xm_book.specs.Listing.{key_of};
-ghost use Rattle.xm_book.specs.declared.listing.Listed.{Listed};
+ghost use Rattle.xm_slots.specs.declared.listing.Listed.{Listed};
 ghost use Rattle.xm_names.specs.Names.{lookup, room};
+ghost use Rattle.xm_rules.specs.declared.orders.Order.{Order};
 
 use crate::order_queues::OrderQueues;
 use std::alloc::Allocator;
@@ -34,7 +35,7 @@ fn drop_names<A: Allocator + Copy>(queues: &OrderQueues<A>, names: &mut Names<A>
 {
     names.retain(
         &|key: usize| -> bool
-            ensures { (x : Listed) → Contains queues.entry.now.orders x → x.key ≡ key → result ≡ outlives today x }
+            ensures { (x : Listed Order) → Contains queues.entry.now.orders x → x.key ≡ key → result ≡ outlives today x }
         { is_valid_beyond(queues, key, today) },
     );
 }
@@ -53,12 +54,12 @@ fn drop_if_expired<A: Allocator + Copy>(queues: &mut OrderQueues<A>, key: usize,
     ensures rest { queues.new ≡ record queues.old { orders = queues.new.orders } }
     ensures valid { filter (outlives today) queues.new.orders ≡ filter (outlives today) queues.old.orders }
     ensures done { list_all (is_done today key) queues.old.orders ≡ true → list_all (is_done today (key + 1)) queues.new.orders ≡ true }
-    ensures fewer { (p : Listed → Bool) → list_all p queues.old.orders ≡ true → list_all p queues.new.orders ≡ true }
+    ensures fewer { (p : Listed Order → Bool) → list_all p queues.old.orders ≡ true → list_all p queues.new.orders ≡ true }
 {
     let Some(entry) = queues.get(key) else {
         return;
     };
-    if entry.order.validity.outlasts(today) {
+    if entry.item.validity.outlasts(today) {
         return;
     }
     queues.take(key);
@@ -66,10 +67,10 @@ fn drop_if_expired<A: Allocator + Copy>(queues: &mut OrderQueues<A>, key: usize,
 
 /// Whether the order of a key is valid beyond a day.
 fn is_valid_beyond<A: Allocator + Copy>(queues: &OrderQueues<A>, key: usize, today: u32) -> bool
-    ensures { (x : Listed) → Contains queues.now.orders x → x.key ≡ key → result ≡ outlives today x }
+    ensures { (x : Listed Order) → Contains queues.now.orders x → x.key ≡ key → result ≡ outlives today x }
 {
     match queues.get(key) {
-        Some(entry) => entry.order.validity.outlasts(today),
+        Some(entry) => entry.item.validity.outlasts(today),
         None => false,
     }
 }

@@ -2,14 +2,11 @@
 #![tactic(auto)]
 
 mod book;
-mod entry;
 mod expiry;
+mod items;
 mod levels;
-mod listing;
 mod order_queues;
 mod places;
-mod slot;
-mod slots;
 mod trades;
 
 pub use crate::book::Book;

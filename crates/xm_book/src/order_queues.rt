@@ -2,14 +2,15 @@
 ghost use Rattle.std.specs.Prelude.{ℕ, List, ◌≡◌, ◌+◌, ◌++◌, ◌∷◌, [], ◌<◌, ◌≤◌, ◌^◌, ◌&&◌, Contains, IfOk, IfSome, IsSome, IsTrue, OnErr, OnOk, Some, filter, length, map, option_copied, sum_by, true};
 ghost use Rattle.std.specs.List.{list_all, list_any};
 ghost use Rattle.std.specs.Option.{option_map};
-ghost use Rattle.xm_book.specs.Expiry.{is_below};
+ghost use Rattle.xm_slots.specs.Listing.{is_below};
 ghost use Rattle.xm_book.specs.Fronts.{IsBestOf, IsFirstOf, IsKindOfFirst, better_of_two, earlier_of_two, goes_ahead, has_kind, has_kind_later, has_worse, is_any, is_earlier, is_in, is_on};
-ghost use Rattle.xm_book.specs.Listing.{is_other_key, keys_in, listed_entry, listed_order, reduced_at, rises};
+ghost use Rattle.xm_slots.specs.Listing.{is_other_key, keys_in, listed_entry, rises};
+ghost use Rattle.xm_book.specs.Listing.{listed_order, owner_of, reduced_at};
 ghost use Rattle.xm_book.specs.Places.{place_of, same_place};
 ghost use Rattle.xm_book.specs.Queues.{units_at};
 ghost use Rattle.xm_book.specs.Reserved.{Gains};
-ghost use Rattle.xm_book.specs.Slots.{is_of};
-ghost use Rattle.xm_book.specs.declared.listing.Listed.{Listed};
+ghost use Rattle.xm_slots.specs.Slots.{is_of};
+ghost use Rattle.xm_slots.specs.declared.listing.Listed.{Listed};
 ghost use Rattle.xm_queues.specs.Keys.{AreDistinct};
 ghost use Rattle.xm_queues.specs.Queue.{IsQueue, key_limit};
 ghost use Rattle.xm_queues.specs.declared.queues.Ends.{Ends};
@@ -17,22 +18,21 @@ ghost use Rattle.xm_rules.specs.Active.{active, is_active};
 ghost use Rattle.xm_rules.specs.Commands.{is_in_range};
 ghost use Rattle.xm_rules.specs.declared.orders.OrderKind.TheVariants.{Limit};
 
-use crate::entry::Entry;
+use crate::items::OrderItems;
 use crate::levels::{level_for, put_level, reserve_level, set_level};
-use crate::listing::{Listed, Listing};
 use crate::places::{Place, Places};
-use crate::slots::Slots;
 use std::alloc::{AllocError, Allocator};
 use std::marker::Model;
 use xm_ladders::Ladders;
 use xm_queues::Queues;
 use xm_rules::{Order, OrderKind, OutOfMemory, Phase, Restriction, Side};
+use xm_slots::{Entry, Listed, Listing, Slots};
 use xm_ticks::Price;
 
 /// The orders of a book under their keys, each in the queue of its side, restriction and limit.
 #[derive(Drop)]
 pub struct OrderQueues<A: Allocator + Copy> {
-    entries: Slots<A>,
+    entries: Slots<Order, A>,
     links: Queues<A>,
     ladders: Ladders<A>,
     // For each there is room for one more order in the other parts.
@@ -40,7 +40,7 @@ pub struct OrderQueues<A: Allocator + Copy> {
     // The number of the next add.
     adds: u64,
     // The orders in time order.
-    listing: Listing,
+    listing: Listing<Order>,
 }
 
 impl<A: Allocator + Copy> Model for OrderQueues<A> {
@@ -76,8 +76,8 @@ impl<A: Allocator + Copy> OrderQueues<A> {
     }
 
     /// The order under a key, with the number of its add.
-    pub fn get(&self, key: usize) -> Option<&Entry>
-        ensures there { (x : Listed) → Contains self.now.orders x → x.key ≡ key → option_copied result ≡ Some (listed_entry x) }
+    pub fn get(&self, key: usize) -> Option<&Entry<Order>>
+        ensures there { (x : Listed Order) → Contains self.now.orders x → x.key ≡ key → option_copied result ≡ Some (listed_entry x) }
         ensures held { IfSome (option_copied result) (Contains (map listed_entry self.now.orders)) }
         ensures key { IsSome (option_copied result) → Contains (keys_in self.now.orders) key }
     {
@@ -121,15 +121,12 @@ impl<A: Allocator + Copy> OrderQueues<A> {
         requires reserved { IsTrue (list_any (same_place (place_of order.now)) self.old.reserved) }
         requires rest { IsTrue (is_in_range order.now.rest) }
         requires adds { self.old.adds < 2 ^ 63 }
-        ensures orders { self.new.orders ≡ self.old.orders ++ record { key = result; time = self.old.adds; order = order.now } ∷ [] }
+        ensures orders { self.new.orders ≡ self.old.orders ++ record { key = result; time = self.old.adds; item = order.now } ∷ [] }
         ensures used { Gains (place_of order.now) self.new.reserved self.old.reserved }
         ensures adds { self.new.adds ≡ self.old.adds + 1 }
     {
         let time = self.adds;
-        let key = self.entries.insert(Entry {
-            order: *order,
-            time,
-        });
+        let key = self.entries.insert(Entry { item: *order, time });
         let mut level = level_for(&self.ladders, order);
         self.links.push_back(&mut level.ends, key);
         level.orders += 1;
@@ -138,7 +135,7 @@ impl<A: Allocator + Copy> OrderQueues<A> {
         self.listing.join(&Listed {
             key,
             time,
-            order: *order,
+            item: *order,
         });
         self.places.release(&Place::of(order));
         self.adds += 1;
@@ -149,17 +146,17 @@ impl<A: Allocator + Copy> OrderQueues<A> {
     #[inline(always)]
     pub fn take(&mut self, key: usize) -> Order
         requires { Contains (keys_in self.old.orders) key }
-        ensures order { (x : Listed) → Contains self.old.orders x → x.key ≡ key → result ≡ x.order }
+        ensures order { (x : Listed Order) → Contains self.old.orders x → x.key ≡ key → result ≡ x.item }
         ensures left { self.new ≡ record self.old { orders = filter (is_other_key key) self.old.orders } }
         ensures distinct { AreDistinct (keys_in self.old.orders) }
     {
         let entry = self.entries.entry(key);
-        let mut level = level_for(&self.ladders, &entry.order);
+        let mut level = level_for(&self.ladders, &entry.item);
         self.links.unlink(&mut level.ends, key);
         level.orders -= 1;
-        level.units -= u64::from(entry.order.rest);
-        set_level(&mut self.ladders, &entry.order, level);
-        let order = entry.order;
+        level.units -= u64::from(entry.item.rest);
+        set_level(&mut self.ladders, &entry.item, level);
+        let order = entry.item;
         self.entries.vacate(key);
         self.listing.leave(key);
         order
@@ -168,16 +165,18 @@ impl<A: Allocator + Copy> OrderQueues<A> {
     /// Gives the order of a key a rest that is at least 1 and no higher than the present one. It keeps its place.
     pub fn reduce(&mut self, key: usize, rest: u32)
         requires there { Contains (keys_in self.old.orders) key }
-        requires rest { AreDistinct (keys_in self.old.orders) → (x : Listed) → Contains self.old.orders x → x.key ≡ key → (1 ≤ rest) × (rest ≤ x.order.rest) }
+        requires rest { AreDistinct (keys_in self.old.orders) → (x : Listed Order) → Contains self.old.orders x → x.key ≡ key → (1 ≤ rest) × (rest ≤ x.item.rest) }
         ensures reduced { self.new ≡ record self.old { orders = map (reduced_at key rest) self.old.orders } }
         ensures distinct { AreDistinct (keys_in self.old.orders) }
     {
         let entry = self.entries.entry(key);
-        let mut level = level_for(&self.ladders, &entry.order);
-        level.units -= u64::from(entry.order.rest - rest);
-        put_level(&mut self.ladders, &entry.order, level);
-        self.entries.set_rest(key, rest);
-        self.listing.reduce(key, rest);
+        let mut level = level_for(&self.ladders, &entry.item);
+        level.units -= u64::from(entry.item.rest - rest);
+        put_level(&mut self.ladders, &entry.item, level);
+        let time = entry.time;
+        let item = Order { rest, ..entry.item };
+        self.entries.reduce_to::<OrderItems>(key, rest);
+        self.listing.replace(&Listed { key, time, item });
     }
 }
 
@@ -185,7 +184,7 @@ impl<A: Allocator + Copy> OrderQueues<A> {
 #[inline(always)]
 fn hold<A: Allocator + Copy>(
     links: &mut Queues<A>,
-    entries: &mut Slots<A>,
+    entries: &mut Slots<Order, A>,
     orders: usize,
 ) -> Result<(), AllocError>
     requires few { orders ≤ 2000000 }
@@ -206,7 +205,7 @@ fn hold<A: Allocator + Copy>(
 #[inline(never)]
 fn grow<A: Allocator + Copy>(
     links: &mut Queues<A>,
-    entries: &mut Slots<A>,
+    entries: &mut Slots<Order, A>,
     orders: usize,
 ) -> Result<(), AllocError>
     requires few { orders ≤ 2000000 }
@@ -226,17 +225,20 @@ fn grow<A: Allocator + Copy>(
 impl<A: Allocator + Copy> OrderQueues<A> {
     /// The orders in time order, each with the number of its add: those of a member, or all where no member is named, or
     /// `OutOfMemory` where the answer can't be held.
-    pub fn in_time(&self, member: Option<u32>) -> Result<Vec<Entry, A>, OutOfMemory>
-        ensures { IfOk result (λ entries. entries.items ≡ filter (is_of member) (map listed_entry self.now.orders)) }
+    pub fn in_time(&self, member: Option<u32>) -> Result<Vec<Entry<Order>, A>, OutOfMemory>
+        ensures { IfOk result (λ entries. entries.items ≡ filter (is_of owner_of member) (map listed_entry self.now.orders)) }
     {
-        let mut entries = self.entries.entries_of(member)?;
+        let mut entries = self.entries.entries_of::<OrderItems>(member)?;
         entries.sort_unstable_by_key(|entry| entry.time);
         Ok(entries)
     }
 }
 
 /// The earlier of two entries.
-fn earlier_of_two<'a>(first: Option<&'a Entry>, second: Option<&'a Entry>) -> Option<&'a Entry>
+fn earlier_of_two<'a>(
+    first: Option<&'a Entry<Order>>,
+    second: Option<&'a Entry<Order>>,
+) -> Option<&'a Entry<Order>>
     ensures { option_copied result ≡ earlier_of_two (option_copied first.entry) (option_copied second.entry) }
 {
     match first {
@@ -329,7 +331,7 @@ impl<A: Allocator + Copy> OrderQueues<A> {
 
     /// The best active order of a side in priority.
     #[inline(always)]
-    pub fn first(&self, side: Side, phase: Phase) -> Option<&Entry>
+    pub fn first(&self, side: Side, phase: Phase) -> Option<&Entry<Order>>
         ensures first { IsFirstOf (goes_ahead side) (is_on phase side is_any) self.now.orders (option_copied result) }
         ensures rise { rises 0 self.now.orders self.now.adds ≡ true }
     {
@@ -355,25 +357,25 @@ impl<A: Allocator + Copy> OrderQueues<A> {
 
     /// The active order of a side that is next in priority after the order of a key; nothing where that order isn't an
     /// active one of the side.
-    pub fn next_after(&self, side: Side, phase: Phase, key: usize) -> Option<&Entry>
+    pub fn next_after(&self, side: Side, phase: Phase, key: usize) -> Option<&Entry<Order>>
         requires { Contains (keys_in self.now.orders) key }
-        ensures next { (x : Listed) → Contains self.now.orders x → x.key ≡ key
+        ensures next { (x : Listed Order) → Contains self.now.orders x → x.key ≡ key
             → IsFirstOf (goes_ahead side) (λ y. is_on phase side is_any x && is_on phase side (goes_ahead side x) y) self.now.orders (option_copied result) }
         ensures rise { rises 0 self.now.orders self.now.adds ≡ true }
     {
         let entry = self.entries.get(key)?;
-        if entry.order.side != side || !entry.order.restriction.is_active(phase) {
+        if entry.item.side != side || !entry.item.restriction.is_active(phase) {
             return None;
         }
         match self.later(phase, key, entry) {
             Some(later) => Some(later),
-            None => self.first_limited(side, phase, &entry.order.kind.limit()),
+            None => self.first_limited(side, phase, &entry.item.kind.limit()),
         }
     }
 
     /// The units that rest in the orders of one restriction, where it is active.
     fn units_in(&self, side: Side, phase: Phase, restriction: Restriction, kind: &OrderKind) -> u64
-        ensures units { result ≡ sum_by (λ (x : Listed). x.order.rest) (filter (is_in phase side restriction (has_kind kind.now)) self.now.orders) }
+        ensures units { result ≡ sum_by (λ (x : Listed Order). x.item.rest) (filter (is_in phase side restriction (has_kind kind.now)) self.now.orders) }
         ensures few { result ≤ 2000000000000 }
     {
         if !restriction.is_active(phase) {
@@ -408,7 +410,7 @@ impl<A: Allocator + Copy> OrderQueues<A> {
 
     /// The earliest active order of a side and kind.
     #[inline(always)]
-    fn front(&self, side: Side, phase: Phase, kind: &OrderKind) -> Option<&Entry>
+    fn front(&self, side: Side, phase: Phase, kind: &OrderKind) -> Option<&Entry<Order>>
         ensures { IsFirstOf is_earlier (is_on phase side (has_kind kind.now)) self.now.orders (option_copied result) }
     {
         if phase.is_continuous() {
@@ -418,7 +420,7 @@ impl<A: Allocator + Copy> OrderQueues<A> {
     }
 
     /// The same, put together from the answers of all restrictions.
-    fn front_of_all(&self, side: Side, phase: Phase, kind: &OrderKind) -> Option<&Entry>
+    fn front_of_all(&self, side: Side, phase: Phase, kind: &OrderKind) -> Option<&Entry<Order>>
         ensures { IsFirstOf is_earlier (is_on phase side (has_kind kind.now)) self.now.orders (option_copied result) }
     {
         let free = self.front_in(side, phase, Restriction::Free, kind);
@@ -438,7 +440,7 @@ impl<A: Allocator + Copy> OrderQueues<A> {
         phase: Phase,
         restriction: Restriction,
         kind: &OrderKind,
-    ) -> Option<&Entry>
+    ) -> Option<&Entry<Order>>
         ensures { IsFirstOf is_earlier (is_in phase side restriction (has_kind kind.now)) self.now.orders (option_copied result) }
     {
         if !restriction.is_active(phase) {
@@ -451,7 +453,12 @@ impl<A: Allocator + Copy> OrderQueues<A> {
 
     /// The best active order of a side whose limit is worse than this one, or the best that has a limit.
     #[inline(always)]
-    fn first_limited(&self, side: Side, phase: Phase, after: &Option<Price>) -> Option<&Entry>
+    fn first_limited(
+        &self,
+        side: Side,
+        phase: Phase,
+        after: &Option<Price>,
+    ) -> Option<&Entry<Order>>
         ensures { IsFirstOf (goes_ahead side) (is_on phase side (has_worse side after.now)) self.now.orders (option_copied result) }
     {
         let limit = self.limit_after(side, phase, after)?;
@@ -459,9 +466,9 @@ impl<A: Allocator + Copy> OrderQueues<A> {
     }
 
     /// The earliest active order of the side and kind of an order that is later than it.
-    fn later(&self, phase: Phase, key: usize, entry: &Entry) -> Option<&Entry>
-        requires { (x : Listed) × Contains self.now.orders x × (x.key ≡ key) × (entry.now ≡ listed_entry x) }
-        ensures { IsFirstOf is_earlier (is_on phase entry.now.order.side (has_kind_later entry.now.order.kind entry.now.time)) self.now.orders (option_copied result) }
+    fn later(&self, phase: Phase, key: usize, entry: &Entry<Order>) -> Option<&Entry<Order>>
+        requires { (x : Listed Order) × Contains self.now.orders x × (x.key ≡ key) × (entry.now ≡ listed_entry x) }
+        ensures { IsFirstOf is_earlier (is_on phase entry.now.item.side (has_kind_later entry.now.item.kind entry.now.time)) self.now.orders (option_copied result) }
     {
         let free = self.later_in(phase, Restriction::Free, key, entry);
         if phase.is_continuous() {
@@ -482,15 +489,15 @@ impl<A: Allocator + Copy> OrderQueues<A> {
         phase: Phase,
         restriction: Restriction,
         key: usize,
-        entry: &Entry,
-    ) -> Option<&Entry>
-        requires { (x : Listed) × Contains self.now.orders x × (x.key ≡ key) × (entry.now ≡ listed_entry x) }
-        ensures { IsFirstOf is_earlier (is_in phase entry.now.order.side restriction (has_kind_later entry.now.order.kind entry.now.time)) self.now.orders (option_copied result) }
+        entry: &Entry<Order>,
+    ) -> Option<&Entry<Order>>
+        requires { (x : Listed Order) × Contains self.now.orders x × (x.key ≡ key) × (entry.now ≡ listed_entry x) }
+        ensures { IsFirstOf is_earlier (is_in phase entry.now.item.side restriction (has_kind_later entry.now.item.kind entry.now.time)) self.now.orders (option_copied result) }
     {
         if !restriction.is_active(phase) {
             return None;
         }
-        if restriction == entry.order.restriction {
+        if restriction == entry.item.restriction {
             let next = self.links.next(key)?;
             return self.entries.get(next);
         }
@@ -498,15 +505,20 @@ impl<A: Allocator + Copy> OrderQueues<A> {
     }
 
     /// The earliest order of a restriction, which is active, that is later than an order, of the same side and kind.
-    fn first_later(&self, phase: Phase, restriction: Restriction, entry: &Entry) -> Option<&Entry>
+    fn first_later(
+        &self,
+        phase: Phase,
+        restriction: Restriction,
+        entry: &Entry<Order>,
+    ) -> Option<&Entry<Order>>
         requires { is_active phase restriction ≡ true }
-        ensures { IsFirstOf is_earlier (is_in phase entry.now.order.side restriction (has_kind_later entry.now.order.kind entry.now.time)) self.now.orders (option_copied result) }
+        ensures { IsFirstOf is_earlier (is_in phase entry.now.item.side restriction (has_kind_later entry.now.item.kind entry.now.time)) self.now.orders (option_copied result) }
     {
         let level = self
             .ladders
-            .of(entry.order.side)
+            .of(entry.item.side)
             .of(restriction)
-            .level(entry.order.kind)?;
+            .level(entry.item.kind)?;
         let mut key = level.ends.front();
         for _step in 0..level.orders {
             let at = key?;

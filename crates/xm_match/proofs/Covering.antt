@@ -8,8 +8,8 @@ use Rattle.std.proofs.lemmas.Bool.Decides.{nat_tests}
 use Rattle.std.proofs.lemmas.List.Elements.{All-contains_itself}
 use Rattle.xm_book.specs.Queues.{best_order, first, first_behind, next_order, order_at}
 use Rattle.xm_book.proofs.Firsts.{first_is, one_or_ahead}
-use Rattle.xm_book.proofs.Joining.{same_some, some_none}
-use Rattle.xm_book.proofs.Members.{Contains-filter, Passes, Passes-filter, filter_none, find-none, find-only}
+use Rattle.xm_slots.proofs.Tests.{same_some, some_none}
+use Rattle.xm_slots.proofs.Members.{Contains-filter, Passes, Passes-filter, filter_none, find-none, find-only}
 use Rattle.xm_book.proofs.Naming.{named_itself, one_of_name, order_in, own_positioned}
 use Rattle.xm_match.specs.Meeting.{meets_inside, terms_of}
 use Rattle.xm_match.specs.declared.terms.Terms.{Terms}

@@ -8,7 +8,7 @@ use Rattle.std.proofs.lemmas.Bool.Decides.{nat_tests}
 use Rattle.std.proofs.lemmas.List.Elements.{All-contains_itself}
 use Rattle.xm_book.specs.TimeList.{have_own_names}
 use Rattle.xm_book.proofs.Firsts.{one_or_ahead}
-use Rattle.xm_book.proofs.Members.{Contains-cases, Contains-filter, Contains-here, Contains-none, Contains-there, Passes-filter}
+use Rattle.xm_slots.proofs.Members.{Contains-cases, Contains-filter, Contains-here, Contains-none, Contains-there, Passes-filter}
 use Rattle.xm_book.proofs.Naming.{contains_order}
 use Rattle.xm_match.proofs.Lists.{all_of_each, all_pass}
 use Rattle.xm_rules.specs.Active.{Positioned, is_active_on, positioned_from}

@@ -6,8 +6,8 @@ use Rattle.std.specs.Prelude.{nat_lt}
 use Rattle.std.proofs.lemmas.Bool.{and_from, both_ways, false_from_ne_true, lt-ltb, ltb-true}
 use Rattle.std.proofs.lemmas.List.Elements.{All-contains_itself}
 use Rattle.xm_book.proofs.Cutting.{given_same}
-use Rattle.xm_book.proofs.Joining.{some_none}
-use Rattle.xm_book.proofs.Members.{Contains-filter, Passes-filter, list_any-none}
+use Rattle.xm_slots.proofs.Tests.{some_none}
+use Rattle.xm_slots.proofs.Members.{Contains-filter, Passes-filter, list_any-none}
 use Rattle.xm_book.proofs.Remaining.{same_left}
 use Rattle.xm_match.specs.Meeting.{EachUsesUp, next_met, terms_of}
 use Rattle.xm_match.specs.declared.meeting.Next.TheVariants.{Inside}

@@ -2,7 +2,7 @@
 use Rattle.std.proofs.Common.{◌≡◌, Bool, true, false, ◌||◌, List, [], ◌∷◌, Contains, refl, ap, subst, ◌∙◌, ◌⊎◌, inl, inr}
 use Rattle.std.specs.List.{list_all, list_any}
 use Rattle.std.proofs.lemmas.Bool.{and_from, and_parts}
-use Rattle.xm_book.proofs.Members.{Contains-cases, Contains-here, Contains-none, Contains-there}
+use Rattle.xm_slots.proofs.Members.{Contains-cases, Contains-here, Contains-none, Contains-there}
 
 or_second : (b c : Bool) → c ≡ true → (b || c) ≡ true
 or_second true c e = refl

@@ -3,8 +3,8 @@ use Rattle.std.proofs.Common.{◌≡◌, ℕ, ◌+◌, ◌-◌, ◌<◌, ◌≤�
 use Rattle.std.specs.Prelude.{nat_lt}
 use Rattle.std.proofs.lemmas.Bool.{and_parts}
 use Rattle.xm_book.specs.Queues.{best_order, taken_from_best}
-use Rattle.xm_book.proofs.Joining.{same_some, some_none}
-use Rattle.xm_book.proofs.Members.{Passes-filter}
+use Rattle.xm_slots.proofs.Tests.{same_some, some_none}
+use Rattle.xm_slots.proofs.Members.{Passes-filter}
 use Rattle.xm_book.proofs.Remaining.{all_kept, lessened, no_best_left}
 use Rattle.xm_book.proofs.Shortening.{no_more, one_less, some_there}
 use Rattle.xm_match.specs.Meeting.{is_met, meets_inside, next_met, price_met, terms_of, trade_with}

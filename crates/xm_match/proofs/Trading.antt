@@ -6,7 +6,7 @@ use Rattle.std.proofs.lemmas.Bool.{lt-ltb, ltb-true}
 use Rattle.std.proofs.lemmas.List.Sums.{sum_by-append, sum_by-cons}
 use Rattle.xm_book.specs.Queues.{best_order, taken_from_any, taken_from_best}
 use Rattle.xm_book.proofs.Cutting.{IsLast, none_given, one_last}
-use Rattle.xm_book.proofs.Members.{Contains-filter}
+use Rattle.xm_slots.proofs.Members.{Contains-filter}
 use Rattle.xm_book.proofs.Remaining.{best_left, lessened}
 use Rattle.xm_book.proofs.Taking.{TakesFrom, taken_is}
 use Rattle.xm_match.proofs.Cuts.{IsCut, IsDone, IsNext, IsSound, fill_of, fill_past, filled_whole, in_list, one_or_apart, some_units, upto}

@@ -1,5 +1,5 @@
 -- The entries, sorted by their numbers, are those of the list in order of entry.
-use Rattle.std.proofs.Common.{◌≡◌, ℕ, zero, suc, ◌+◌, ◌<◌, ◌≤◌, true, List, [], ◌∷◌, length, get_or, map, filter, count_by, cond, Contains, Option, Some, None, is_some, refl, sym, ap, ◌∙◌, subst, arith}
+use Rattle.std.proofs.Common.{◌≡◌, ℕ, zero, suc, ◌+◌, ◌<◌, ◌≤◌, true, List, [], ◌∷◌, length, get_or, map, filter, count_by, cond, Contains, Option, Some, None, is_some, IfSome, refl, sym, ap, ◌∙◌, subst, arith}
 use Rattle.std.specs.List.{All, filter_map}
 use Rattle.std.specs.List.Sorted.{IsNonDecreasingBy, IsPermutation}
 use Rattle.std.specs.Prelude.{nat_le}
@@ -9,7 +9,7 @@ use Rattle.std.proofs.lemmas.List.Elements.{All-cons, All-contains, All-nil, All
 use Rattle.std.proofs.lemmas.List.Sorted.{Contains-permutation, length_permutation, sum_by-IsPermutation}
 use Rattle.std.proofs.lemmas.List.Sums.{length-filter, sum_by-cons}
 use Rattle.xm_slots.specs.Listing.{listed_entry, rises, LiesAt, time_of}
-use Rattle.xm_slots.specs.Slots.{SlotsView, entries_of, is_of, used}
+use Rattle.xm_slots.specs.Slots.{SlotsView, entries_of, get, is_of, used}
 use Rattle.xm_slots.specs.declared.entry.Entry.{Entry}
 use Rattle.xm_slots.specs.declared.listing.Listed.{Listed}
 use Rattle.xm_slots.proofs.Members.{Contains-filter, Contains-here, Contains-there, IsMade-map, Passes-filter}
@@ -58,11 +58,16 @@ module _ {I : Type 0} where
         let made = IsMade-map listed_entry xs e at in
         entry-there slots.slots made.from.key e (All-contains (LiesAt slots) xs made.from lie made.contains ∙ ap (λ (x : Entry I). Some x) made.made)
 
-    -- the entries are the stops in another order
-    same-stops : IsPermutation (entries_in slots.slots) all_in_time
-    same-stops = rearranged time_of all_in_time (entries_in slots.slots) (times-rise 0 adds xs rise) each-there (entries-length slots.slots ∙ count ∙ sym (length-map xs listed_entry))
+    -- they are those of the list in another order
+    same-entries : IsPermutation (entries_in slots.slots) all_in_time
+    same-entries = rearranged time_of all_in_time (entries_in slots.slots) (times-rise 0 adds xs rise) each-there (entries-length slots.slots ∙ count ∙ sym (length-map xs listed_entry))
 
-    -- sorted, they are in order of entry, those of a member as well as all
+    -- what lies under a key is an entry of the list
+    pub held-in-time : (key : ℕ) (slot : Option (Entry I)) → slot ≡ get slots key → IfSome slot (Contains all_in_time)
+    held-in-time key None here = tt
+    held-in-time key (Some e) here = Contains-permutation (entries_in slots.slots) all_in_time e same-entries (entry-there slots.slots key e (sym here))
+
+    -- sorted, they are in order of entry, those of an owner as well as all
     pub in-time : (member : Option ℕ) (zs : List (Entry I)) → IsPermutation (entries_of owner member slots) zs → IsNonDecreasingBy time_of zs → zs ≡ filter (is_of owner member) all_in_time
     in-time member zs moved up =
         sorted-same time_of zs (filter (is_of owner member) all_in_time) (rising-filter time_of (is_of owner member) all_in_time (times-rise 0 adds xs rise)) up
@@ -70,4 +75,4 @@ module _ {I : Type 0} where
         (let passes = Passes-filter (is_of owner member) all_in_time e at in
         Contains-permutation (entries_of owner member slots) zs e moved (Contains-filter (is_of owner member) (entries_in slots.slots) e passes.passes (each-there e passes.contains))))
         (length_permutation (entries_of owner member slots) zs moved ∙ length-filter (is_of owner member) (entries_in slots.slots)
-        ∙ sym (sum_by-IsPermutation (λ (e : Entry I). cond (is_of owner member e) 1 0) (entries_in slots.slots) all_in_time same-stops) ∙ sym (length-filter (is_of owner member) all_in_time))
+        ∙ sym (sum_by-IsPermutation (λ (e : Entry I). cond (is_of owner member e) 1 0) (entries_in slots.slots) all_in_time same-entries) ∙ sym (length-filter (is_of owner member) all_in_time))

@@ -1,9 +1,10 @@
 -- What is found in a list, and what of it passes a test.
-use Rattle.std.proofs.Common.{◌≡◌, ◌≤◌, Bool, true, false, not, ◌||◌, if◌then◌else◌, List, [], ◌∷◌, length, filter, find, Some, None, refl, sym, ◌∙◌, arith}
+use Rattle.std.proofs.Common.{◌≡◌, ◌≤◌, Bool, true, false, not, ◌||◌, if◌then◌else◌, List, [], ◌∷◌, length, filter, find, Contains, Some, None, refl, sym, ◌∙◌, arith}
 use Rattle.std.specs.List.{All, list_any}
 use Rattle.std.proofs.lemmas.Bool.{false≢true, or_parts}
 use Rattle.std.proofs.lemmas.List.Elements.{All-head, All-tail}
 use Rattle.std.proofs.lemmas.List.Sums.{count_by-le-length, length-filter}
+use Rattle.xm_slots.proofs.Members.{Contains-here, Contains-there}
 
 pub none-found : {X : Type 0} (p : X → Bool) (xs : List X) → find p xs ≡ None → list_any p xs ≡ false
 none-found p [] h = refl
@@ -40,10 +41,10 @@ any-kept {X} q p (x ∷ xs) h = kept_if (p x) parts.0 (any-kept q p xs parts.1)
 pub length-kept : {X : Type 0} (p : X → Bool) (xs : List X) → length (filter p xs) ≤ length xs
 length-kept p xs = omega (arith, length-filter p xs, count_by-le-length p xs)
 
-pub find-filter : {X : Type 0} (p q : X → Bool) (b : Bool) → ((x : X) → q x ≡ true → p x ≡ b) → (xs : List X) → find q (filter p xs) ≡ (if b then find q xs else None)
-find-filter p q true h [] = refl
-find-filter p q false h [] = refl
-find-filter {X} p q b h (x ∷ xs) = found_if b (q x) (p x) refl refl (h x) (find-filter p q b h xs)
+pub find-filter : {X : Type 0} (p q : X → Bool) (b : Bool) (xs : List X) → ((x : X) → Contains xs x → q x ≡ true → p x ≡ b) → find q (filter p xs) ≡ (if b then find q xs else None)
+find-filter p q true [] h = refl
+find-filter p q false [] h = refl
+find-filter {X} p q b (x ∷ xs) h = found_if b (q x) (p x) refl refl (h x (Contains-here x xs)) (find-filter p q b xs (λ y at. h y (Contains-there x xs y at)))
   where
     found_if : (b c d : Bool) → q x ≡ c → p x ≡ d → (q x ≡ true → p x ≡ b) → find q (filter p xs) ≡ (if b then find q xs else None) → find q (filter p (x ∷ xs)) ≡ (if b then find q (x ∷ xs) else None)
     found_if true true true ec ed h rest = rw (ed, ec) refl

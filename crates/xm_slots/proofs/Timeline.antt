@@ -1,11 +1,11 @@
 -- What a change leaves of the list.
-use Rattle.std.proofs.Common.{◌≡◌, ℕ, List, [], ◌∷◌, ◌++◌, filter, sym, ap, ◌∙◌}
+use Rattle.std.proofs.Common.{◌≡◌, ℕ, List, [], ◌∷◌, ◌++◌, filter, map, sym, ap, ◌∙◌}
 use Rattle.std.specs.declared.snapshot.Snapshot.{Snapshot}
-use Rattle.xm_slots.specs.Listing.{is_other_key}
+use Rattle.xm_slots.specs.Listing.{is_other_key, replaced_by}
 use Rattle.xm_slots.specs.Timeline.{list_after, listed}
 use Rattle.xm_slots.specs.declared.listing.Change.{Change, fold-Change, fold-roll-Change}
 use Rattle.xm_slots.specs.declared.listing.Change.TheOpen as open'
-use Rattle.xm_slots.specs.declared.listing.Change.TheVariants.{Nothing, Joined, Left, rolls-Nothing, rolls-Joined, rolls-Left}
+use Rattle.xm_slots.specs.declared.listing.Change.TheVariants.{Nothing, Joined, Left, Replaced, rolls-Nothing, rolls-Joined, rolls-Left, rolls-Replaced}
 use Rattle.xm_slots.specs.declared.listing.Listed.{Listed}
 
 module _ {I : Type 0} where
@@ -23,3 +23,8 @@ module _ {I : Type 0} where
   unfolding listed
   listed-left shown before key c e f =
       ap (fold-Change I (List (Listed I)) list_after) (sym (rolls-Left shown before)) ∙ fold-roll-Change I (List (Listed I)) list_after (open'.Left shown before) ∙ (λ i. filter (is_other_key (e i)) (fold-Change I (List (Listed I)) list_after (f i)))
+
+  pub listed-replaced : (shown : Snapshot (Listed I)) (before : Snapshot (Change I)) (x : Listed I) (c : Change I) → shown.value ≡ x → before.value ≡ c → listed (Replaced shown before) ≡ map (replaced_by x) (listed c)
+  unfolding listed
+  listed-replaced shown before x c e f =
+      ap (fold-Change I (List (Listed I)) list_after) (sym (rolls-Replaced shown before)) ∙ fold-roll-Change I (List (Listed I)) list_after (open'.Replaced shown before) ∙ (λ i. map (replaced_by (e i)) (fold-Change I (List (Listed I)) list_after (f i)))

@@ -1,5 +1,5 @@
 -- Entries in order of entry, with their keys and numbers.
-use Rattle.std.specs.Prelude.{◌≡◌, ℕ, ◌+◌, ◌==◌, Bool, ◌&&◌, not, nat_le, nat_lt, List, [], ◌∷◌, map, Some}
+use Rattle.std.specs.Prelude.{◌≡◌, ℕ, ◌+◌, ◌==◌, Bool, ◌&&◌, if◌then◌else◌, not, nat_le, nat_lt, List, [], ◌∷◌, map, Some}
 use Rattle.xm_slots.specs.Slots.{SlotsView, get}
 use Rattle.xm_slots.specs.declared.entry.Entry.{Entry}
 use Rattle.xm_slots.specs.declared.listing.Listed.{Listed}
@@ -13,6 +13,10 @@ module _ {I : Type 0} where
 
   abbrev pub is_other_key : ℕ → Listed I → Bool
   is_other_key key x = not (x.key == key)
+
+  -- the first where an entry has its key, and that entry elsewhere
+  abbrev pub replaced_by : Listed I → Listed I → Listed I
+  replaced_by listed x = if x.key == listed.key then listed else x
 
   abbrev pub is_below : ℕ → Listed I → Bool
   is_below limit x = nat_lt x.key limit

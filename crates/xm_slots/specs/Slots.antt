@@ -24,12 +24,12 @@ module _ {I : Type 0} where
     pub changed : get new key ≡ slot
     pub others : (other : ℕ) → other ≢ key → get new other ≡ get old other
 
-module _ {I : Type 0} (owner : I → ℕ) where
-  -- an entry of this member, or any where no member is named
+module _ {I : Type 0} (owner_of : I → ℕ) where
+  -- an entry of this owner, or any where no owner is named
   abbrev pub is_of : Option ℕ → Entry I → Bool
   is_of None e = true
-  is_of (Some member) e = owner e.item == member
+  is_of (Some owner) e = owner_of e.item == owner
 
-  -- the entries of a member, or all, by rising key
+  -- the entries of an owner, or all, by rising key
   abbrev pub entries_of : Option ℕ → SlotsView I → List (Entry I)
-  entries_of member s = filter (is_of member) (filter_map (λ slot. slot) s.slots)
+  entries_of owner s = filter (is_of owner) (filter_map (λ slot. slot) s.slots)

@@ -1,29 +1,29 @@
 //! What lies under a key.
 ghost use Rattle.std.specs.Prelude.{◌≡◌, ℕ};
 
-use xm_rules::Stop;
-
-/// An order or a stop with the number of its entry.
+/// An item with the number of its entry.
 #[derive(Clone, Copy)]
 pub struct Entry<I> {
     pub item: I,
     pub time: u64,
 }
 
-/// What a member has entered.
-pub trait OfMember {
-    /// Its member.
-    ghost member_of: { Self → ℕ };
+/// Whose items of a kind are. Whoever keeps such items says it by a type of its own.
+pub trait Owners<I> {
+    /// The number of an item's owner.
+    ghost owner_of: { I → ℕ };
 
-    /// The number of the member that entered it.
-    fn member(&self) -> u32
-        ensures { result ≡ member_of self.now };
+    /// The number of an item's owner.
+    fn owner(item: &I) -> u32
+        ensures { result ≡ owner_of item.now };
 }
 
-impl OfMember for Stop {
-    ghost member_of = { λ s. s.member };
+/// How items of a kind become less where they are. Whoever keeps such items says it by a type of its own.
+pub trait Rests<I> {
+    /// The item with this rest.
+    ghost reduced_to: { ℕ → I → I };
 
-    fn member(&self) -> u32 {
-        self.member
-    }
+    /// Gives an item this rest.
+    fn reduce_to(item: &mut I, rest: u32)
+        ensures { item.new ≡ reduced_to rest item.old };
 }

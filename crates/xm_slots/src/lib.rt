@@ -1,4 +1,4 @@
-//! Orders or stops under keys that are given and come back.
+//! Items under keys that are given and come back, and the list of them in order of entry.
 #![tactic(auto)]
 
 mod entry;
@@ -6,7 +6,7 @@ mod listing;
 mod slot;
 mod slots;
 
-pub use crate::entry::{Entry, OfMember};
+pub use crate::entry::{Entry, Owners, Rests};
 pub use crate::listing::{Listed, Listing};
 pub use crate::slot::VACANT;
 pub use crate::slots::Slots;

@@ -1,12 +1,12 @@
 //! The list of the entries, as clauses see it.
-ghost use Rattle.std.specs.Prelude.{◌≡◌, ◌++◌, ◌∷◌, [], filter};
-ghost use Rattle.xm_slots.specs.Listing.{is_other_key};
+ghost use Rattle.std.specs.Prelude.{◌≡◌, ◌++◌, ◌∷◌, [], filter, map};
+ghost use Rattle.xm_slots.specs.Listing.{is_other_key, replaced_by};
 
 use std::marker::Model;
 use std::mem;
 use std::snapshot::Snapshot;
 
-/// An order or a stop with the key under which it lies, and the number of its entry.
+/// An item with the key under which it lies, and the number of its entry.
 #[derive(Clone, Copy)]
 pub struct Listed<I> {
     pub key: usize,
@@ -20,6 +20,7 @@ enum Change<I> {
     Nothing,
     Joined(Snapshot<Listed<I>>, Snapshot<Change<I>>),
     Left(Snapshot<usize>, Snapshot<Change<I>>),
+    Replaced(Snapshot<Listed<I>>, Snapshot<Change<I>>),
 }
 
 /// What lies under keys, in order of entry. A clause alone sees them, and so the list costs neither memory nor time.
@@ -63,5 +64,13 @@ impl<I: Copy> Listing<I> {
     {
         let before = mem::replace(&mut self.last, Change::Nothing);
         self.last = Change::Left(Snapshot::of(&key), Snapshot::of(&before));
+    }
+
+    /// This stands where the entry of its key stood.
+    pub fn replace(&mut self, listed: &Listed<I>)
+        ensures { self.new ≡ map (replaced_by listed.now) self.old }
+    {
+        let before = mem::replace(&mut self.last, Change::Nothing);
+        self.last = Change::Replaced(Snapshot::of(listed), Snapshot::of(&before));
     }
 }

@@ -1,8 +1,10 @@
 //! One slot.
-ghost use Rattle.std.specs.Prelude.{◌≡◌, ◌<◌, None, Some, option_copied};
+ghost use Rattle.std.specs.Prelude.{◌≡◌, ◌<◌, None, Some, IsSome, option_copied};
+ghost use Rattle.std.specs.Option.{option_map};
+ghost use Rattle.xm_slots.specs.Slot.{with_item};
 ghost use Rattle.xm_slots.specs.declared.slot.TheConstants.{VACANT};
 
-use crate::entry::Entry;
+use crate::entry::{Entry, Rests};
 use std::marker::Model;
 
 /// The number of no entry.
@@ -46,14 +48,28 @@ impl<I: Copy> Slot<I> {
         }
     }
 
-    /// Takes the entry out, if there is one.
+    /// The entry that is there.
     #[inline(always)]
-    pub fn take(&mut self) -> Option<Entry<I>>
-        ensures entry { result ≡ self.old }
-        ensures vacant { self.new ≡ None }
+    pub fn entry(&self) -> &Entry<I>
+        requires { IsSome self.now }
+        ensures { Some result.now ≡ self.now }
     {
-        let entry = self.get().copied();
+        &self.entry
+    }
+
+    /// Leaves the slot without an entry.
+    #[inline(always)]
+    pub fn clear(&mut self)
+        ensures { self.new ≡ None }
+    {
         self.entry.time = VACANT;
-        entry
+    }
+
+    /// Gives the item another rest, where there is one.
+    #[inline(always)]
+    pub fn reduce_to<R: Rests<I>>(&mut self, rest: u32)
+        ensures { self.new ≡ option_map (with_item (R.reduced_to rest)) self.old }
+    {
+        R::reduce_to(&mut self.entry.item, rest);
     }
 }

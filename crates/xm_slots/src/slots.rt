@@ -1,9 +1,11 @@
 //! Entries under keys that are given and come back.
 ghost use Rattle.std.specs.Prelude.{◌≡◌, ℕ, ◌+◌, ◌<◌, ◌≤◌, [], None, Some, IfOk, IsSome, OnErr, OnOk, length, option_copied};
+ghost use Rattle.xm_slots.specs.Slot.{with_item};
+ghost use Rattle.xm_slots.specs.declared.entry.Entry.{Entry};
 ghost use Rattle.xm_slots.specs.declared.slot.TheConstants.{VACANT};
 ghost use Rattle.xm_slots.specs.Slots.{ContainsKey, Updates, entries_of, get, is_of, used};
 
-use crate::entry::{Entry, OfMember};
+use crate::entry::{Entry, Owners, Rests};
 use crate::slot::Slot;
 use std::alloc::{AllocError, Allocator};
 use std::marker::Model;
@@ -112,31 +114,52 @@ impl<I: Copy, A: Allocator> Slots<I, A> {
         }
     }
 
-    /// Takes the entry of a key out.
+    /// The entry under a key that has one.
     #[inline(always)]
-    pub fn remove(&mut self, key: usize) -> Entry<I>
+    pub fn entry(&self, key: usize) -> &Entry<I>
+        requires { ContainsKey self.now key }
+        ensures { get self.now key ≡ Some result.now }
+    {
+        self.entries[key].entry()
+    }
+
+    /// Leaves a key that has an entry without one. The key has come back.
+    #[inline(always)]
+    pub fn vacate(&mut self, key: usize)
         requires { ContainsKey self.old key }
-        ensures value { get self.old key ≡ Some result }
         ensures updates { Updates self.old self.new key None }
         ensures used { used self.new + 1 ≡ used self.old }
         ensures capacity { self.new.capacity ≡ self.old.capacity }
     {
-        let entry = self.entries[key].take().unwrap();
+        self.entries[key].clear();
         self.vacant.push_reserved(key as u32);
-        entry
+    }
+
+    /// Gives the item under a key that has one another rest.
+    #[inline(always)]
+    pub fn reduce_to<R: Rests<I>>(&mut self, key: usize, rest: u32)
+        requires { ContainsKey self.old key }
+        ensures updates { (e : Entry I) → get self.old key ≡ Some e → Updates self.old self.new key (Some (with_item (R.reduced_to rest) e)) }
+        ensures used { used self.new ≡ used self.old }
+        ensures capacity { self.new.capacity ≡ self.old.capacity }
+    {
+        self.entries[key].reduce_to::<R>(rest);
     }
 }
 
-impl<I: Copy + OfMember, A: Allocator + Copy> Slots<I, A> {
-    /// The entries of a member, or all where no member is named, by rising key, or `AllocError` where the answer can't be
+impl<I: Copy, A: Allocator + Copy> Slots<I, A> {
+    /// The entries of an owner, or all where no owner is named, by rising key, or `AllocError` where the answer can't be
     /// held.
-    pub fn entries_of(&self, member: Option<u32>) -> Result<Vec<Entry<I>, A>, AllocError>
-        ensures { IfOk result (λ entries. entries.items ≡ entries_of I.member_of member self.now) }
+    pub fn entries_of<O: Owners<I>>(
+        &self,
+        owner: Option<u32>,
+    ) -> Result<Vec<Entry<I>, A>, AllocError>
+        ensures { IfOk result (λ entries. entries.items ≡ entries_of O.owner_of owner self.now) }
     {
         let mut entries = Vec::new(*self.entries.allocator());
         for slot in &self.entries {
             if let Some(entry) = slot.get() {
-                if is_of(member, entry) {
+                if is_of::<I, O>(owner, entry) {
                     entries.push(*entry)?;
                 }
             }
@@ -145,12 +168,12 @@ impl<I: Copy + OfMember, A: Allocator + Copy> Slots<I, A> {
     }
 }
 
-/// Whether an entry is of this member, or of any where no member is named.
-fn is_of<I: OfMember>(member: Option<u32>, entry: &Entry<I>) -> bool
-    ensures { result ≡ is_of I.member_of member entry.now }
+/// Whether an entry is of this owner, or of any where no owner is named.
+fn is_of<I, O: Owners<I>>(owner: Option<u32>, entry: &Entry<I>) -> bool
+    ensures { result ≡ is_of O.owner_of owner entry.now }
 {
-    match member {
-        Some(member) => entry.item.member() == member,
+    match owner {
+        Some(owner) => O::owner(&entry.item) == owner,
         None => true,
     }
 }

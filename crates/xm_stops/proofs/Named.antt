@@ -188,7 +188,7 @@ own_names-kept p (o ∷ os) h =
 
 pub key_of-others : (m r member reference : ℕ) (xs : List (Listed Stop)) → key_of member reference (filter (others m r) xs) ≡ (if (member == m) && (reference == r) then None else key_of member reference xs)
 key_of-others m r member reference xs =
-    ap key_in (find-filter (others m r) (has_name member reference) (not ((member == m) && (reference == r))) stays xs) ∙ turned ((member == m) && (reference == r))
+    ap key_in (find-filter (others m r) (has_name member reference) (not ((member == m) && (reference == r))) xs (λ x at. stays x)) ∙ turned ((member == m) && (reference == r))
   where
     stays : (x : Listed Stop) → has_name member reference x ≡ true → others m r x ≡ not ((member == m) && (reference == r))
     stays x e = (λ i. not (((named-is member reference x.item e).0 i == m) && ((named-is member reference x.item e).1 i == r)))

@@ -2,6 +2,7 @@
 #![tactic(auto)]
 
 mod entry_queue;
+mod items;
 mod stop_queues;
 mod stops;
 mod taking;

@@ -10,6 +10,7 @@ ghost use Rattle.xm_stops.specs.Listing.{owner_of};
 ghost use Rattle.xm_stops.specs.Queued.{IsReachedAt, IsReachedOn, has_reached, has_reached_on};
 ghost use Rattle.xm_ticks.specs.declared.numbers.TheConstants.{MAX_PRICE};
 
+use crate::items::StopItems;
 use crate::trigger_queues::TriggerQueues;
 use std::alloc::{AllocError, Allocator};
 use std::marker::Model;
@@ -136,8 +137,9 @@ impl<A: Allocator + Copy> StopQueues<A> {
         ensures left { self.new ≡ record self.old { stops = filter (is_other_key key) self.old.stops } }
         ensures distinct { AreDistinct (keys_in self.old.stops) }
     {
-        let entry = self.entries.remove(key);
+        let entry = *self.entries.entry(key);
         let Stop { side, trigger, .. } = entry.item;
+        self.entries.vacate(key);
         let mut ends = self.triggers.queue(side, trigger);
         self.links.unlink(&mut ends, key);
         self.triggers.set(side, trigger, ends);
@@ -165,7 +167,7 @@ impl<A: Allocator + Copy> StopQueues<A> {
     pub fn in_time(&self, member: Option<u32>) -> Result<Vec<Entry<Stop>, A>, OutOfMemory>
         ensures { IfOk result (λ entries. entries.items ≡ filter (is_of owner_of member) (map listed_entry self.now.stops)) }
     {
-        let mut entries = self.entries.entries_of(member)?;
+        let mut entries = self.entries.entries_of::<StopItems>(member)?;
         entries.sort_unstable_by_key(|entry| entry.time);
         Ok(entries)
     }

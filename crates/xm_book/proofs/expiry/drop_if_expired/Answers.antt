@@ -1,11 +1,13 @@
 use Rattle.std.proofs.Common.{rules, ◌≡◌, ◌∙◌, None, Some, sym, ap, filter}
 use Rattle.xm_book.specs.Expiry.{is_done, outlives}
-use Rattle.xm_book.specs.Listing.{is_other_key, listed_entry}
-use Rattle.xm_book.specs.declared.entry.Entry.{Entry}
-use Rattle.xm_book.proofs.Expiring.{all-kept, all-more, gone, pass-as-before}
-use Rattle.xm_book.proofs.Joining.{same_some, some_none}
+use Rattle.xm_slots.specs.Listing.{is_other_key, listed_entry}
+use Rattle.xm_slots.specs.declared.entry.Entry.{Entry}
+use Rattle.xm_book.proofs.Expiring.{all-more, gone, pass-as-before}
+use Rattle.xm_slots.proofs.Expiring.{all-kept}
+use Rattle.xm_slots.proofs.Tests.{same_some, some_none}
 use Rattle.xm_rules.specs.Commands.{outlasts}
 use Rattle.xm_book.proofs.expiry.drop_if_expired.Goals as goal
+use Rattle.xm_rules.specs.declared.orders.Order.{Order}
 
 pub returns-in_default-clause-done : goal.returns-in_default-clause-done
 returns-in_default-clause-done g c h =
@@ -17,7 +19,7 @@ returns-then-outlasts-clause-done g c h =
     all-more c.args.today c.args.key c.args.queues.now.orders h
     (λ y there same.
     (let e : c.in-Some.entry.now ≡ listed_entry y = same_some (c.in-Some.ensures.there y there same) in
-    sym (ap (λ (z : Entry). outlasts c.args.today z.order.validity) e) ∙ sym (c.if-outlasts.ensures)))
+    sym (ap (λ (z : Entry Order). outlasts c.args.today z.item.validity) e) ∙ sym (c.if-outlasts.ensures)))
 
 pub returns-clause-valid : goal.returns-clause-valid
 returns-clause-valid g c =
@@ -25,7 +27,7 @@ returns-clause-valid g c =
     (pass-as-before c.args.key c.args.queues.now.orders (outlives c.args.today) c.take.ensures.distinct (search rules)
     (λ y there same.
     (let e : c.in-Some.entry.now ≡ listed_entry y = same_some (c.in-Some.ensures.there y there same) in
-    sym (ap (λ (z : Entry). outlasts c.args.today z.order.validity) e) ∙ sym (c.if-outlasts.ensures))))
+    sym (ap (λ (z : Entry Order). outlasts c.args.today z.item.validity) e) ∙ sym (c.if-outlasts.ensures))))
 
 pub returns-clause-done : goal.returns-clause-done
 returns-clause-done g c h =

@@ -1,6 +1,7 @@
 use Rattle.std.proofs.Common.{◌≡◌, true, filter}
 use Rattle.std.specs.List.{list_all}
-use Rattle.xm_book.specs.Expiry.{is_below, is_done, outlives}
+use Rattle.xm_slots.specs.Listing.{is_below}
+use Rattle.xm_book.specs.Expiry.{is_done, outlives}
 use Rattle.xm_book.proofs.expiry.drop_orders.Given as goal
 
 abbrev pub invariant-loop-key : goal.invariant-loop-key

@@ -2,7 +2,7 @@ use Rattle.std.proofs.Common.{refl, ◌≡◌, ◌≤◌, ◌++◌, ◌∷◌, [
 use Rattle.xm_book.specs.Queues.{best_order, taken_from, taken_from_any, taken_from_best}
 use Rattle.xm_book.specs.TimeList.{TimeList}
 use Rattle.xm_book.specs.Trades.{TradeList}
-use Rattle.xm_book.proofs.Joining.{same_some}
+use Rattle.xm_slots.proofs.Tests.{same_some}
 use Rattle.xm_book.proofs.Naming.{contains_best}
 use Rattle.xm_match.specs.Meeting.{is_outside, next_met, sweep_of, terms_of, trade_with}
 use Rattle.xm_match.specs.declared.meeting.Next.TheVariants.{Inside}

@@ -1,5 +1,5 @@
 use Rattle.std.proofs.Common.{◌≡◌, rules, None, find}
-use Rattle.xm_book.proofs.Members.{find-None, list_any-none}
+use Rattle.xm_slots.proofs.Members.{find-None, list_any-none}
 use Rattle.xm_rules.specs.Orders.{is_named}
 use Rattle.xetra_bench.proofs.books.Shelf.enter.Goals as goal
 

@@ -1,9 +1,10 @@
 use Rattle.std.proofs.Common.{sym, ◌∙◌, subst, Contains, option_copied}
-use Rattle.xm_book.specs.Listing.{keys_in}
-use Rattle.xm_book.specs.declared.listing.Listed.{Listed}
-use Rattle.xm_book.proofs.Members.{Contains-map}
+use Rattle.xm_slots.specs.Listing.{keys_in}
+use Rattle.xm_slots.specs.declared.listing.Listed.{Listed}
+use Rattle.xm_slots.proofs.Members.{Contains-map}
 use Rattle.xm_book.proofs.Priorities.{key-none, key-some, next-is, next-unknown}
 use Rattle.xm_book.proofs.book.Book.next_after.Goals as goal
+use Rattle.xm_rules.specs.declared.orders.Order.{Order}
 
 pub returns-in_err-key : goal.returns-in_err-key
 returns-in_err-key g c =
@@ -17,7 +18,7 @@ next_after-requires g c =
     let q = c.self.inside.queues in
     let o = c.args.order.now in
     let x = key-some o.member o.reference c.in_ok-key.key q.orders (c.in_ok-key.ensures ∙ c.self.invariant.named o.member o.reference) in
-    subst (Contains (keys_in q.orders)) x.3 (Contains-map (λ (y : Listed). y.key) q.orders x.0 x.1)
+    subst (Contains (keys_in q.orders)) x.3 (Contains-map (λ (y : Listed Order). y.key) q.orders x.0 x.1)
 
 pub returns : goal.returns
 returns g c =

@@ -1,5 +1,5 @@
 use Rattle.std.proofs.Common.{◌≡◌, true}
-use Rattle.xm_book.specs.Listing.{rises}
+use Rattle.xm_slots.specs.Listing.{rises}
 use Rattle.xm_book.proofs.FirstKinds.{limit-kind, market-kind}
 use Rattle.xm_book.proofs.order_queues.OrderQueues.first_kind.Goals as goal
 

@@ -3,4 +3,4 @@ use Rattle.xm_book.proofs.Walking.{IsPassed}
 use Rattle.xm_book.proofs.order_queues.OrderQueues.first_later.Given as goal
 
 abbrev pub invariant-loop-step : goal.invariant-loop-step
-invariant-loop-step g l = IsPassed (members l.entry.order.side l.fn.restriction l.entry.order.kind l.self-inside.listing) l.entry.time l._step l.key
+invariant-loop-step g l = IsPassed (members l.entry.item.side l.fn.restriction l.entry.item.kind l.self-inside.listing) l.entry.time l._step l.key

@@ -1,6 +1,6 @@
 use Rattle.std.proofs.Common.{rules, ◌≡◌, true, refl, sym, ap, ◌∙◌, Some, None, option_copied}
-use Rattle.xm_book.specs.Slots.{get}
-use Rattle.xm_book.proofs.Joining.{same_some, some_none}
+use Rattle.xm_slots.specs.Slots.{get}
+use Rattle.xm_slots.proofs.Tests.{same_some, some_none}
 use Rattle.xm_book.proofs.Standing.{front-none, front-some}
 use Rattle.xm_book.proofs.order_queues.OrderQueues.front_in.Goals as goal
 use Rattle.xm_ladders.specs.Ladder.{level_of}

@@ -1,4 +1,4 @@
-use Rattle.xm_book.proofs.Expiring.{all-below}
+use Rattle.xm_slots.proofs.Expiring.{all-below}
 use Rattle.xm_book.proofs.order_queues.OrderQueues.key_limit.Goals as goal
 
 pub returns : goal.returns

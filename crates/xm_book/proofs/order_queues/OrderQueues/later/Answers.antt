@@ -8,11 +8,11 @@ pub returns : goal.returns
 returns g c =
     let e = c.args.entry.now in
     rw (c.earlier_of_two.ensures, c.earlier_of_two-early.ensures, c.earlier_of_two-late.ensures)
-    (earliest_of_four c.args.phase e.order.side (has_kind_later e.order.kind e.time) c.args.self.now.orders (option_copied c.later_in-free.result) (option_copied c.later_in-opening.result)
+    (earliest_of_four c.args.phase e.item.side (has_kind_later e.item.kind e.time) c.args.self.now.orders (option_copied c.later_in-free.result) (option_copied c.later_in-opening.result)
     (option_copied c.later_in-auctions.result) (option_copied c.later_in-closing.result) c.later_in-free.ensures c.later_in-opening.ensures c.later_in-auctions.ensures c.later_in-closing.ensures)
 
 pub returns-then-is_continuous : goal.returns-then-is_continuous
 returns-then-is_continuous g c =
     let e = c.args.entry.now in
     let continuous : is_continuous c.args.phase ≡ true = search rules in
-    earliest_free c.args.phase e.order.side (has_kind_later e.order.kind e.time) c.args.self.now.orders continuous (option_copied c.later_in-free.result) c.later_in-free.ensures
+    earliest_free c.args.phase e.item.side (has_kind_later e.item.kind e.time) c.args.self.now.orders continuous (option_copied c.later_in-free.result) c.later_in-free.ensures

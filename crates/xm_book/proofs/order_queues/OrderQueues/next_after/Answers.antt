@@ -15,8 +15,8 @@ pub returns-in-Some-clause-next : goal.returns-in-Some-clause-next
 returns-in-Some-clause-next g c =
     let q = c.self.inside in
     let e = c.in_ok-entry.entry.now in
-    let on : is_active c.args.phase e.order.restriction ≡ true = search rules in
-    let own : e.order.side ≡ c.args.side = search rules in
+    let on : is_active c.args.phase e.item.restriction ≡ true = search rules in
+    let own : e.item.side ≡ c.args.side = search rules in
     λ x contained key.
     let inside : Contains q.listing x = rw (← c.self.view_is) at contained in
     let is = entry-at q.listing q.entries q.links q.ladders c.self.invariant.queued c.args.key e c.in_ok-entry.ensures x inside key in
@@ -26,8 +26,8 @@ pub returns-in-None-clause-next : goal.returns-in-None-clause-next
 returns-in-None-clause-next g c =
     let q = c.self.inside in
     let e = c.in_ok-entry.entry.now in
-    let on : is_active c.args.phase e.order.restriction ≡ true = search rules in
-    let own : e.order.side ≡ c.args.side = search rules in
+    let on : is_active c.args.phase e.item.restriction ≡ true = search rules in
+    let own : e.item.side ≡ c.args.side = search rules in
     λ x contained key.
     let inside : Contains q.listing x = rw (← c.self.view_is) at contained in
     let is = entry-at q.listing q.entries q.links q.ladders c.self.invariant.queued c.args.key e c.in_ok-entry.ensures x inside key in

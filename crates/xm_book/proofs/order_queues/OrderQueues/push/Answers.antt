@@ -1,6 +1,7 @@
 use Rattle.std.proofs.Common.{arith}
 use Rattle.xm_book.proofs.Joining.{joined, lacks, orders-fit, range-high, units-fit}
-use Rattle.xm_book.proofs.Keeping.{few-orders, kind-room, level-room, places-used, rises-push, some-place}
+use Rattle.xm_book.proofs.Keeping.{few-orders, kind-room, level-room, places-used, some-place}
+use Rattle.xm_slots.proofs.Keeping.{rises-push}
 use Rattle.xm_book.proofs.Reserved.{Gains-left}
 use Rattle.xm_book.specs.Places.{place_of}
 use Rattle.xm_book.specs.Reserved.{Gains, without_one}

@@ -1,17 +1,19 @@
-use Rattle.std.proofs.Common.{◌≡◌, ◌+◌, ◌-◌, ◌≤◌, ℕ, map, arith}
+use Rattle.std.proofs.Common.{◌≡◌, ◌+◌, ◌-◌, ◌≤◌, ℕ, map, refl, arith}
 use Rattle.std.proofs.lemmas.List.{length-map}
 use Rattle.std.proofs.lemmas.List.Elements.{All-contains}
-use Rattle.xm_book.specs.declared.listing.Listed.{Listed}
+use Rattle.xm_slots.specs.declared.listing.Listed.{Listed}
 use Rattle.xm_book.specs.Listing.{reduced_at}
 use Rattle.xm_book.proofs.Keeping.{places-kept, rises-reduced}
-use Rattle.xm_book.proofs.Leaving.{kind-there, level-there, orders-there, taken-rest, there-at, units-there}
-use Rattle.xm_book.proofs.Reducing.{no_room, reduced-queued}
+use Rattle.xm_book.proofs.Leaving.{kind-there, level-there, orders-there, taken-rest, units-there}
+use Rattle.xm_slots.proofs.Leaving.{there-at}
+use Rattle.xm_book.proofs.Reducing.{no_room, reduced-queued, replaced-reduced}
 use Rattle.xm_book.proofs.order_queues.OrderQueues.reduce.Goals as goal
+use Rattle.xm_rules.specs.declared.orders.Order.{Order}
 
 pub entry-entry-requires : goal.entry-entry-requires
 entry-entry-requires g c =
     let q = c.self.inside in
-    there-at q.listing q.entries q.links q.ladders c.self.invariant.queued c.args.key (rw (← c.self.view_is) at c.requires.there)
+    there-at q.listing q.entries c.self.invariant.queued.lie c.args.key (rw (← c.self.view_is) at c.requires.there)
 
 pub overflow_sub-entry : goal.overflow_sub-entry
 overflow_sub-entry g c =
@@ -54,15 +56,20 @@ invariant_of-self g c =
     let put = c.put_level in
     let lower = taken-rest q.listing q.entries q.links q.ladders kept.queued c.args.key there e lies level.result level.ensures (λ (n : ℕ). c.args.rest ≤ n) (λ x at k. (rw (← c.self.view_is) at c.requires.rest c.self.invariant.queued.distinct x at k).1) in
     let small = taken-rest q.listing q.entries q.links q.ladders kept.queued c.args.key there e lies level.result level.ensures (λ (n : ℕ). n ≤ 1000000)
-    (λ x at k. All-contains (λ (x : Listed). x.order.rest ≤ 1000000) q.listing x kept.queued.small at) in
+    (λ x at k. All-contains (λ (x : Listed Order). x.item.rest ≤ 1000000) q.listing x kept.queued.small at) in
     let enough = units-there q.listing q.entries q.links q.ladders kept.queued c.args.key there e lies level.result level.ensures in
-    let units : (level.result.units - c.from.result) + e.order.rest ≡ level.result.units + c.args.rest = omega (arith, c.from.ensures, lower, enough) in
-    rw c.reduce.ensures (record {
+    let units : (level.result.units - c.from.result) + e.item.rest ≡ level.result.units + c.args.rest = omega (arith, c.from.ensures, lower, enough) in
+    rw (c.replace.ensures, replaced-reduced q.entries c.args.key c.args.rest e lies q.listing kept.queued.lie) (record {
       queued = reduced-queued q.listing q.entries q.links q.ladders kept.queued c.args.key there e lies level.result level.ensures c.args.rest lower
-          c.set_rest.new.self (c.set_rest.ensures.updates e lies) c.set_rest.ensures.used c.set_rest.ensures.capacity put.new.ladders (level.result.units - c.from.result) units
+          c.reduce_to.new.self (c.reduce_to.ensures.updates e lies) c.reduce_to.ensures.used c.reduce_to.ensures.capacity put.new.ladders (level.result.units - c.from.result) units
           put.ensures.levels put.ensures.kinds_kept (omega (arith, lower, small));
       places = places-kept q.listing q.places q.entries q.ladders kept.places (map (reduced_at c.args.key c.args.rest) q.listing) (omega (arith, length-map q.listing (reduced_at c.args.key c.args.rest)))
-          c.set_rest.new.self (omega (arith, c.set_rest.ensures.capacity)) put.new.ladders put.ensures.kinds_kept
+          c.reduce_to.new.self (omega (arith, c.reduce_to.ensures.capacity)) put.new.ladders put.ensures.kinds_kept
           (put.ensures.room_kept (level-there q.listing q.entries q.links q.ladders kept.queued c.args.key there e lies level.result level.ensures));
       rise = rises-reduced c.args.key c.args.rest 0 q.listing q.adds kept.rise;
     })
+
+pub returns-clause-reduced : goal.returns-clause-reduced
+returns-clause-reduced g c =
+    let q = c.self.inside in
+    rw (← c.self.view_is, c.replace.ensures, replaced-reduced q.entries c.args.key c.args.rest c.entry-entry.result.now c.entry-entry.ensures q.listing c.self.invariant.queued.lie) refl

@@ -1,14 +1,16 @@
 use Rattle.std.proofs.Common.{filter, arith}
-use Rattle.xm_book.specs.Listing.{is_other_key}
-use Rattle.xm_book.proofs.Joining.{length-kept}
-use Rattle.xm_book.proofs.Keeping.{places-kept, rises-kept}
-use Rattle.xm_book.proofs.Leaving.{key-there, kind-there, left-queued, level-there, orders-there, there-at, units-there}
+use Rattle.xm_slots.specs.Listing.{is_other_key}
+use Rattle.xm_slots.proofs.Tests.{length-kept}
+use Rattle.xm_slots.proofs.Keeping.{rises-kept}
+use Rattle.xm_slots.proofs.Leaving.{there-at}
+use Rattle.xm_book.proofs.Keeping.{places-kept}
+use Rattle.xm_book.proofs.Leaving.{key-there, kind-there, left-queued, level-there, orders-there, units-there}
 use Rattle.xm_book.proofs.order_queues.OrderQueues.take.Goals as goal
 
 pub entry-entry-requires : goal.entry-entry-requires
 entry-entry-requires g c =
     let q = c.self.inside in
-    there-at q.listing q.entries q.links q.ladders c.self.invariant.queued c.args.key (rw (← c.self.view_is) at c.requires)
+    there-at q.listing q.entries c.self.invariant.queued.lie c.args.key (rw (← c.self.view_is) at c.requires)
 
 pub unlink-requires : goal.unlink-requires
 unlink-requires g c =

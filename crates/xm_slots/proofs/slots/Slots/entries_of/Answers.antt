@@ -16,13 +16,13 @@ loop-slot-preserved g c =
     elim c.match-get.branch [
       | in-Some+then-is_of+in_ok-push w ↦
           let here = sym c.get.ensures ∙ ap option_copied w.in-Some.is in
-          let more = entries-wanted g.I.OfMember.member_of c.args.member slots i d within c.slot-item.is w.in-Some.entry.now here w.is_of.result w.is_of.ensures w.if-is_of.true in
+          let more = entries-wanted g.O.Owners.owner_of c.args.owner slots i d within c.slot-item.is w.in-Some.entry.now here w.is_of.result w.is_of.ensures w.if-is_of.true in
           rw (w.entries-is, w.in_ok-push.ensures.items, more, c.loop-slot.invariant)
       | in-Some+else-is_of w ↦
           let here = sym c.get.ensures ∙ ap option_copied w.in-Some.is in
-          let more = entries-unwanted g.I.OfMember.member_of c.args.member slots i d within c.slot-item.is w.in-Some.entry.now here w.is_of.result w.is_of.ensures w.if-is_of.false in
+          let more = entries-unwanted g.O.Owners.owner_of c.args.owner slots i d within c.slot-item.is w.in-Some.entry.now here w.is_of.result w.is_of.ensures w.if-is_of.false in
           rw (w.entries-is, more) c.loop-slot.invariant
       | in_default w ↦
-          let more = entries-none g.I.OfMember.member_of c.args.member slots i d within c.slot-item.is (λ e h. none-copied c.get.result w.in_default.not-Some e (c.get.ensures ∙ h)) in
+          let more = entries-none g.O.Owners.owner_of c.args.owner slots i d within c.slot-item.is (λ e h. none-copied c.get.result w.in_default.not-Some e (c.get.ensures ∙ h)) in
           rw (w.entries-is, more) c.loop-slot.invariant
     ]

@@ -1,6 +1,6 @@
 use Rattle.std.proofs.Common.{arith}
 use Rattle.xm_slots.proofs.SlotKeys.{left-count, left-distinct, left-vacancies}
-use Rattle.xm_slots.proofs.slots.Slots.remove.Goals as goal
+use Rattle.xm_slots.proofs.slots.Slots.vacate.Goals as goal
 
 pub invariant_of-self : goal.invariant_of-self
 invariant_of-self g c =
@@ -9,7 +9,7 @@ invariant_of-self g c =
     let i = c.self.invariant in
     let there = rw (← c.self.view_is) at c.requires in
     let back = c.push_reserved.ensures in
-    rw c.take.ensures.vacant (record {
+    rw c.clear.ensures (record {
       vacancies = rw back.items (left-vacancies es ks c.args.key i.vacancies i.distinct there);
       distinct = rw back.items (left-distinct es ks c.args.key i.vacancies i.distinct there);
       counted = omega (arith, i.counted, back.len, left-count es c.args.key there);
