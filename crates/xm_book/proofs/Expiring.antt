@@ -1,26 +1,20 @@
 -- The orders of a book at the end of a day.
-use Rattle.std.proofs.Common.{◌≡◌, ℕ, ◌+◌, Bool, true, false, ◌||◌, ◌==◌, not, List, [], ◌∷◌, length, map, filter, find, option_map, Contains, Option, Some, None, IsSome, if◌then◌else◌, refl, sym, ap, ◌∙◌, arith}
-use Rattle.std.specs.List.{All, list_all}
+use Rattle.std.proofs.Common.{◌≡◌, ℕ, ◌+◌, Bool, true, false, ◌||◌, ◌==◌, not, List, [], ◌∷◌, length, map, filter, find, option_map, Contains, Option, Some, None, if◌then◌else◌, refl, sym, ap, ◌∙◌, arith}
+use Rattle.std.specs.List.{list_all}
 use Rattle.std.specs.Prelude.{nat_lt}
 use Rattle.std.proofs.lemmas.Bool.{and_from, and_parts, false≢true}
 use Rattle.std.proofs.lemmas.Bool.Decides.{nat_tests}
-use Rattle.std.proofs.lemmas.List.Elements.{All-head, All-tail}
 use Rattle.xm_slots.specs.Listing.{is_below}
 use Rattle.xm_book.specs.Expiry.{is_done, outlives}
-use Rattle.xm_slots.specs.Listing.{is_other_key, keys_in, listed_entry}
+use Rattle.xm_slots.specs.Listing.{is_other_key, keys_in}
 use Rattle.xm_book.specs.Listing.{has_name, key_of, listed_order}
-use Rattle.xm_slots.specs.Slots.{SlotsView, get}
-use Rattle.xm_slots.specs.declared.entry.Entry.{Entry}
 use Rattle.xm_slots.specs.declared.listing.Listed.{Listed}
 use Rattle.xm_book.specs.Indexed.{IsIndexed}
-use Rattle.xm_slots.specs.Listing.{LiesAt}
 use Rattle.xm_book.specs.Queued.{QueuedView}
-use Rattle.xm_slots.proofs.Leaving.{all-stay, filters, key-once}
 use Rattle.xm_slots.proofs.Tests.{find-filter, length-kept, none-found}
 use Rattle.xm_slots.proofs.Members.{Contains-here, Contains-map, Contains-there, IsMade-map, Passes-filter, find-Some, list_any-false}
 use Rattle.xm_book.specs.TimeList.{have_own_names}
 use Rattle.xm_rules.specs.Commands.{is_in_range, outlasts}
-use Rattle.xm_slots.proofs.SlotKeys.{within-there}
 use Rattle.xm_book.proofs.Named.{name-once, named-at, not-named, orders-kept, own_names-kept, rests-kept}
 use Rattle.xm_names.specs.Names.{NamesOfMember, Retains, lookup, room}
 use Rattle.xm_rules.specs.Orders.{is_named}

@@ -1,5 +1,5 @@
 -- An order joins the queue of its level.
-use Rattle.std.proofs.Common.{◌≡◌, ℕ, suc, ◌+◌, ◌*◌, ◌<◌, ◌≤◌, Bool, true, false, ◌&&◌, if◌then◌else◌, List, [], ◌∷◌, ◌++◌, length, get_or, filter, Contains, Option, Some, None, refl, sym, ap, ◌∙◌, subst, ◌⊎◌, inl, inr, arith}
+use Rattle.std.proofs.Common.{◌≡◌, ℕ, suc, ◌+◌, ◌*◌, ◌<◌, ◌≤◌, Bool, true, false, ◌&&◌, if◌then◌else◌, List, [], ◌∷◌, ◌++◌, length, get_or, filter, Contains, Option, Some, None, refl, sym, ap, ◌∙◌, subst, arith}
 use Rattle.std.specs.List.{All}
 use Rattle.std.specs.Prelude.{nat_le}
 use Rattle.std.proofs.lemmas.Bool.{and_parts, and_from, eqb-true, false≢true, leb-true}
@@ -7,7 +7,7 @@ use Rattle.xm_rules.specs.Commands.{is_in_range}
 use Rattle.std.proofs.lemmas.Bool.Decides.{nat_tests}
 use Rattle.std.proofs.lemmas.List.{append-nil, map-append, length-append}
 use Rattle.std.proofs.lemmas.List.Elements.{All-contains, Contains-get_or, All-append, All-cons, All-nil, filter-append}
-use Rattle.std.proofs.lemmas.List.Sums.{count_by-le-length, length-filter, sum_by-append, sum_by-cons}
+use Rattle.std.proofs.lemmas.List.Sums.{sum_by-append, sum_by-cons}
 use Rattle.xm_slots.specs.Slots.{SlotsView, Updates, get, used}
 use Rattle.xm_book.specs.Levels.{IsFound, at_level, level_for, same_restriction}
 use Rattle.xm_slots.specs.Listing.{keys_in}
@@ -15,7 +15,7 @@ use Rattle.xm_slots.specs.Listing.{LiesAt}
 use Rattle.xm_book.specs.Queued.{HasItsKind, HoldsLevel, IsLevelOf, IsQueued, is_member, members, units_in}
 use Rattle.xm_slots.specs.declared.entry.Entry.{Entry}
 use Rattle.xm_slots.specs.declared.listing.Listed.{Listed}
-use Rattle.xm_slots.proofs.Members.{Contains-cases, Contains-here, Contains-none, Contains-there, IsMade-map, Passes-filter}
+use Rattle.xm_slots.proofs.Members.{IsMade-map, Passes-filter}
 use Rattle.xm_ladders.specs.Ladder.{HasKind, same_kind}
 use Rattle.xm_ladders.specs.Ladders.{ladder_on, level_on, side_of}
 use Rattle.xm_ladders.specs.declared.ladders.Ladders.{Ladders}

@@ -1,8 +1,7 @@
 -- What the parts of the queues keep while orders join and leave, and places are reserved and given up.
-use Rattle.std.proofs.Common.{◌≡◌, ℕ, zero, suc, ◌+◌, ◌<◌, ◌≤◌, Bool, true, false, ◌&&◌, if◌then◌else◌, List, [], ◌∷◌, ◌++◌, length, map, filter, count_by, IsSome, rules, refl, sym, ap, ◌∙◌, subst, arith, nat_eq}
+use Rattle.std.proofs.Common.{◌≡◌, ℕ, zero, suc, ◌+◌, ◌<◌, ◌≤◌, Bool, true, false, ◌&&◌, if◌then◌else◌, List, [], ◌∷◌, ◌++◌, length, map, count_by, IsSome, rules, refl, sym, ap, ◌∙◌, subst, arith, nat_eq}
 use Rattle.std.specs.Prelude.{nat_le}
-use Rattle.std.proofs.lemmas.Bool.{and_parts, leb-true}
-use Rattle.std.proofs.lemmas.Bool.Decides.{nat_tests}
+use Rattle.std.proofs.lemmas.Bool.{and_parts}
 use Rattle.std.proofs.lemmas.List.{length-append}
 use Rattle.xm_book.specs.Levels.{level_for, same_restriction}
 use Rattle.xm_slots.specs.Listing.{rises}
@@ -17,7 +16,6 @@ use Rattle.xm_book.proofs.Joining.{restriction-itself, side-itself}
 use Rattle.xm_book.proofs.Placing.{levels-less}
 use Rattle.xm_book.proofs.Reserved.{Gains-length, count_one}
 use Rattle.xm_book.proofs.Reserving.{same_place-self}
-use Rattle.xm_book.proofs.Sameness.{left-true, right-true}
 use Rattle.xm_ladders.specs.Ladder.{HasKind, HasLevels, LadderView}
 use Rattle.xm_ladders.specs.Ladders.{ladder_on, level_on, side_of}
 use Rattle.xm_ladders.specs.declared.ladders.Ladders.{Ladders}

@@ -2,10 +2,9 @@
 use Rattle.std.proofs.Common.{◌≡◌, ◌≢◌, ℕ, zero, suc, ◌+◌, ◌-◌, ◌≤◌, Bool, true, false, not, if◌then◌else◌, List, [], ◌∷◌, length, get_or, filter, Contains, Option, Some, None, IsSome, refl, rules, sym, ap, ◌∙◌, subst, ◌⊎◌, inl, inr, arith, nat_eq}
 use Rattle.std.specs.List.{All}
 use Rattle.std.proofs.lemmas.Bool.{eqb-true, false≢true}
-use Rattle.std.proofs.lemmas.Bool.Decides.{nat_tests}
 use Rattle.std.proofs.lemmas.List.Elements.{All-contains, Contains-get_or}
 use Rattle.std.proofs.lemmas.List.Sums.{sum_by-cons}
-use Rattle.xm_slots.specs.Slots.{ContainsKey, SlotsView, Updates, get, used}
+use Rattle.xm_slots.specs.Slots.{SlotsView, Updates, get, used}
 use Rattle.xm_book.specs.Levels.{IsFound, IsSet, at_level, level_for}
 use Rattle.xm_slots.specs.Listing.{is_other_key, keys_in}
 use Rattle.xm_slots.specs.Listing.{LiesAt}
@@ -14,7 +13,7 @@ use Rattle.xm_slots.specs.declared.entry.Entry.{Entry}
 use Rattle.xm_slots.specs.declared.listing.Listed.{Listed}
 use Rattle.xm_book.proofs.Joining.{apart, at-itself, here, is-at}
 use Rattle.xm_slots.proofs.Tests.{same_some}
-use Rattle.xm_slots.proofs.Members.{Contains-cases, Contains-filter, Contains-map, Contains-none, IsMade-map, Passes-filter}
+use Rattle.xm_slots.proofs.Members.{Contains-cases, Contains-filter, Contains-map, Contains-none, Passes-filter}
 use Rattle.xm_ladders.specs.Ladder.{HasKind, IsCleared}
 use Rattle.xm_ladders.specs.Ladders.{ladder_on, level_on, side_of}
 use Rattle.xm_ladders.specs.declared.ladders.Ladders.{Ladders}

@@ -1,22 +1,21 @@
 -- The orders of a list by their names, as an order joins it, leaves it or is reduced.
-use Rattle.std.proofs.Common.{◌≡◌, ℕ, ◌<◌, ◌≤◌, Bool, true, false, not, ◌&&◌, ◌||◌, ◌==◌, if◌then◌else◌, List, [], ◌∷◌, ◌++◌, length, get_or, map, filter, find, Contains, Option, Some, None, option_map, ◌⊎◌, inl, inr, refl, sym, ap, ◌∙◌, subst, arith}
+use Rattle.std.proofs.Common.{◌≡◌, ℕ, ◌<◌, Bool, true, false, not, ◌&&◌, ◌||◌, ◌==◌, if◌then◌else◌, List, [], ◌∷◌, ◌++◌, length, get_or, map, filter, find, Contains, Option, Some, None, option_map, ◌⊎◌, inl, inr, refl, sym, ap, ◌∙◌, arith}
 use Rattle.std.specs.List.{All, list_all, list_any}
 use Rattle.std.specs.Option.{option_or}
 use Rattle.std.proofs.lemmas.Bool.{and_parts, eq-eqb, eqb-true, false≢true, or_parts}
 use Rattle.std.proofs.lemmas.Bool.Decides.{nat_tests}
 use Rattle.std.proofs.lemmas.List.Elements.{All-head, All-tail, Contains-get_or}
 use Rattle.std.proofs.lemmas.List.Folds.{find-append, list_all-append, list_any-append}
-use Rattle.std.proofs.lemmas.List.Sums.{count_by-le-length, length-filter}
 use Rattle.xm_slots.specs.Listing.{is_other_key, keys_in}
 use Rattle.xm_book.specs.Listing.{has_name, key_of, listed_order, reduced_at}
 use Rattle.xm_book.specs.TimeList.{have_own_names}
 use Rattle.xm_slots.specs.declared.listing.Listed.{Listed}
-use Rattle.xm_slots.proofs.Members.{Contains-cases, Contains-here, Contains-there, Contains-map, Contains-none, find-Some, find-none, list_any-false}
+use Rattle.xm_slots.proofs.Members.{Contains-cases, Contains-map, Contains-none, find-Some, find-none, list_any-false}
 use Rattle.xm_queues.specs.Keys.{AreDistinct}
 use Rattle.xm_rules.specs.Commands.{is_in_range}
 use Rattle.xm_rules.specs.Orders.{is_named, removed, with_rest, without_member}
 use Rattle.xm_rules.specs.declared.orders.Order.{Order}
-use Rattle.xm_slots.proofs.Tests.{any-kept, filter-same, find-filter, keep-all, length-kept, none-found, some-found}
+use Rattle.xm_slots.proofs.Tests.{any-kept, filter-same, find-filter, keep-all, length-kept, none-found}
 use Rattle.xm_slots.proofs.Leaving.{key-once}
 
 same_test : (m n : ℕ) → (m == n) ≡ (n == m)
