@@ -5,6 +5,7 @@ mod batch;
 mod bytes;
 mod columns;
 mod entries;
+pub mod examples;
 mod fields;
 mod file_faults;
 mod marks;

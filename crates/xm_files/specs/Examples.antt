@@ -1,0 +1,51 @@
+-- The records and rows of the worked examples.
+use Rattle.std.specs.Prelude.{codes, ℕ, List, [], ◌∷◌}
+use Rattle.xm_files.specs.Names.{NameLists}
+use Rattle.xm_rules.specs.declared.commands.Command.{Command}
+use Rattle.xm_rules.specs.declared.commands.Command.TheVariants.{Cancel, CancelAll, Enter, StartClosing, StartOpening, Uncross}
+use Rattle.xm_rules.specs.declared.commands.Condition.TheVariants.{Plain}
+use Rattle.xm_rules.specs.declared.commands.Kind.{Kind}
+use Rattle.xm_rules.specs.declared.orders.Restriction.TheVariants.{Free}
+use Rattle.xm_rules.specs.declared.orders.Side.TheVariants.{Sell}
+use Rattle.xm_rules.specs.declared.orders.Validity.TheVariants.{Day}
+use Rattle.xm_segment.specs.declared.config.SecurityConfig.{SecurityConfig}
+use Rattle.xm_segment.specs.declared.config.SegmentConfig.{SegmentConfig}
+use Rattle.xm_segment.specs.declared.rows.Row.{Row}
+
+abbrev pub record_names : NameLists
+record_names = record { members = codes "AAA" ∷ codes "BBB" ∷ []; securities = codes "XYZ" ∷ codes "UVW" ∷ [] }
+
+-- a security with ticks of this size
+abbrev pub with_ticks : ℕ → SecurityConfig
+with_ticks tick = record { tick = tick; reference = 1000; widths = record { dynamic = 20; statics = 50; wide = 40 }; limit = 100 }
+
+abbrev pub record_settings : SegmentConfig
+record_settings = record { today = 20260105; members = 2; securities = with_ticks 50 ∷ with_ticks 100 ∷ [] }
+
+abbrev pub every_title : List (List ℕ)
+every_title =
+    codes "command" ∷ codes "member" ∷ codes "reference" ∷ codes "security" ∷ codes "side" ∷ codes "kind" ∷ codes "limit" ∷ codes "trigger" ∷ codes "quantity"
+    ∷ codes "validity" ∷ codes "restriction" ∷ codes "condition" ∷ []
+
+-- the second member enters a sell of thirty units, under reference 7, in this security, of this kind, limit and trigger
+abbrev pub order_record : List ℕ → List ℕ → List ℕ → List ℕ → List (List ℕ)
+order_record security kind limit trigger =
+    codes "enter" ∷ codes "BBB" ∷ codes "7" ∷ security ∷ codes "sell" ∷ kind ∷ limit ∷ trigger ∷ codes "30" ∷ [] ∷ [] ∷ [] ∷ []
+
+-- the second member's change or cancellation in the first security
+abbrev pub change_record : List ℕ → List ℕ → List ℕ → List ℕ → List (List ℕ)
+change_record word reference limit quantity = word ∷ codes "BBB" ∷ reference ∷ codes "XYZ" ∷ [] ∷ [] ∷ limit ∷ [] ∷ quantity ∷ [] ∷ [] ∷ [] ∷ []
+
+abbrev pub phase_record : List ℕ → List ℕ → List (List ℕ)
+phase_record word security = word ∷ [] ∷ [] ∷ security ∷ [] ∷ [] ∷ [] ∷ [] ∷ [] ∷ [] ∷ [] ∷ [] ∷ []
+
+abbrev pub row_of : ℕ → Command → Row
+row_of security command = record { security = security; command = command }
+
+-- the row that `order_record` stands for
+abbrev pub entered : ℕ → Kind → Row
+entered security kind = row_of security (Enter 1 7 Sell kind 30 Day Free Plain)
+
+-- one phase row, a row of each of two members, two phase rows, and one more row of a member
+abbrev pub round_rows : List Row
+round_rows = row_of 0 StartOpening ∷ row_of 0 (Cancel 1 1) ∷ row_of 1 (Cancel 2 1) ∷ row_of 0 Uncross ∷ row_of 0 StartClosing ∷ row_of 0 (CancelAll 1) ∷ []

@@ -1,0 +1,113 @@
+//! What the definitions give on worked examples. Each function promises one by its contract.
+ghost use Rattle.std.specs.Prelude.{◌≡◌, codes, map, [], ◌∷◌, Some, None, Ok, Err, true, false};
+ghost use Rattle.xm_files.specs.Examples.{change_record, entered, every_title, order_record, phase_record, record_names, record_settings, round_rows, row_of};
+ghost use Rattle.xm_files.specs.Orders.{with_record};
+ghost use Rattle.xm_files.specs.Rows.{columns, condition_of, is_header, name_index, restriction_of, rows_of_record, side_of, title_of, validity_of, whole_of};
+ghost use Rattle.xm_files.specs.Segment.{are_distinct, is_name};
+ghost use Rattle.xm_files.specs.Timetable.{rounds_of, share_of};
+ghost use Rattle.xm_files.specs.declared.file_faults.FileCause.TheVariants.{BadField, BadHeader, Syntax};
+ghost use Rattle.xm_rules.specs.declared.commands.Command.TheVariants.{Cancel, CancelAll, Change, EndDay, StartClosing, StartIntraday, StartOpening, Uncross};
+ghost use Rattle.xm_rules.specs.declared.commands.Condition.TheVariants.{Fok, Ioc, Plain};
+ghost use Rattle.xm_rules.specs.declared.commands.Kind.TheVariants.{Limit, Market, StopLimit, StopMarket};
+ghost use Rattle.xm_rules.specs.declared.orders.Restriction.TheVariants.{AuctionsOnly, ClosingOnly, Free, OpeningOnly};
+ghost use Rattle.xm_rules.specs.declared.orders.Side.TheVariants.{Buy, Sell};
+ghost use Rattle.xm_rules.specs.declared.orders.Validity.TheVariants.{Day, TillCancelled, TillDate};
+
+/// The titles of the columns, and the header that they make.
+pub fn titles()
+    ensures titles { map title_of columns ≡ every_title }
+    ensures header { is_header every_title ≡ true }
+    ensures short { is_header (codes "command" ∷ []) ≡ false }
+    ensures long { is_header (codes "command" ∷ every_title) ≡ false }
+{}
+
+/// The words of sides, restrictions and conditions. An empty field is the plain case, and another word is none.
+pub fn words()
+    ensures sides { map side_of (codes "buy" ∷ codes "sell" ∷ codes "Buy" ∷ codes "" ∷ []) ≡ Some Buy ∷ Some Sell ∷ None ∷ None ∷ [] }
+    ensures restrictions { map restriction_of (codes "" ∷ codes "free" ∷ codes "opening" ∷ codes "auctions" ∷ codes "closing" ∷ codes "open" ∷ [])
+        ≡ Some Free ∷ Some Free ∷ Some OpeningOnly ∷ Some AuctionsOnly ∷ Some ClosingOnly ∷ None ∷ [] }
+    ensures conditions { map condition_of (codes "" ∷ codes "plain" ∷ codes "ioc" ∷ codes "fok" ∷ codes "gtc" ∷ []) ≡ Some Plain ∷ Some Plain ∷ Some Ioc ∷ Some Fok ∷ None ∷ [] }
+{}
+
+/// Validities: a date has eight digits.
+pub fn validities()
+    ensures words { map validity_of (codes "" ∷ codes "day" ∷ codes "gtc" ∷ []) ≡ Some Day ∷ Some Day ∷ Some TillCancelled ∷ [] }
+    ensures eight { validity_of (codes "20260131") ≡ Some (TillDate 20260131) }
+    ensures seven { validity_of (codes "2026131") ≡ None }
+    ensures nine { validity_of (codes "020260131") ≡ None }
+    ensures letter { validity_of (codes "2026013l") ≡ None }
+{}
+
+/// Numbers of 32 bits, in at most ten digits.
+pub fn numbers()
+    ensures most { whole_of (codes "4294967295") ≡ Some 4294967295 }
+    ensures above { whole_of (codes "4294967296") ≡ None }
+    ensures leading_zeros { whole_of (codes "0000000012") ≡ Some 12 }
+    ensures eleven { whole_of (codes "00000000012") ≡ None }
+    ensures empty { whole_of (codes "") ≡ None }
+{}
+
+/// Names have 1 to 12 characters `A` to `Z` and `0` to `9`. What is no name of a list has their number as its index.
+pub fn names()
+    ensures one { is_name (codes "A") ≡ true }
+    ensures twelve { is_name (codes "AZ0123456789") ≡ true }
+    ensures thirteen { is_name (codes "AZ01234567890") ≡ false }
+    ensures empty { is_name (codes "") ≡ false }
+    ensures small { is_name (codes "Az") ≡ false }
+    ensures distinct { are_distinct (codes "A" ∷ codes "B" ∷ codes "AB" ∷ []) ≡ true }
+    ensures again { are_distinct (codes "A" ∷ codes "B" ∷ codes "A" ∷ []) ≡ false }
+    ensures index { map (name_index record_names.members) (codes "AAA" ∷ codes "BBB" ∷ codes "CCC" ∷ codes "" ∷ []) ≡ Some 0 ∷ Some 1 ∷ Some 2 ∷ None ∷ [] }
+{}
+
+/// The rows of records that enter an order or a stop, at ticks of 50 in the first security.
+pub fn orders_entered()
+    ensures limit { rows_of_record record_names record_settings (order_record (codes "XYZ") (codes "limit") (codes "1.005") (codes "")) ≡ Some (entered 0 (Limit 201) ∷ []) }
+    ensures market { rows_of_record record_names record_settings (order_record (codes "UVW") (codes "market") (codes "") (codes "")) ≡ Some (entered 1 Market ∷ []) }
+    ensures stop_market { rows_of_record record_names record_settings (order_record (codes "XYZ") (codes "stop-market") (codes "") (codes "1")) ≡ Some (entered 0 (StopMarket 200) ∷ []) }
+    ensures stop_limit { rows_of_record record_names record_settings (order_record (codes "XYZ") (codes "stop-limit") (codes "1.005") (codes "1")) ≡ Some (entered 0 (StopLimit 200 201) ∷ []) }
+    ensures off_tick { rows_of_record record_names record_settings (order_record (codes "XYZ") (codes "limit") (codes "1.001") (codes "")) ≡ Some (entered 0 (Limit 0) ∷ []) }
+    ensures unknown_security { rows_of_record record_names record_settings (order_record (codes "ABC") (codes "limit") (codes "1.001") (codes "")) ≡ Some (entered 2 (Limit 10010) ∷ []) }
+    ensures no_number { rows_of_record record_names record_settings (order_record (codes "XYZ") (codes "limit") (codes "a") (codes "")) ≡ None }
+    ensures no_limit { rows_of_record record_names record_settings (order_record (codes "XYZ") (codes "limit") (codes "") (codes "")) ≡ None }
+    ensures trigger { rows_of_record record_names record_settings (order_record (codes "XYZ") (codes "limit") (codes "1") (codes "1")) ≡ None }
+    ensures market_limit { rows_of_record record_names record_settings (order_record (codes "XYZ") (codes "market") (codes "1") (codes "")) ≡ None }
+    ensures kind { rows_of_record record_names record_settings (order_record (codes "XYZ") (codes "stop") (codes "") (codes "1")) ≡ None }
+{}
+
+/// The rows of records that change or cancel.
+pub fn changes_and_cancellations()
+    ensures limited { rows_of_record record_names record_settings (change_record (codes "change") (codes "7") (codes "1") (codes "20")) ≡ Some (row_of 0 (Change 1 7 20 (Some 200)) ∷ []) }
+    ensures unlimited { rows_of_record record_names record_settings (change_record (codes "change") (codes "7") (codes "") (codes "20")) ≡ Some (row_of 0 (Change 1 7 20 None) ∷ []) }
+    ensures no_quantity { rows_of_record record_names record_settings (change_record (codes "change") (codes "7") (codes "1") (codes "")) ≡ None }
+    ensures cancelled { rows_of_record record_names record_settings (change_record (codes "cancel") (codes "7") (codes "") (codes "")) ≡ Some (row_of 0 (Cancel 1 7) ∷ []) }
+    ensures too_much { rows_of_record record_names record_settings (change_record (codes "cancel") (codes "7") (codes "") (codes "20")) ≡ None }
+    ensures all { rows_of_record record_names record_settings (change_record (codes "cancel-all") (codes "") (codes "") (codes "")) ≡ Some (row_of 0 (CancelAll 1) ∷ []) }
+    ensures one_of_all { rows_of_record record_names record_settings (change_record (codes "cancel-all") (codes "7") (codes "") (codes "")) ≡ None }
+{}
+
+/// The rows of the phases: in one security, or one for each in index order.
+pub fn phases()
+    ensures open { rows_of_record record_names record_settings (phase_record (codes "open") (codes "*")) ≡ Some (row_of 0 StartOpening ∷ row_of 1 StartOpening ∷ []) }
+    ensures intraday { rows_of_record record_names record_settings (phase_record (codes "intraday") (codes "UVW")) ≡ Some (row_of 1 StartIntraday ∷ []) }
+    ensures close { rows_of_record record_names record_settings (phase_record (codes "close") (codes "XYZ")) ≡ Some (row_of 0 StartClosing ∷ []) }
+    ensures uncross { rows_of_record record_names record_settings (phase_record (codes "uncross") (codes "XYZ")) ≡ Some (row_of 0 Uncross ∷ []) }
+    ensures end { rows_of_record record_names record_settings (phase_record (codes "end") (codes "ABC")) ≡ Some (row_of 2 EndDay ∷ []) }
+    ensures nowhere { rows_of_record record_names record_settings (phase_record (codes "end") (codes "")) ≡ None }
+    ensures word { rows_of_record record_names record_settings (phase_record (codes "begin") (codes "*")) ≡ None }
+{}
+
+/// The first record is the header, and each other one has as many fields; a fault has the number of its record.
+pub fn numbers_of_records()
+    ensures header { with_record record_names record_settings 1 [] every_title ≡ Ok [] }
+    ensures no_header { with_record record_names record_settings 1 [] (phase_record (codes "open") (codes "*")) ≡ Err (record { line = 1; cause = BadHeader }) }
+    ensures more { with_record record_names record_settings 2 (row_of 0 Uncross ∷ []) (phase_record (codes "close") (codes "XYZ")) ≡ Ok (row_of 0 Uncross ∷ row_of 0 StartClosing ∷ []) }
+    ensures short { with_record record_names record_settings 3 [] (codes "open" ∷ []) ≡ Err (record { line = 3; cause = Syntax }) }
+    ensures bad { with_record record_names record_settings 4 [] (phase_record (codes "begin") (codes "*")) ≡ Err (record { line = 4; cause = BadField }) }
+{}
+
+/// Rounds of members' rows and the phase rows after them, and what each of two workers works of them.
+pub fn rounds_and_shares()
+    ensures rounds { rounds_of round_rows ≡ record { first = 0; phase = 0; end = 1 } ∷ record { first = 1; phase = 3; end = 5 } ∷ record { first = 5; phase = 6; end = 6 } ∷ [] }
+    ensures even { share_of 0 2 round_rows ≡ row_of 1 (Cancel 2 1) ∷ [] }
+    ensures odd { share_of 1 2 round_rows ≡ row_of 0 (Cancel 1 1) ∷ row_of 0 (CancelAll 1) ∷ [] }
+{}
