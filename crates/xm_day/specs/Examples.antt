@@ -7,11 +7,17 @@ use Rattle.xm_rules.specs.declared.commands.Command.TheVariants.{Cancel, EndDay,
 use Rattle.xm_rules.specs.declared.commands.Condition.TheVariants.{Plain}
 use Rattle.xm_rules.specs.declared.commands.Kind.TheVariants as kind
 use Rattle.xm_rules.specs.declared.orders.OrderKind.TheVariants.{Limit}
-use Rattle.xm_rules.specs.declared.orders.Restriction.TheVariants.{Free}
+use Rattle.xm_rules.specs.declared.orders.Restriction.{Restriction}
+use Rattle.xm_rules.specs.declared.orders.Restriction.TheVariants.{Free, OpeningOnly, AuctionsOnly, ClosingOnly}
 use Rattle.xm_rules.specs.declared.orders.Side.TheVariants.{Buy, Sell}
+use Rattle.xm_rules.specs.declared.orders.TradeKind.{TradeKind}
 use Rattle.xm_rules.specs.declared.orders.TradeKind.TheVariants as made
-use Rattle.xm_rules.specs.declared.orders.Validity.TheVariants.{TillCancelled}
-use Rattle.xm_rules.specs.declared.phases.Phase.TheVariants.{Ended}
+use Rattle.xm_rules.specs.declared.orders.Validity.{Validity}
+use Rattle.xm_rules.specs.declared.orders.Validity.TheVariants.{Day, TillDate, TillCancelled}
+use Rattle.xm_rules.specs.declared.phases.Auction.TheVariants as auction
+use Rattle.xm_rules.specs.declared.phases.CallStage.TheVariants.{Ordinary, Interrupted, Extended}
+use Rattle.xm_rules.specs.declared.phases.Phase.{Phase}
+use Rattle.xm_rules.specs.declared.phases.Phase.TheVariants.{PreTrading, Call, Continuous, PostTrading, Ended}
 use Rattle.xm_day.specs.Day.{settings_of}
 use Rattle.xm_files.specs.Names.{NameLists}
 use Rattle.xm_segment.specs.declared.config.SecurityConfig.{SecurityConfig}
@@ -59,3 +65,64 @@ cascade_text =
     ++ codes "TRADE 5 continuous 9.8500 25 AAA 3 BBB 1\n" ++ codes "TRADE 6 continuous 9.8500 5 AAA 3 BBB 2\n"
     ++ codes "ORDER BBB 2 sell 9.8500 5 gtc free\n" ++ codes "NET AAA 60 -593.5000\n" ++ codes "NET BBB -60 593.5000\n"
     ++ codes "TOTAL 60 593.5000\n" ++ codes "MEMBER AAA -593.5000\n" ++ codes "MEMBER BBB 593.5000\n" ++ codes "ROWS 11 1\n"
+
+-- all phases, and their words
+abbrev pub every_phase : List Phase
+every_phase =
+    PreTrading ∷
+    Call auction.Opening Ordinary ∷ Call auction.Opening Interrupted ∷ Call auction.Opening Extended ∷
+    Call auction.Intraday Ordinary ∷ Call auction.Intraday Interrupted ∷ Call auction.Intraday Extended ∷
+    Call auction.Closing Ordinary ∷ Call auction.Closing Interrupted ∷ Call auction.Closing Extended ∷
+    Call auction.Interruption Ordinary ∷ Call auction.Interruption Interrupted ∷ Call auction.Interruption Extended ∷
+    Continuous ∷ PostTrading ∷ Ended ∷ []
+
+abbrev pub every_phase_word : List (List ℕ)
+every_phase_word =
+    codes "pre-trading" ∷
+    codes "opening-call" ∷ codes "opening-interrupted" ∷ codes "opening-extended" ∷
+    codes "intraday-call" ∷ codes "intraday-interrupted" ∷ codes "intraday-extended" ∷
+    codes "closing-call" ∷ codes "closing-interrupted" ∷ codes "closing-extended" ∷
+    codes "interruption-call" ∷ codes "interruption-interrupted" ∷ codes "interruption-extended" ∷
+    codes "continuous" ∷ codes "post-trading" ∷ codes "ended" ∷ []
+
+-- all kinds of trades, and their words
+abbrev pub every_trade_kind : List TradeKind
+every_trade_kind =
+    made.Continuous ∷
+    made.Auction auction.Opening Ordinary ∷ made.Auction auction.Opening Interrupted ∷ made.Auction auction.Opening Extended ∷
+    made.Auction auction.Intraday Ordinary ∷ made.Auction auction.Intraday Interrupted ∷ made.Auction auction.Intraday Extended ∷
+    made.Auction auction.Closing Ordinary ∷ made.Auction auction.Closing Interrupted ∷ made.Auction auction.Closing Extended ∷
+    made.Auction auction.Interruption Ordinary ∷ made.Auction auction.Interruption Interrupted ∷ made.Auction auction.Interruption Extended ∷ []
+
+abbrev pub every_trade_word : List (List ℕ)
+every_trade_word =
+    codes "continuous" ∷
+    codes "opening-call" ∷ codes "opening-interrupted" ∷ codes "opening-extended" ∷
+    codes "intraday-call" ∷ codes "intraday-interrupted" ∷ codes "intraday-extended" ∷
+    codes "closing-call" ∷ codes "closing-interrupted" ∷ codes "closing-extended" ∷
+    codes "interruption-call" ∷ codes "interruption-interrupted" ∷ codes "interruption-extended" ∷ []
+
+-- all restrictions, and their words
+abbrev pub every_restriction : List Restriction
+every_restriction = Free ∷ OpeningOnly ∷ AuctionsOnly ∷ ClosingOnly ∷ []
+
+abbrev pub every_restriction_word : List (List ℕ)
+every_restriction_word = codes "free" ∷ codes "opening" ∷ codes "auctions" ∷ codes "closing" ∷ []
+
+-- validities with dates of one, seven, eight and nine digits, and their texts
+abbrev pub every_validity : List Validity
+every_validity = Day ∷ TillDate 0 ∷ TillDate 9991231 ∷ TillDate 20260131 ∷ TillDate 123456789 ∷ TillCancelled ∷ []
+
+abbrev pub every_validity_text : List (List ℕ)
+every_validity_text = codes "day" ∷ codes "00000000" ∷ codes "09991231" ∷ codes "20260131" ∷ codes "123456789" ∷ codes "gtc" ∷ []
+
+-- a second security, of ticks of a ten-thousandth, in which the first member sold ten units for ten ticks each
+abbrev pub penny_state : State
+penny_state = record cascade_state {
+  settings = record cascade_state.settings { tick = 1 };
+  trades = trade made.Continuous 1 10 10 (1, 1) (0, 1) ∷ [];
+}
+
+-- the begin of the opening call of a security
+abbrev pub open_row : ℕ → Row
+open_row security = record { security = security; command = StartOpening }

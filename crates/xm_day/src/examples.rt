@@ -1,10 +1,10 @@
 //! What the definitions give on worked examples. Each function promises one by its contract.
 #![tactic(auto, unfolding(xm_rules::specs::Refusals::refusal_of, xm_rules::specs::Step::step))]
 
-ghost use Rattle.std.specs.Prelude.{◌≡◌, codes, pos, [], ◌∷◌};
-ghost use Rattle.xm_day.specs.Day.{day};
-ghost use Rattle.xm_day.specs.Examples.{cascade_rows, cascade_state, cascade_text, example_config, example_names};
-ghost use Rattle.xm_day.specs.Statement.{statement, stop_line};
+ghost use Rattle.std.specs.Prelude.{◌≡◌, codes, map, negsuc, pos, [], ◌∷◌};
+ghost use Rattle.xm_day.specs.Day.{day, opening_day};
+ghost use Rattle.xm_day.specs.Examples.{cascade_rows, cascade_state, cascade_text, every_phase, every_phase_word, every_restriction, every_restriction_word, every_trade_kind, every_trade_word, every_validity, every_validity_text, example_config, example_names, open_row, penny_state};
+ghost use Rattle.xm_day.specs.Statement.{day_line, limit_text, member_line, phase_word, restriction_word, side_word, statement, stop_line, total_cash, trade_word, validity_text};
 ghost use Rattle.xm_rules.specs.Examples.{stop};
 ghost use Rattle.xm_rules.specs.declared.orders.OrderKind.TheVariants.{Limit, Market};
 ghost use Rattle.xm_rules.specs.declared.orders.Side.TheVariants.{Buy, Sell};
@@ -23,4 +23,33 @@ pub fn cascade_statement()
 pub fn stop_lines()
     ensures limited { stop_line example_names 100 (stop 1 2 Sell 990 (Limit 985) 10) ≡ codes "STOP BBB 2 sell 9.9000 9.8500 10 day\n" }
     ensures market { stop_line example_names 1 (stop 0 7 Buy 12345 Market 3) ≡ codes "STOP AAA 7 buy 1.2345 market 3 day\n" }
+{}
+
+/// The words of all phases, of all kinds of trades, of all restrictions, and of both sides.
+pub fn words()
+    ensures phases { map phase_word every_phase ≡ every_phase_word }
+    ensures trades { map trade_word every_trade_kind ≡ every_trade_word }
+    ensures restrictions { map restriction_word every_restriction ≡ every_restriction_word }
+    ensures sides { map side_word (Buy ∷ Sell ∷ []) ≡ codes "buy" ∷ codes "sell" ∷ [] }
+{}
+
+/// The texts of validities and of both kinds of orders. A date has eight digits at least.
+pub fn texts()
+    ensures validities { map validity_text every_validity ≡ every_validity_text }
+    ensures kinds { map (limit_text 50) (Market ∷ Limit 201 ∷ []) ≡ codes "market" ∷ codes "1.0050" ∷ [] }
+    ensures day { day_line 9991231 ≡ codes "DAY 09991231\n" }
+{}
+
+/// What members received less what they paid in two securities, whose ticks differ.
+pub fn cash_of_two_securities()
+    ensures buyer { total_cash (cascade_state ∷ penny_state ∷ []) 0 ≡ negsuc 5934899 }
+    ensures seller { total_cash (cascade_state ∷ penny_state ∷ []) 1 ≡ pos 5934900 }
+    ensures line { member_line example_names (cascade_state ∷ penny_state ∷ []) 0 ≡ codes "MEMBER AAA -593.4900\n" }
+{}
+
+/// A row of an unknown security, before one that is accepted: it is counted as refused, and changes nothing.
+pub fn unknown_security()
+    ensures counted { (day example_config (open_row 1 ∷ open_row 0 ∷ [])).refused ≡ 1 }
+    ensures further { (day example_config (open_row 1 ∷ open_row 0 ∷ [])).accepted ≡ 1 }
+    ensures alone { day example_config (open_row 7 ∷ []) ≡ record (opening_day example_config) { refused = 1 } }
 {}
