@@ -2,7 +2,6 @@
 use Rattle.std.specs.Prelude.{◌≡◌, ℕ, ◌+◌, ◌||◌, not, if◌then◌else◌, nat_lt, List, [], ◌∷◌, ◌++◌, length, map, slice_get, slice_set, Option, Some, None}
 use Rattle.std.specs.List.{list_all}
 use Rattle.xm_desk.specs.Opening.{are_widths}
-use Rattle.xm_desk.specs.declared.opening.TheConstants.{MAX_MEMBERS}
 use Rattle.xm_desk.specs.declared.opening.OpenFault.{OpenFault}
 use Rattle.xm_desk.specs.declared.opening.OpenFault.TheVariants.{NoSecurity, TooMany, BadWidths}
 use Rattle.xm_rules.specs.Refusals.{refusal_of}
@@ -10,7 +9,6 @@ use Rattle.xm_rules.specs.State.{State, opening}
 use Rattle.xm_rules.specs.Step.{Journal, replay, step}
 use Rattle.xm_rules.specs.declared.replies.Refusal.{Refusal}
 use Rattle.xm_rules.specs.declared.settings.DeskSettings.{DeskSettings}
-use Rattle.xm_day.specs.declared.desks.TheConstants.{MAX_SECURITIES}
 use Rattle.xm_segment.specs.declared.config.SecurityConfig.{SecurityConfig}
 use Rattle.xm_segment.specs.declared.config.SegmentConfig.{SegmentConfig}
 use Rattle.xm_segment.specs.declared.rows.Row.{Row}
@@ -72,9 +70,16 @@ journal_of config security = record { settings = settings_of config security; co
 abbrev pub day_of : List Journal → ℕ → ℕ → Day
 day_of desks accepted refused = record { states = map replay desks; accepted = accepted; refused = refused }
 
--- what is wrong with a segment, if anything is: it has no security; more than 8, or more than 1,000 members; the widths of one
+-- the most securities and the most members of a segment
+abbrev pub max_securities : ℕ
+max_securities = 8
+
+abbrev pub max_members : ℕ
+max_members = 1000
+
+-- what is wrong with a segment, if anything is: it has no security; too many, or too many members; the widths of one
 abbrev pub segment_fault : SegmentConfig → Option OpenFault
 segment_fault config =
     if not (nat_lt 0 (length config.securities)) then Some NoSecurity
-    else (if nat_lt MAX_SECURITIES (length config.securities) || nat_lt MAX_MEMBERS config.members then Some TooMany
+    else (if nat_lt max_securities (length config.securities) || nat_lt max_members config.members then Some TooMany
     else (if list_all (λ (security : SecurityConfig). are_widths security.widths) config.securities then None else Some BadWidths))

@@ -1,5 +1,5 @@
 -- The worked example of a day: three buys below one another, two stops, and a sell that reaches both.
-use Rattle.std.specs.Prelude.{codes, ℕ, List, [], ◌∷◌, ◌++◌, map}
+use Rattle.std.specs.Prelude.{codes, ℕ, List, [], ◌∷◌, ◌++◌, map, replicate}
 use Rattle.xm_rules.specs.Examples.{enter, order, trade}
 use Rattle.xm_rules.specs.State.{State}
 use Rattle.xm_rules.specs.declared.commands.Command.{Command}
@@ -126,3 +126,11 @@ penny_state = record cascade_state {
 -- the begin of the opening call of a security
 abbrev pub open_row : ℕ → Row
 open_row security = record { security = security; command = StartOpening }
+
+-- a segment of so many securities and so many members
+abbrev pub sized_config : ℕ → ℕ → SegmentConfig
+sized_config securities members = record { today = 20260105; members = members; securities = replicate securities example_security }
+
+-- a security whose dynamic width is its wide one
+abbrev pub broad_security : SecurityConfig
+broad_security = record example_security { widths = record { dynamic = 40; statics = 50; wide = 40 } }

@@ -1,10 +1,11 @@
 //! What the definitions give on worked examples. Each function promises one by its contract.
 #![tactic(auto, unfolding(xm_rules::specs::Refusals::refusal_of, xm_rules::specs::Step::step))]
 
-ghost use Rattle.std.specs.Prelude.{◌≡◌, codes, map, negsuc, pos, [], ◌∷◌};
-ghost use Rattle.xm_day.specs.Day.{day, opening_day};
-ghost use Rattle.xm_day.specs.Examples.{cascade_rows, cascade_state, cascade_text, every_phase, every_phase_word, every_restriction, every_restriction_word, every_trade_kind, every_trade_word, every_validity, every_validity_text, example_config, example_names, open_row, penny_state};
+ghost use Rattle.std.specs.Prelude.{◌≡◌, codes, map, negsuc, pos, None, Some, [], ◌∷◌};
+ghost use Rattle.xm_day.specs.Day.{day, opening_day, segment_fault};
+ghost use Rattle.xm_day.specs.Examples.{broad_security, cascade_rows, cascade_state, cascade_text, every_phase, every_phase_word, every_restriction, every_restriction_word, every_trade_kind, every_trade_word, every_validity, every_validity_text, example_config, example_names, open_row, penny_state, sized_config};
 ghost use Rattle.xm_day.specs.Statement.{day_line, limit_text, member_line, phase_word, restriction_word, side_word, statement, stop_line, total_cash, trade_word, validity_text};
+ghost use Rattle.xm_desk.specs.declared.opening.OpenFault.TheVariants.{BadWidths, NoSecurity, TooMany};
 ghost use Rattle.xm_rules.specs.Examples.{stop};
 ghost use Rattle.xm_rules.specs.declared.orders.OrderKind.TheVariants.{Limit, Market};
 ghost use Rattle.xm_rules.specs.declared.orders.Side.TheVariants.{Buy, Sell};
@@ -52,4 +53,15 @@ pub fn unknown_security()
     ensures counted { (day example_config (open_row 1 ∷ open_row 0 ∷ [])).refused ≡ 1 }
     ensures further { (day example_config (open_row 1 ∷ open_row 0 ∷ [])).accepted ≡ 1 }
     ensures alone { day example_config (open_row 7 ∷ []) ≡ record (opening_day example_config) { refused = 1 } }
+{}
+
+/// A segment has one to eight securities and up to a thousand members. The first limit that it doesn't keep is told.
+pub fn limits_of_a_segment()
+    ensures most { segment_fault (sized_config 8 1000) ≡ None }
+    ensures fewest { segment_fault (sized_config 1 0) ≡ None }
+    ensures no_security { segment_fault (sized_config 0 1001) ≡ Some NoSecurity }
+    ensures nine_securities { segment_fault (sized_config 9 1000) ≡ Some TooMany }
+    ensures more_members { segment_fault (sized_config 8 1001) ≡ Some TooMany }
+    ensures widths { segment_fault (record example_config { securities = broad_security ∷ [] }) ≡ Some BadWidths }
+    ensures too_many_before_widths { segment_fault (record example_config { members = 1001; securities = broad_security ∷ [] }) ≡ Some TooMany }
 {}
