@@ -38,7 +38,7 @@ module _ {I : Type 0} where
 
   -- ---- the keys below a limit
   module _ (leaves : Listed I → Bool) where
-    -- of the keys below a limit, those that are left are of stops that stay
+    -- of the keys below a limit, those that are left are of entries that stay
     abbrev pub is_done : ℕ → Listed I → Bool
     is_done limit x = not (is_below limit x) || stays leaves x
 
@@ -64,7 +64,7 @@ module _ {I : Type 0} where
         (done-more key x parts.0 (there x (Contains-here x xs)))
         (all-more key xs parts.1 (λ y c. there y (Contains-there x xs y c)))
 
-    -- once the stop of a key has left, its key is done
+    -- once the entry of a key has left, its key is done
     pub left-more : (key : ℕ) (xs : List (Listed I)) → list_all (is_done key) xs ≡ true → list_all (is_done (key + 1)) (filter (is_other_key key) xs) ≡ true
     left-more key xs h = all-more key (filter (is_other_key key) xs) (all-kept (is_done key) (is_other_key key) xs h) (λ x left same. absurd (not-there x left same))
       where

@@ -27,7 +27,7 @@ module _ {I : Type 0} where
       left_if true h = h
       left_if false h = ap (λ (ks : List ℕ). x.key ∷ ks) h
 
-  -- where no stop has the key, all stay
+  -- where no entry has the key, all stay
   pub all-stay : (key : ℕ) (xs : List (Listed I)) → (Contains (keys_in xs) key → ⊥) → filter (is_other_key key) xs ≡ xs
   all-stay key [] h = refl
   all-stay key (x ∷ xs) h =
@@ -51,7 +51,7 @@ module _ {I : Type 0} where
       left_if true h = h
       left_if false h = (still, h)
 
-  -- one stop leaves
+  -- one entry leaves
   pub one-less : (x : Listed I) (xs : List (Listed I)) → AreDistinct (keys_in xs) → Contains xs x → length (filter (is_other_key x.key) xs) + 1 ≡ length xs
   one-less x [] d at = absurd (Contains-none x at)
   one-less x (y ∷ ys) d at = less_by (λ c. one-less x ys d.1 c) (Contains-cases y ys x at)
@@ -87,7 +87,7 @@ module _ {I : Type 0} where
       both false e true f h = (λ i. if e i then x ∷ filter p (filter q xs) else filter p (filter q xs)) ∙ h
       both false e false f h = h
 
-  -- ---- under a key and of a name is one stop alone
+  -- ---- under a key is one entry alone
   pub key-once : (xs : List (Listed I)) (x z : Listed I) → AreDistinct (keys_in xs) → Contains xs x → Contains xs z → z.key ≡ x.key → z ≡ x
   key-once [] x z d c e k = absurd (Contains-none x c)
   key-once (y ∷ xs) x z d c e k = by_place (key-once xs x z d.1) (Contains-cases y xs x c) (Contains-cases y xs z e)
@@ -114,7 +114,7 @@ module _ {I : Type 0} where
       kept_if true h = (still, h)
       kept_if false h = h
 
-  -- where a stop leaves, those that pass a test which it fails stay
+  -- where an entry leaves, those that pass a test which it fails stay
   pub others-pass : (p : Listed I → Bool) (xs : List (Listed I)) (x : Listed I) → AreDistinct (keys_in xs) → Contains xs x → p x ≡ false
       → filter p (filter (is_other_key x.key) xs) ≡ filter p xs
   others-pass p xs x d at fails =

@@ -41,7 +41,7 @@ module _ {X : Type 0} (n : X → ℕ) where
   up-head : (z : X) (zs : List X) (x : X) → IsNonDecreasingBy n (z ∷ zs) → Contains zs x → n z ≤ n x
   up-head z zs x up at = let within = at.1 in let first = up 0 (suc at.0) x (omega arith) (omega arith) in let here = ap n at.2 in omega arith
 
-  -- a list that rises stands in stop in each sorted list that has all of its elements
+  -- a list that rises stands in its order in each sorted list that has all of its elements
   record Covers (zs ts : List X) : Type 0 where
     shorter : length ts ≤ length zs
     same : length zs ≤ length ts → zs ≡ ts
