@@ -1,18 +1,16 @@
 -- The orders of a book at the end of a day.
-use Rattle.std.proofs.Common.{◌≡◌, ℕ, ◌+◌, Bool, true, false, ◌||◌, ◌==◌, not, List, [], ◌∷◌, length, map, filter, find, option_map, Contains, Option, Some, None, if◌then◌else◌, refl, sym, ap, ◌∙◌, arith}
+use Rattle.std.proofs.Common.{◌≡◌, ℕ, Bool, true, false, ◌==◌, not, List, length, map, filter, find, option_map, Contains, Option, Some, None, if◌then◌else◌, refl, sym, ap, ◌∙◌, arith}
 use Rattle.std.specs.List.{list_all}
-use Rattle.std.specs.Prelude.{nat_lt}
-use Rattle.std.proofs.lemmas.Bool.{and_from, and_parts, false≢true}
+use Rattle.std.proofs.lemmas.Bool.{false≢true}
 use Rattle.std.proofs.lemmas.Bool.Decides.{nat_tests}
-use Rattle.xm_slots.specs.Listing.{is_below}
-use Rattle.xm_book.specs.Expiry.{is_done, outlives}
+use Rattle.xm_book.specs.Expiry.{outlives}
 use Rattle.xm_slots.specs.Listing.{is_other_key, keys_in}
 use Rattle.xm_book.specs.Listing.{has_name, key_of, listed_order}
 use Rattle.xm_slots.specs.declared.listing.Listed.{Listed}
 use Rattle.xm_book.specs.Indexed.{IsIndexed}
 use Rattle.xm_book.specs.Queued.{QueuedView}
 use Rattle.xm_slots.proofs.Tests.{find-filter, length-kept, none-found}
-use Rattle.xm_slots.proofs.Members.{Contains-here, Contains-map, Contains-there, IsMade-map, Passes-filter, find-Some, list_any-false}
+use Rattle.xm_slots.proofs.Members.{Contains-map, IsMade-map, Passes-filter, find-Some, list_any-false}
 use Rattle.xm_book.specs.TimeList.{have_own_names}
 use Rattle.xm_rules.specs.Commands.{is_in_range, outlasts}
 use Rattle.xm_book.proofs.Named.{name-once, named-at, not-named, orders-kept, own_names-kept, rests-kept}
@@ -21,46 +19,6 @@ use Rattle.xm_rules.specs.Orders.{is_named}
 use Rattle.xm_rules.specs.declared.orders.Order.{Order}
 use Rattle.xm_queues.specs.Keys.{AreDistinct}
 use Rattle.xm_slots.proofs.Leaving.{others-pass}
-
--- ---- the keys below a limit
-done-more : (today key : ℕ) (x : Listed Order) → is_done today key x ≡ true → (x.key ≡ key → outlives today x ≡ true) → is_done today (key + 1) x ≡ true
-done-more today key x h valid = by_test (outlives today x) h valid
-  where
-    by_test : (b : Bool) → (not (nat_lt x.key key) || b) ≡ true → (x.key ≡ key → b ≡ true) → (not (nat_lt x.key (key + 1)) || b) ≡ true
-    by_test b h valid = grind (arith, nat_tests)
-
-pub all-more : (today key : ℕ) (xs : List (Listed Order)) → list_all (is_done today key) xs ≡ true → ((x : Listed Order) → Contains xs x → x.key ≡ key → outlives today x ≡ true)
-    → list_all (is_done today (key + 1)) xs ≡ true
-all-more today key [] h there = refl
-all-more today key (x ∷ xs) h there =
-    let parts = and_parts (is_done today key x) (list_all (is_done today key) xs) h in
-    and_from (is_done today (key + 1) x) (list_all (is_done today (key + 1)) xs)
-    (done-more today key x parts.0 (there x (Contains-here x xs)))
-    (all-more today key xs parts.1 (λ y c. there y (Contains-there x xs y c)))
-
-done-all : (today limit : ℕ) (x : Listed Order) → is_below limit x ≡ true → is_done today limit x ≡ true → outlives today x ≡ true
-done-all today limit x b h = by_test (nat_lt x.key limit) b h
-  where
-    by_test : (t : Bool) → t ≡ true → (not t || outlives today x) ≡ true → outlives today x ≡ true
-    by_test true e h = h
-    by_test false e h = absurd (cc)
-
--- at the end all that are left are valid beyond the day
-pub all-valid : (today limit : ℕ) (xs : List (Listed Order)) → list_all (is_below limit) xs ≡ true → list_all (is_done today limit) xs ≡ true → filter (outlives today) xs ≡ xs
-all-valid today limit [] b h = refl
-all-valid today limit (x ∷ xs) b h =
-    let below = and_parts (is_below limit x) (list_all (is_below limit) xs) b in
-    let done = and_parts (is_done today limit x) (list_all (is_done today limit) xs) h in
-    (λ i. if done-all today limit x below.0 done.0 i then x ∷ filter (outlives today) xs else filter (outlives today) xs)
-    ∙ ap (λ (ys : List (Listed Order)). x ∷ ys) (all-valid today limit xs below.1 done.1)
-
--- before the first key nothing is asked
-pub none-done : (today : ℕ) (xs : List (Listed Order)) → list_all (is_done today 0) xs ≡ true
-none-done today [] = refl
-none-done today (x ∷ xs) = and_from (is_done today 0 x) (list_all (is_done today 0) xs) (before (outlives today x)) (none-done today xs)
-  where
-    before : (b : Bool) → (not (nat_lt x.key 0) || b) ≡ true
-    before b = grind (arith, nat_tests)
 
 other-itself : (n key : ℕ) → n ≡ key → not (n == key) ≡ false
 other-itself n key e = grind (arith, nat_tests)

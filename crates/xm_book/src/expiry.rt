@@ -1,9 +1,10 @@
 //! The end of a day.
 ghost use Rattle.std.specs.Prelude.{◌≡◌, ◌+◌, ℕ, Bool, Contains, true, filter};
 ghost use Rattle.std.specs.List.{list_all};
-ghost use Rattle.xm_book.specs.Expiry.{is_done, outlives};
+ghost use Rattle.xm_book.specs.Expiry.{outlives};
 ghost use Rattle.xm_book.specs.Indexed.{IsIndexed};
 ghost use Rattle.xm_book.specs.Listing.{key_of};
+ghost use Rattle.xm_slots.specs.Listing.{is_done};
 ghost use Rattle.xm_slots.specs.declared.listing.Listed.{Listed};
 ghost use Rattle.xm_names.specs.Names.{lookup, room};
 ghost use Rattle.xm_rules.specs.declared.orders.Order.{Order};
@@ -53,7 +54,7 @@ fn drop_orders<A: Allocator + Copy>(queues: &mut OrderQueues<A>, today: u32)
 fn drop_if_expired<A: Allocator + Copy>(queues: &mut OrderQueues<A>, key: usize, today: u32)
     ensures rest { queues.new ≡ record queues.old { orders = queues.new.orders } }
     ensures valid { filter (outlives today) queues.new.orders ≡ filter (outlives today) queues.old.orders }
-    ensures done { list_all (is_done today key) queues.old.orders ≡ true → list_all (is_done today (key + 1)) queues.new.orders ≡ true }
+    ensures done { list_all (is_done (outlives today) key) queues.old.orders ≡ true → list_all (is_done (outlives today) (key + 1)) queues.new.orders ≡ true }
     ensures fewer { (p : Listed Order → Bool) → list_all p queues.old.orders ≡ true → list_all p queues.new.orders ≡ true }
 {
     let Some(entry) = queues.get(key) else {

@@ -1,5 +1,5 @@
 -- Entries in order of entry, with their keys and numbers.
-use Rattle.std.specs.Prelude.{◌≡◌, ℕ, ◌+◌, ◌==◌, Bool, ◌&&◌, if◌then◌else◌, not, nat_le, nat_lt, List, [], ◌∷◌, map, Some}
+use Rattle.std.specs.Prelude.{◌≡◌, ℕ, ◌+◌, ◌==◌, Bool, ◌&&◌, ◌||◌, if◌then◌else◌, not, nat_le, nat_lt, List, [], ◌∷◌, map, Some}
 use Rattle.xm_slots.specs.Slots.{SlotsView, get}
 use Rattle.xm_slots.specs.declared.entry.Entry.{Entry}
 use Rattle.xm_slots.specs.declared.listing.Listed.{Listed}
@@ -36,3 +36,7 @@ module _ {I : Type 0} where
   -- not one of those that leave
   abbrev pub stays : (Listed I → Bool) → Listed I → Bool
   stays leaves x = not (leaves x)
+
+  -- of the keys below a limit, those that are left are of entries that stay
+  abbrev pub is_done : (Listed I → Bool) → ℕ → Listed I → Bool
+  is_done stay limit x = not (is_below limit x) || stay x

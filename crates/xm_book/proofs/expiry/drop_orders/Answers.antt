@@ -1,7 +1,8 @@
 use Rattle.std.proofs.Common.{◌≡◌, ℕ, true, refl, sym, subst, ◌∙◌, arith}
 use Rattle.std.specs.List.{list_all}
-use Rattle.xm_book.specs.Expiry.{is_done}
-use Rattle.xm_book.proofs.Expiring.{all-valid, none-done}
+use Rattle.xm_book.specs.Expiry.{outlives}
+use Rattle.xm_slots.specs.Listing.{is_done}
+use Rattle.xm_slots.proofs.Expiring.{all-left, none-done}
 use Rattle.xm_book.proofs.expiry.drop_orders.Goals as goal
 
 pub loop-key-init : goal.loop-key-init
@@ -9,7 +10,7 @@ loop-key-init g c = record {
   rest = refl;
   valid = refl;
   below = c.key_limit-key-end.ensures;
-  done = none-done c.args.today c.args.queues.now.orders;
+  done = none-done (outlives c.args.today) c.args.queues.now.orders;
 }
 
 pub returns : goal.returns
@@ -17,5 +18,5 @@ returns g c =
     let at = c.loop-key in
     let limit = c.key_limit-key-end.result in
     let last : at.key ≡ limit = omega (arith, c.loop-key-test.false, at.auto.key-end) in
-    let done = subst (λ (n : ℕ). list_all (is_done c.args.today n) at.queues.orders ≡ true) last at.invariant.done in
-    at.invariant.rest ∙ (λ i. record c.args.queues.now { orders = (sym (all-valid c.args.today limit at.queues.orders at.invariant.below done) ∙ at.invariant.valid) i })
+    let done = subst (λ (n : ℕ). list_all (is_done (outlives c.args.today) n) at.queues.orders ≡ true) last at.invariant.done in
+    at.invariant.rest ∙ (λ i. record c.args.queues.now { orders = (sym (all-left (outlives c.args.today) limit at.queues.orders at.invariant.below done) ∙ at.invariant.valid) i })

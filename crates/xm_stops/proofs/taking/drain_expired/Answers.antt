@@ -4,7 +4,8 @@ use Rattle.xm_slots.specs.Listing.{is_below, is_other_key}
 use Rattle.xm_stops.specs.Reasons.{is_leaving}
 use Rattle.xm_stops.specs.declared.taking.Reason.TheVariants.{Expired}
 use Rattle.xm_stops.proofs.Draining.{drained-more, none-drained, some-room}
-use Rattle.xm_slots.proofs.Expiring.{all-kept, all-more, is_done, left-more, none-done, none-leaves}
+use Rattle.xm_slots.proofs.Expiring.{all-kept, all-more, left-more, none-done, none-leaves}
+use Rattle.xm_slots.specs.Listing.{is_done, stays}
 use Rattle.xm_stops.proofs.taking.drain_expired.Goals as goal
 use Rattle.xm_stops.proofs.taking.drain_expired.Goals.{then-has_expired, else-has_expired}
 
@@ -13,7 +14,7 @@ loop-key-init g c = record {
   indexed = c.requires.indexed;
   drained = none-drained (is_leaving (Expired c.args.today)) c.args.queues.now c.args.pending.now;
   below = c.key_limit-key-end.ensures;
-  done = none-done (is_leaving (Expired c.args.today)) c.args.queues.now.stops;
+  done = none-done (stays (is_leaving (Expired c.args.today))) c.args.queues.now.stops;
 }
 
 pub take_at-requires-clause-room : goal.take_at-requires-clause-room
@@ -35,14 +36,14 @@ loop-key-preserved g c =
             indexed = out.ensures.indexed;
             drained = drained-more leaves c.args.queues.now q out.new.queues c.args.pending.now c.loop-key.pending out.new.pending key at out.ensures.distinct out.ensures.left some out.ensures.pending kept.drained;
             below = rw out.ensures.left (all-kept (is_below c.key_limit-key-end.result) (is_other_key key) q.stops kept.below);
-            done = rw out.ensures.left (left-more leaves key q.stops kept.done);
+            done = rw out.ensures.left (left-more (stays leaves) key q.stops kept.done);
           }))
       | else-has_expired w ↦
           rw (w.queues-is, w.names-is, w.pending-is) (record {
             indexed = kept.indexed;
             drained = kept.drained;
             below = kept.below;
-            done = all-more leaves key q.stops kept.done (w.if-has_expired.ensures.valid refl);
+            done = all-more (stays leaves) key q.stops kept.done (w.if-has_expired.ensures.valid refl);
           })
     ]
 
@@ -52,4 +53,4 @@ returns-clause-all g c =
     let leaves = is_leaving (Expired c.args.today) in
     let limit = c.key_limit-key-end.result in
     let last : at.key ≡ limit = omega (arith, c.loop-key-test.false, at.auto.key-end) in
-    none-leaves leaves limit at.queues.stops at.invariant.below (subst (λ (n : ℕ). list_all (is_done leaves n) at.queues.stops ≡ true) last at.invariant.done)
+    none-leaves leaves limit at.queues.stops at.invariant.below (subst (λ (n : ℕ). list_all (is_done (stays leaves) n) at.queues.stops ≡ true) last at.invariant.done)

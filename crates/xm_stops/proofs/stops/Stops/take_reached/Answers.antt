@@ -1,7 +1,6 @@
-use Rattle.std.proofs.Common.{◌≡◌, List, not, filter, [], ap, ◌∙◌}
+use Rattle.std.proofs.Common.{◌≡◌, not, filter, [], ap, ◌∙◌}
 use Rattle.xm_rules.specs.Settling.{is_reached}
 use Rattle.xm_rules.specs.declared.orders.Stop.{Stop}
-use Rattle.xm_slots.specs.declared.listing.Listed.{Listed}
 use Rattle.xm_stops.specs.Queued.{has_reached}
 use Rattle.xm_stops.proofs.Draining.{held-all, pending-same, seen-pending}
 use Rattle.xm_stops.proofs.Indexing.{seen}
