@@ -10,8 +10,8 @@ ghost use Rattle.xm_rules.specs.Step.{is_lawful, replay, reply};
 ghost use Rattle.xm_rules.specs.Sums.{AreWithinLimits, bought, cash, net, sold, total_money, total_quantity};
 ghost use Rattle.xm_ticks.specs.declared.numbers.TheConstants.{MAX_QUANTITY};
 
-use crate::unsettled::market::Market;
 use crate::opening::{OpenFault, open_fault};
+use crate::unsettled::market::Market;
 use std::alloc::Allocator;
 use std::marker::Model;
 use xm_names::Seed;
