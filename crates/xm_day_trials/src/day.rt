@@ -3,7 +3,8 @@ mod growths;
 mod whole_day;
 
 use crate::files::fixtures::{
-    CASCADE, HEADER, NO_SECURITY, ORDERS, OneByteReader, SECOND, SEGMENT, ShortWriter, replaced,
+    CASCADE, ERROR_KINDS, HEADER, NO_SECURITY, ORDERS, OneByteReader, SEGMENT, ShortWriter,
+    replaced,
 };
 use std::alloc::{AllocError, Global};
 use std::io::{ErrorKind, Read};
@@ -158,21 +159,52 @@ const BAD_HEADER: DayFault = DayFault::Orders(FileFault {
     cause: FileCause::BadHeader,
 });
 
-/// A segment of nine securities.
-fn nine_securities(alloc: Global) -> Result<String, Fail> {
-    let mut segment = String::from_str(alloc, SEGMENT)?;
-    for name in ["A", "B", "C", "D", "E", "F", "G", "H"] {
-        let security = replaced(alloc, SECOND, "UVW", name)?;
-        segment.push_str("\n")?;
-        segment.push_str(security.as_str())?;
+const NINE_NAMES: [&str; 9] = ["A", "B", "C", "D", "E", "F", "G", "H", "I"];
+
+/// `SEGMENT` with a security like its own under each of these names.
+fn segment_of(alloc: Global, names: &[&str]) -> Result<String, Fail> {
+    let (top, security) = SEGMENT.split_once("[[security]]").ok_or("no security")?;
+    let mut segment = String::from_str(alloc, top)?;
+    for name in names {
+        let named = replaced(alloc, security, "XYZ", name)?;
+        segment.push_str("[[security]]")?;
+        segment.push_str(named.as_str())?;
     }
     Ok(segment)
+}
+
+/// The statement of the day of `segment_of` after the opening call of each security has begun.
+fn statement_of(alloc: Global, names: &[&str]) -> Result<String, Fail> {
+    let mut statement = String::from_str(alloc, "DAY 20260105\n")?;
+    for name in names {
+        let security = format!(in alloc;
+            "SECURITY {name} opening-call\nREFERENCES 10.0000 10.0000\nTOTAL 0 0.0000\n"
+        )?;
+        statement.push_str(security.as_str())?;
+    }
+    statement.push_str("MEMBER AAA 0.0000\nMEMBER BBB 0.0000\nROWS 8 0\n")?;
+    Ok(statement)
+}
+
+#[test]
+fn eight_securities_are_opened(rt: HostRuntime) -> Result<(), Fail> {
+    let eight = &NINE_NAMES[..8];
+    let segment = segment_of(rt.alloc(), eight)?;
+    let orders = format!(in rt.alloc(); "{HEADER}open,,,*,,,,,,,,\n")?;
+    let statement = statement_of(rt.alloc(), eight)?;
+    has_statement(
+        &rt,
+        &mut segment.as_bytes(),
+        &mut orders.as_bytes(),
+        (8, 0),
+        statement.as_str(),
+    )
 }
 
 #[test]
 fn faults_in_order(rt: HostRuntime) -> Result<(), Fail> {
     let alloc = rt.alloc();
-    let nine = nine_securities(alloc)?;
+    let nine = segment_of(alloc, &NINE_NAMES)?;
     let wide = replaced(alloc, SEGMENT, "dynamic = 20", "dynamic = 40")?;
     let damaged = replaced(alloc, SEGMENT, "tick = 100", "tick = 0")?;
     let faults = [
@@ -229,6 +261,15 @@ fn failing_writers(rt: HostRuntime) -> Result<(), Fail> {
     Ok(())
 }
 
+#[test]
+fn writers_that_fail_with_each_kind_of_error(rt: HostRuntime) {
+    let statement = CASCADE_STATEMENT.as_bytes();
+    for kind in ERROR_KINDS {
+        fails_after(&rt, CASCADE, &[], Some(kind));
+        fails_after(&rt, CASCADE, &statement[..100], Some(kind));
+    }
+}
+
 const READ_FAILED: FileFault = FileFault {
     line: 0,
     cause: FileCause::ReadFailed,
@@ -269,6 +310,22 @@ fn failing_readers_of_orders(rt: HostRuntime) {
                 &mut orders,
                 DayFault::Orders(READ_FAILED),
             );
+        }
+    }
+}
+
+#[test]
+fn readers_that_fail_with_each_kind_of_error(rt: HostRuntime) {
+    for kind in ERROR_KINDS {
+        for call in [0, 40] {
+            let mut failing = OneByteReader::new(SEGMENT, Some((call, kind)));
+            let mut orders = OneByteReader::new(ORDERS, None);
+            let fault = DayFault::Segment(READ_FAILED);
+            has_fault(&rt, &mut failing, &mut orders, fault);
+            let mut segment = OneByteReader::new(SEGMENT, None);
+            let mut failing = OneByteReader::new(ORDERS, Some((call, kind)));
+            let fault = DayFault::Orders(READ_FAILED);
+            has_fault(&rt, &mut segment, &mut failing, fault);
         }
     }
 }

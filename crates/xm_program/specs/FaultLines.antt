@@ -32,16 +32,19 @@ open_name opening.OutOfMemory = codes "OutOfMemory"
 
 -- a fault of a file: the file, the line and the cause
 abbrev pub file_line : List ℕ → FileFault → List ℕ
-file_line file fault =
-    codes "xetra-day: " ++ (file ++ (codes ": line " ++ (decimal fault.line ++ (codes ": " ++ cause_name fault.cause))))
+file_line file fault = file ++ codes ": line " ++ decimal fault.line ++ codes ": " ++ cause_name fault.cause
 
--- the line of a fault, without its line feed
+-- what is said of a fault
+abbrev pub fault_text : DayFault → List ℕ
+fault_text (day.Segment fault) = file_line (codes "segment") fault
+fault_text (day.Orders fault) = file_line (codes "orders") fault
+fault_text (day.Open fault) = codes "open: " ++ open_name fault
+fault_text day.OutOfMemory = codes "out of memory"
+fault_text day.WriteFailed = codes "write failed"
+
+-- the line of a fault, with its line feed
 abbrev pub fault_line : DayFault → List ℕ
-fault_line (day.Segment fault) = file_line (codes "segment") fault
-fault_line (day.Orders fault) = file_line (codes "orders") fault
-fault_line (day.Open fault) = codes "xetra-day: open: " ++ open_name fault
-fault_line day.OutOfMemory = codes "xetra-day: out of memory"
-fault_line day.WriteFailed = codes "xetra-day: write failed"
+fault_line fault = codes "xetra-day: " ++ fault_text fault ++ codes "\n"
 
 -- want of memory is told in one way, wherever it was met
 abbrev pub told_for : DayFault → FileCause → DayFault

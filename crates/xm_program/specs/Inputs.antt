@@ -1,7 +1,12 @@
 -- What reads of an input give.
-use Rattle.std.specs.Prelude.{ℕ, List, Option, None}
+use Rattle.std.specs.Prelude.{ℕ, List, Option, None, Result, Ok, Err}
 use Rattle.xm_program.specs.declared.inputs.Input.{Input}
 use Rattle.xm_program.specs.declared.inputs.Input.TheVariants.{Opened, Unopened}
+
+-- the file that a call opened, or none
+abbrev pub input_of : {F E : Type 0} → Result F E → Input F
+input_of (Ok file) = Opened file
+input_of (Err error) = Unopened
 
 module _ {F : Type 0} where
   -- the bytes that an input has left: its file's, and none that are known where there is no file

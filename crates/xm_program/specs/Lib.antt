@@ -1,4 +1,5 @@
 pub mod Days
+pub mod Ends
 pub mod FaultLines
 pub mod Inputs
 pub mod Requests

@@ -8,6 +8,8 @@ use Rattle.clap.specs.declared.builder.action.ArgAction.TheVariants.{Set}
 use Rattle.clap.specs.declared.error.Error.{Error}
 use Rattle.clap.specs.declared.error.kind.ErrorKind.{ErrorKind}
 use Rattle.clap.specs.declared.error.kind.ErrorKind.TheVariants as kind
+use Rattle.std_io.specs.declared.io.kind.ErrorKind.{ErrorKind as ReadKind}
+use Rattle.std_io.specs.declared.io.kind.ErrorKind.TheVariants as reading
 use Rattle.xm_day.specs.declared.faults.DayFault.TheVariants as day
 use Rattle.xm_program.specs.declared.requests.Request.{Request}
 use Rattle.xm_program.specs.declared.requests.Request.TheVariants.{Run, Help}
@@ -110,6 +112,11 @@ AnswersWords faults paths (Err (Words error)) = IsOfWords faults paths error
 abbrev pub RefusesBytes : Failure → Type 0
 RefusesBytes (Day fault) = fault ≡ day.OutOfMemory
 RefusesBytes (Words error) = kind_of error ≡ kind.ValueValidation
+
+-- why words were not read: one is not text, where that was the cause, or memory is wanting
+abbrev pub IsUnread : ReadKind → Failure → Type 0
+IsUnread cause (Day fault) = fault ≡ day.OutOfMemory
+IsUnread cause (Words error) = (cause ≡ reading.InvalidData) × (kind_of error ≡ kind.ValueValidation)
 
 -- the status that the program ends with after a failure: 1 where the day has no statement, 2 where the words were mistaken
 abbrev pub failure_status : Failure → ℕ

@@ -1,37 +1,53 @@
 //! The line that tells why a day has no statement.
-ghost use Rattle.std.specs.Prelude.{◌≡◌, Some};
-ghost use Rattle.xm_program.specs.FaultLines.{cause_name, fault_line, open_name, told};
+ghost use Rattle.std.specs.Prelude.{◌≡◌, ◌+◌, ◌≤◌, ◌++◌, length};
+ghost use Rattle.xm_program.specs.FaultLines.{cause_name, fault_line, file_line, open_name, told};
 
-use std::fmt;
+use arrayvec::ArrayVec;
+use itoa::Buffer;
 use xm_day::DayFault;
 use xm_desk::OpenFault;
 use xm_files::{FileCause, FileFault};
 
-/// A fault as the line that the program writes, without its line feed.
-#[derive(Clone, Copy, PartialEq, Eq, Debug)]
-pub struct FaultLine(pub DayFault);
-
-impl fmt::Display for FaultLine {
-    ghost output = { λ line. Some (fault_line line.0) };
-
-    fn fmt<W: fmt::Write>(&self, f: &mut fmt::Formatter<W>) -> fmt::Result {
-        match self.0 {
-            DayFault::Segment(FileFault { line, cause }) => {
-                let cause = cause_name(cause);
-                write!(f, "xetra-day: segment: line {line}: {cause}")
-            }
-            DayFault::Orders(FileFault { line, cause }) => {
-                let cause = cause_name(cause);
-                write!(f, "xetra-day: orders: line {line}: {cause}")
-            }
-            DayFault::Open(fault) => {
-                let fault = open_name(fault);
-                write!(f, "xetra-day: open: {fault}")
-            }
-            DayFault::OutOfMemory => write!(f, "xetra-day: out of memory"),
-            DayFault::WriteFailed => write!(f, "xetra-day: write failed"),
+/// The line by which the program tells of a fault. It fits 64 bytes, so that want of memory is told without any.
+pub fn fault_line(fault: DayFault) -> ArrayVec<u8, 64>
+    ensures { result.items ≡ fault_line fault }
+{
+    let mut line = ArrayVec::new();
+    push_text(&mut line, "xetra-day: ");
+    match fault {
+        DayFault::Segment(of_file) => push_file_fault(&mut line, "segment", of_file),
+        DayFault::Orders(of_file) => push_file_fault(&mut line, "orders", of_file),
+        DayFault::Open(fault) => {
+            push_text(&mut line, "open: ");
+            push_text(&mut line, open_name(fault));
         }
+        DayFault::OutOfMemory => push_text(&mut line, "out of memory"),
+        DayFault::WriteFailed => push_text(&mut line, "write failed"),
     }
+    line.push(b'\n');
+    line
+}
+
+/// A fault of a file, which has one of these short names.
+fn push_file_fault(line: &mut ArrayVec<u8, 64>, file: &str, fault: FileFault)
+    requires { length line.old.items + length file.now ≤ 18 }
+    ensures text { line.new.items ≡ line.old.items ++ file_line file.now fault }
+    ensures fits { length line.new.items ≤ 50 }
+{
+    let mut digits = Buffer::new();
+    push_text(line, file);
+    push_text(line, ": line ");
+    push_text(line, digits.format(fault.line));
+    push_text(line, ": ");
+    push_text(line, cause_name(fault.cause));
+}
+
+/// Adds a text for which there is room.
+fn push_text(line: &mut ArrayVec<u8, 64>, text: &str)
+    requires { length line.old.items + length text.now ≤ 64 }
+    ensures { line.new.items ≡ line.old.items ++ text.now }
+{
+    line.try_extend_from_slice(text.as_bytes()).unwrap();
 }
 
 /// A fault as the program tells it: want of memory in one way, wherever it was met.
@@ -49,7 +65,8 @@ pub fn told(fault: DayFault) -> DayFault
 }
 
 fn cause_name(cause: FileCause) -> &'static str
-    ensures { result.now ≡ cause_name cause }
+    ensures name { result.now ≡ cause_name cause }
+    ensures short { length result.now ≤ 13 }
 {
     match cause {
         FileCause::ReadFailed => "ReadFailed",
@@ -67,7 +84,8 @@ fn cause_name(cause: FileCause) -> &'static str
 }
 
 fn open_name(fault: OpenFault) -> &'static str
-    ensures { result.now ≡ open_name fault }
+    ensures name { result.now ≡ open_name fault }
+    ensures short { length result.now ≤ 13 }
 {
     match fault {
         OpenFault::NoSecurity => "NoSecurity",

@@ -1,11 +1,12 @@
 //! The files that a day is read from.
 ghost use Rattle.std.specs.Prelude.{◌≡◌, IsErr};
+ghost use Rattle.std.specs.Fn.{FnOnceReturnsAt};
 ghost use Rattle.std.specs.Io.{ReadsAtMost};
 ghost use Rattle.std.specs.Io.KnownBytes.{ReadConsumes};
+ghost use Rattle.xm_program.specs.Inputs.{input_of};
 
+use std::io;
 use std::io::Read;
-use std::rt::Files;
-use std::{fs, io};
 
 /// A file to be read, or one that could not be opened: each read of it fails.
 ///
@@ -16,9 +17,12 @@ pub enum Input<F> {
     Unopened,
 }
 
-/// Opens the file at a path.
-pub fn open_input<R: Files>(rt: &R, path: &str) -> Input<R::File> {
-    match fs::open(rt, path) {
+/// The file at a path, as it is opened.
+pub fn open_input<F, O: FnOnce(&str) -> io::Result<F>>(opens: O, path: &str) -> Input<F>
+    requires { O.IsAlwaysCallable opens }
+    ensures { (answer : _) × FnOnceReturnsAt O.FnOnce opens path.now answer × (result ≡ input_of answer) }
+{
+    match opens(path) {
         Ok(file) => Input::Opened(file),
         Err(_) => Input::Unopened,
     }

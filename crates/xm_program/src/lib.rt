@@ -1,12 +1,13 @@
 //! What the program `xetra-day` does with its command line: it runs a day of two files, or prints its help.
 #![tactic(auto)]
 
+mod complaints;
 mod fault_lines;
 mod inputs;
 mod program;
 mod requests;
 
-pub use crate::fault_lines::FaultLine;
+pub use crate::fault_lines::fault_line;
 pub use crate::inputs::{Input, open_input};
-pub use crate::program::{run, run_program};
+pub use crate::program::{run, run_program, run_words};
 pub use crate::requests::{Failure, Request, read_words};

@@ -1,10 +1,13 @@
 //! A call of the program, over any runtime.
-ghost use Rattle.std.specs.Prelude.{◌≡◌, ◌≢◌, ◌≤◌, IfErr};
+ghost use Rattle.std.specs.Prelude.{◌≡◌, ◌≢◌, ◌≤◌, ℕ, List, Option, Err, IfErr, map, string_bytes};
 ghost use Rattle.std.specs.Process.{exit_status};
+ghost use Rattle.clap.specs.Words.{fault_of};
 ghost use Rattle.xm_program.specs.Days.{RunEnds};
-ghost use Rattle.xm_program.specs.Requests.{IsTold, RefusesBytes, end_status};
+ghost use Rattle.xm_program.specs.Ends.{CallEnds, IsDone, IsToldAs};
+ghost use Rattle.xm_program.specs.Requests.{IsUnread, RefusesBytes, day_app, end_status, paths_of};
 
-use crate::fault_lines::{FaultLine, told};
+use crate::complaints::Complaints;
+use crate::fault_lines::{fault_line, told};
 use crate::inputs;
 use crate::requests::{self, Failure, Request};
 use clap::Error;
@@ -13,46 +16,73 @@ use std::io::{Read, Write};
 use std::process::ExitCode;
 use std::random::RandomSource;
 use std::rt::{Env, Files};
-use std::{env, io};
+use std::{env, fs, io};
 use xm_day::DayFault;
 use xm_names::Seed;
+use xm_ticks::write_whole;
 
 /// Does what the command line asks for, tells on standard error where it can't, and gives the status to end with.
 pub fn run_program<R: Env + AllocGlobal + Files + Print + Eprint + RandomSource>(rt: &R) -> ExitCode
     ensures { exit_status result ≤ 2 }
 {
-    let ended = answer(rt);
-    tell(rt, ended)
+    let mut complaints = Complaints { rt };
+    match read_command_line(rt) {
+        Ok(words) => run_words(rt, words.as_slice(), &mut io::writer(rt), &mut complaints),
+        Err(failure) => tell(&mut complaints, Err(failure)),
+    }
 }
 
-/// Does what the command line asks for. Words that ask for help are never a mistake.
-fn answer<R: Env + AllocGlobal + Files + Print + RandomSource>(rt: &R) -> Result<(), Failure>
-    ensures { IfErr result IsTold }
+/// Does what these words ask for, of which the first is the program's name, tells on the second stream where it can't, and
+/// gives the status to end with.
+pub fn run_words<R: AllocGlobal + Files + RandomSource, W: Write, E: Write>(
+    rt: &R,
+    words: &[String],
+    out: &mut W,
+    complaints: &mut E,
+) -> ExitCode
+    ensures { CallEnds (fault_of day_app (map string_bytes words.now)) (paths_of (map string_bytes words.now)) (W.contents out.old) (W.contents out.new)
+        (E.contents complaints.old) (E.contents complaints.new) (exit_status result) }
 {
-    let words = read_command_line(rt)?;
-    match requests::read_words(rt.alloc(), words.as_slice())? {
-        Request::Run { segment, orders } => {
-            let mut segment = inputs::open_input(rt, segment);
-            let mut orders = inputs::open_input(rt, orders);
-            let seed = Seed::drawn(rt);
-            run(
-                rt.alloc(),
-                seed,
-                &mut segment,
-                &mut orders,
-                &mut io::writer(rt),
-            )?;
-        }
-        Request::Help(text) => print_help(rt, text)?,
+    let ended = answer(rt, words, out);
+    tell(complaints, ended)
+}
+
+/// Does what these words ask for. Words that ask for help are never a mistake.
+fn answer<R: AllocGlobal + Files + RandomSource, W: Write>(
+    rt: &R,
+    words: &[String],
+    out: &mut W,
+) -> Result<(), Failure>
+    ensures { IsDone (fault_of day_app (map string_bytes words.now)) (paths_of (map string_bytes words.now)) (W.contents out.old) (W.contents out.new) result }
+{
+    match requests::read_words(rt.alloc(), words)? {
+        Request::Run { segment, orders } => Ok(run_files(rt, segment, orders, out)?),
+        Request::Help(text) => Ok(print_help(text, out)?),
     }
-    Ok(())
+}
+
+/// Writes the statement of the day in the files at two paths.
+fn run_files<R: AllocGlobal + Files + RandomSource, W: Write>(
+    rt: &R,
+    segment: &str,
+    orders: &str,
+    out: &mut W,
+) -> Result<(), DayFault>
+    ensures ends { (segment orders : Option (List ℕ)) × RunEnds segment orders (W.contents out.old) (W.contents out.new) result }
+    ensures untouched { IfErr result (λ fault. fault ≢ DayFault.WriteFailed → out.new ≡ out.old) }
+{
+    let mut segment = inputs::open_input(|path| fs::open(rt, path), segment);
+    let mut orders = inputs::open_input(|path| fs::open(rt, path), orders);
+    let seed = Seed::drawn(rt);
+    run(rt.alloc(), seed, &mut segment, &mut orders, out)
 }
 
 /// Prints a help text, or the version.
-fn print_help<R: Print>(rt: &R, text: Error) -> Result<(), DayFault>
+fn print_help<W: Write>(text: Error, out: &mut W) -> Result<(), DayFault>
     ensures { IfErr result (λ fault. fault ≡ DayFault.WriteFailed) }
 {
-    rt.print(text).map_err(|_| DayFault::WriteFailed)
+    write!(out, "{text}").map_err(|_| DayFault::WriteFailed)?;
+    out.flush().map_err(|_| DayFault::WriteFailed)
 }
 
 /// The words of the command line, of which the first is the program's name.
@@ -61,10 +91,20 @@ fn read_command_line<R: Env + AllocGlobal>(rt: &R) -> Result<Vec<String>, Failur
 {
     match env::args(rt) {
         Ok(words) => Ok(words.collect(rt.alloc())?),
-        Err(error) if error.kind() == io::ErrorKind::InvalidData => {
-            Err(Failure::Words(requests::bytes_error(rt.alloc())?))
-        }
-        Err(_) => Err(Failure::Day(DayFault::OutOfMemory)),
+        Err(error) => Err(unread_words(rt.alloc(), error.kind())),
+    }
+}
+
+/// Why the words of the command line weren't read: one isn't text, or memory is wanting.
+fn unread_words(alloc: Global, cause: io::ErrorKind) -> Failure
+    ensures { IsUnread cause result }
+{
+    if cause != io::ErrorKind::InvalidData {
+        return Failure::Day(DayFault::OutOfMemory);
+    }
+    match requests::bytes_error(alloc) {
+        Ok(error) => Failure::Words(error),
+        Err(error) => Failure::from(error),
     }
 }
 
@@ -85,19 +125,31 @@ pub fn run<S: Read, O: Read, W: Write>(
     }
 }
 
-/// Tells on standard error why the program ends without what it was asked for, and gives the status to end with.
+/// Tells on a stream why the program ends without what it was asked for, and gives the status to end with.
 ///
 /// Where that can't be written, the status tells alone.
-fn tell<R: Eprint>(rt: &R, ended: Result<(), Failure>) -> ExitCode
-    ensures { exit_status result ≡ end_status ended }
+fn tell<E: Write>(complaints: &mut E, ended: Result<(), Failure>) -> ExitCode
+    ensures status { exit_status result ≡ end_status ended }
+    ensures told { IsToldAs (E.contents complaints.old) (E.contents complaints.new) ended }
 {
     let Err(failure) = ended else {
         return ExitCode::SUCCESS;
     };
     let status = failure.status();
-    let _ = match failure {
-        Failure::Day(fault) => rt.eprintln(FaultLine(fault)),
-        Failure::Words(text) => rt.eprint(text),
-    };
+    complain(complaints, failure);
     ExitCode::from(status)
+}
+
+/// Writes the line of a fault, or what is mistaken in the words.
+fn complain<E: Write>(complaints: &mut E, failure: Failure)
+    ensures { IsToldAs (E.contents complaints.old) (E.contents complaints.new) (Err failure) }
+{
+    match failure {
+        Failure::Day(fault) => {
+            let _ = write_whole(complaints, fault_line(fault).as_slice());
+        }
+        Failure::Words(text) => {
+            let _ = write!(complaints, "{text}");
+        }
+    }
 }

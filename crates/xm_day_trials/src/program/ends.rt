@@ -18,21 +18,36 @@ ROWS 0 0
 const BAD_ROW: &[u8] =
     b"command,member,reference,security,side,kind,limit,trigger,quantity,validity,restriction,condition\nwalk,,,,,,,,,,,\n";
 
+/// A segment whose dynamic width is its wide one.
+const BAD_WIDTHS: &[u8] = b"date = 20260105
+members = [\"AAA\", \"BBB\"]
+
+[[security]]
+name = \"XYZ\"
+tick = 100
+reference = \"10.00\"
+dynamic = 40
+static = 50
+wide = 40
+journal = 100
+";
+
 const FILES: &[(&str, &[u8])] = &[
     ("day.toml", DAY),
     ("day.csv", NO_ORDERS),
     ("bad.csv", BAD_ROW),
+    ("wide.toml", BAD_WIDTHS),
+    (" spaced.toml\t", DAY),
+    ("\n spaced.csv ", NO_ORDERS),
 ];
-
-const VERSION: &str = "xetra-day 0.1.0\n";
 
 /// What a call prints on a stream.
 #[derive(Clone, Copy)]
-enum Printed {
+pub enum Printed {
     Nothing,
     Text(&'static str),
-    /// A text that begins so.
-    From(&'static str),
+    /// A text that begins and ends so, and has its beginning once.
+    Between(&'static str, &'static str),
 }
 
 impl Printed {
@@ -40,15 +55,20 @@ impl Printed {
         match self {
             Printed::Nothing => text.is_empty(),
             Printed::Text(whole) => text == whole,
-            Printed::From(start) => text.starts_with(start),
+            Printed::Between(start, end) => match text.split_once(start) {
+                Some((before, rest)) => {
+                    before.is_empty() && !rest.contains(start) && rest.ends_with(end)
+                }
+                None => false,
+            },
         }
     }
 }
 
 /// A command line with its status and what is then on standard output and on standard error.
-type End = (&'static [&'static [u8]], u8, Printed, Printed);
+pub type End = (&'static [&'static [u8]], u8, Printed, Printed);
 
-fn end_as(rt: &(impl Abort + AllocGlobal), output: Stream, ends: &[End]) -> Result<(), Fail> {
+pub fn end_as(rt: &(impl Abort + AllocGlobal), output: Stream, ends: &[End]) -> Result<(), Fail> {
     for (words, status, printed, complained) in ends {
         let call = Call::new(rt.alloc(), words, FILES, output);
         assert_eq!(rt; run_program(&call), ExitCode::from(*status));
@@ -59,35 +79,56 @@ fn end_as(rt: &(impl Abort + AllocGlobal), output: Stream, ends: &[End]) -> Resu
 }
 
 #[test]
-fn statements_and_help(rt: HostRuntime) -> Result<(), Fail> {
-    let help = Printed::From("Replays a trading day");
-    let help_of_run = Printed::From("Runs the day of two files");
+fn statements(rt: HostRuntime) -> Result<(), Fail> {
+    end_as(
+        &rt,
+        Stream::Kept,
+        &[(
+            &[b"xetra-day", b"run", b"day.toml", b"day.csv"],
+            0,
+            Printed::Text(STATEMENT),
+            Printed::Nothing,
+        )],
+    )
+}
+
+#[test]
+fn paths_keep_their_spaces(rt: HostRuntime) -> Result<(), Fail> {
+    let unread_segment = Printed::Text("xetra-day: segment: line 0: ReadFailed\n");
+    let unread_orders = Printed::Text("xetra-day: orders: line 0: ReadFailed\n");
     end_as(
         &rt,
         Stream::Kept,
         &[
             (
-                &[b"xetra-day", b"run", b"day.toml", b"day.csv"],
+                &[b"xetra-day", b"run", b" spaced.toml\t", b"\n spaced.csv "],
                 0,
                 Printed::Text(STATEMENT),
                 Printed::Nothing,
             ),
-            (&[b"xetra-day", b"--help"], 0, help, Printed::Nothing),
-            (&[b"xetra-day", b"help"], 0, help, Printed::Nothing),
             (
-                &[b"xetra-day", b"run", b"-h"],
-                0,
-                help_of_run,
+                &[b"xetra-day", b"run", b"day.toml ", b"day.csv"],
+                1,
                 Printed::Nothing,
+                unread_segment,
             ),
             (
-                &[b"xetra-day", b"--version"],
-                0,
-                Printed::Text(VERSION),
+                &[b"xetra-day", b"run", b"day.toml", b" day.csv"],
+                1,
                 Printed::Nothing,
+                unread_orders,
             ),
         ],
     )
+}
+
+#[test]
+fn a_run_draws_its_seed(rt: HostRuntime) -> Result<(), Fail> {
+    let words: &[&[u8]] = &[b"xetra-day", b"run", b"day.toml", b"day.csv"];
+    let call = Call::new(rt.alloc(), words, FILES, Stream::Kept);
+    assert_eq!(rt; run_program(&call), ExitCode::from(0));
+    assert!(rt; *call.draws.try_borrow()? == 2);
+    Ok(())
 }
 
 #[test]
@@ -114,6 +155,12 @@ fn faults(rt: HostRuntime) -> Result<(), Fail> {
                 Printed::Nothing,
                 Printed::Text("xetra-day: orders: line 2: BadField\n"),
             ),
+            (
+                &[b"xetra-day", b"run", b"wide.toml", b"day.csv"],
+                1,
+                Printed::Nothing,
+                Printed::Text("xetra-day: open: BadWidths\n"),
+            ),
         ],
     )
 }
@@ -125,24 +172,20 @@ fn mistakes(rt: HostRuntime) -> Result<(), Fail> {
         Stream::Kept,
         &[
             (
-                &[b"xetra-day"],
-                2,
-                Printed::Nothing,
-                Printed::From("Replays a trading day"),
-            ),
-            (
                 &[b"xetra-day", b"run", b"day.toml"],
                 2,
                 Printed::Nothing,
-                Printed::From(
-                    "error: the following required arguments were not provided:\n  <ORDERS>\n",
+                Printed::Text(
+                    "error: the following required arguments were not provided:\n  <ORDERS>\n\nUsage: xetra-day run <SEGMENT> <ORDERS>\n\nFor more information, try '--help'.\n",
                 ),
             ),
             (
                 &[b"xetra-day", b"walk"],
                 2,
                 Printed::Nothing,
-                Printed::From("error: unrecognized subcommand 'walk'\n"),
+                Printed::Text(
+                    "error: unrecognized subcommand 'walk'\n\nUsage: xetra-day <COMMAND>\n\nFor more information, try '--help'.\n",
+                ),
             ),
             (
                 &[b"xetra-day", b"run", b"\xff", b"day.csv"],

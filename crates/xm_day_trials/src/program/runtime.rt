@@ -28,6 +28,8 @@ pub struct Call<'a> {
     pub output: Stream,
     pub printed: RefCell<String>,
     pub complained: RefCell<String>,
+    /// How often random bytes were asked for.
+    pub draws: RefCell<u32>,
 }
 
 impl<'a> Call<'a> {
@@ -44,6 +46,7 @@ impl<'a> Call<'a> {
             output,
             printed: RefCell::new(String::new(alloc)),
             complained: RefCell::new(String::new(alloc)),
+            draws: RefCell::new(0),
         }
     }
 
@@ -105,10 +108,17 @@ impl Print for Call<'_> {
     }
 }
 
-// No random numbers: names are hashed by the fixed seed.
+// Each random byte is 7.
 impl RandomSource for Call<'_> {
-    fn fill_bytes(&self, _buf: &mut [u8]) -> io::Result<()> {
-        unsupported()
+    fn fill_bytes(&self, buf: &mut [u8]) -> io::Result<()> {
+        buf.fill(7);
+        match self.draws.try_borrow_mut() {
+            Ok(mut draws) => {
+                *draws = draws.saturating_add(1);
+                Ok(())
+            }
+            Err(_) => Err(io::Error::from(io::ErrorKind::ResourceBusy)),
+        }
     }
 }
 
