@@ -1,0 +1,56 @@
+//! Want of memory, which nothing but a refused growth can say.
+#![tactic(auto)]
+
+ghost use Rattle.std.specs.Prelude.{◌<◌, ◌≤◌, OnErr, OnOk};
+
+use std::alloc::{AllocError, AllocFailed};
+use std::marker::Model;
+
+/// A growth was refused.
+///
+/// It has no public constructor: it is made of the error of a refused growth alone, so an answer that carries it can't
+/// be made up. A clause sees all of them as one.
+#[derive(Clone, Copy, PartialEq, Eq, Hash, Debug)]
+pub struct OutOfMemory {
+    refused: (),
+}
+
+impl Model for OutOfMemory {
+    ghost Value = { Unit {0} };
+
+    ghost view = { λ _. tt };
+
+    ghost inverse = { λ _. record { refused = tt } };
+}
+
+impl OutOfMemory {
+    /// What a crate tells whose own error says that memory was wanting, and hides the refused growth.
+    pub fn told_by<E>(_error: &E) -> OutOfMemory {
+        OutOfMemory { refused: () }
+    }
+}
+
+impl From<AllocError> for OutOfMemory {
+    fn from(_error: AllocError) -> OutOfMemory {
+        OutOfMemory { refused: () }
+    }
+}
+
+impl<T: Drop> From<AllocFailed<T>> for OutOfMemory {
+    fn from(_error: AllocFailed<T>) -> OutOfMemory {
+        OutOfMemory { refused: () }
+    }
+}
+
+/// Passes a count, or answers `OutOfMemory` where it is above the most that its structure can tell apart, which no memory
+/// could give it.
+pub fn count_within(count: u64, most: u64) -> Result<(), OutOfMemory>
+    ensures ok { OnOk result (count ≤ most) }
+    ensures err { OnErr result (most < count) }
+{
+    if count <= most {
+        Ok(())
+    } else {
+        Err(OutOfMemory { refused: () })
+    }
+}
