@@ -4,7 +4,7 @@ use Rattle.std.proofs.lemmas.Bool.Decides.{nat_tests}
 use Rattle.xm_rules.proofs.Checks.{first_failing-front, last_passes, passes}
 use Rattle.xm_rules.specs.Commands.{has_prices_in_range, is_bad_combination, is_immediate, is_in_range, is_over, member_of, trigger_of}
 use Rattle.xm_rules.specs.Orders.{is_named}
-use Rattle.xm_rules.specs.Refusals.{Check, first_failing, entries_more, has_order, has_reached, has_stop, is_allowed, is_ended, is_full, is_given_in_range, is_limit_for_market, is_not_changeable, is_unknown_member, is_unknown_order, own_checks, refusal_of}
+use Rattle.xm_rules.specs.Refusals.{Check, first_failing, entries_more, has_order, is_trigger_reached, has_stop, is_allowed, is_ended, is_full, is_given_in_range, is_limit_for_market, is_not_changeable, is_unknown_member, is_unknown_order, own_checks, refusal_of}
 use Rattle.xm_rules.specs.Settling.{is_continuous}
 use Rattle.xm_rules.specs.State.{State}
 use Rattle.xm_rules.specs.declared.commands.Command.{Command}
@@ -60,7 +60,7 @@ pub record EntryPasses (s : State) (member reference : ℕ) (side : Side) (k : K
   pub in_phase : (is_immediate condition && not (is_continuous s.phase)) ≡ false
   pub no_order : has_order s member reference ≡ false
   pub no_stop : has_stop s member reference ≡ false
-  pub not_reached : has_reached s side (trigger_of k) ≡ false
+  pub not_reached : is_trigger_reached s side (trigger_of k) ≡ false
 
 pub entry-accepted : (s : State) (member reference : ℕ) (side : Side) (k : Kind) (quantity : ℕ) (v : Validity) (r : Restriction) (condition : Condition)
     → refusal_of s (Enter member reference side k quantity v r condition) ≡ None → EntryPasses s member reference side k quantity v r condition
@@ -72,7 +72,7 @@ entry-accepted s member reference side k quantity v r condition h =
     let combined = passes (is_bad_combination condition k r) BadCombination _ valid.1 in
     let in_phase = passes (is_immediate condition && not (is_continuous s.phase)) WrongPhase _ combined.1 in
     let fresh = passes (has_order s member reference || has_stop s member reference) DuplicateReference _ in_phase.1 in
-    let reached = passes (has_reached s side (trigger_of k)) TriggerReached _ fresh.1 in
+    let reached = passes (is_trigger_reached s side (trigger_of k)) TriggerReached _ fresh.1 in
     let unused = neither (has_order s member reference) (has_stop s member reference) fresh.0 in
     record {
       quantity = not_false _ counted.0;

@@ -1,5 +1,5 @@
 -- After a call no two orders of the two sides meet.
-use Rattle.std.proofs.Common.{◌≡◌, ℕ, ◌+◌, ◌-◌, ◌<◌, ◌≤◌, Bool, true, false, if◌then◌else◌, List, All, Contains, IfSome, Option, Some, None, refl, sym, ap, ◌∙◌, arith}
+use Rattle.std.proofs.Common.{◌≡◌, ℕ, ◌+◌, ◌-◌, ◌<◌, ◌≤◌, true, false, List, All, Contains, IfSome, Option, Some, None, refl, sym, ap, ◌∙◌, arith}
 use Rattle.std.specs.Prelude.{nat_le}
 use Rattle.std.proofs.lemmas.Bool.{false_from_ne_true}
 use Rattle.std.proofs.lemmas.Bool.Decides.{nat_tests}
@@ -12,8 +12,8 @@ use Rattle.xm_rules.specs.Orders.{accepts, limit_of, meets}
 use Rattle.xm_rules.specs.Priority.{before}
 use Rattle.xm_rules.specs.Quote.{best_limit}
 use Rattle.xm_rules.specs.Sides.{best, opposite}
-use Rattle.xm_rules.specs.State.{State, inside_both, inside_wide, ranges, ref1}
-use Rattle.xm_rules.specs.Step.{traded, uncrossed_at}
+use Rattle.xm_rules.specs.State.{State, ranges, ref1}
+use Rattle.xm_rules.specs.Step.{determined, stage_after, uncrossed_at}
 use Rattle.xm_rules.specs.declared.orders.Order.{Order}
 use Rattle.xm_rules.specs.declared.orders.OrderKind.{OrderKind}
 use Rattle.xm_rules.specs.declared.orders.OrderKind.TheVariants.{Market, Limit}
@@ -21,7 +21,6 @@ use Rattle.xm_rules.specs.declared.orders.Side.{Side}
 use Rattle.xm_rules.specs.declared.orders.Side.TheVariants.{Buy, Sell}
 use Rattle.xm_rules.specs.declared.phases.Auction.{Auction}
 use Rattle.xm_rules.specs.declared.phases.CallStage.{CallStage}
-use Rattle.xm_rules.specs.declared.phases.CallStage.TheVariants.{Ordinary, Interrupted, Extended}
 use Rattle.xm_rules.specs.declared.phases.Phase.{Phase}
 use Rattle.xm_rules.specs.declared.phases.Phase.TheVariants.{Call, Continuous}
 use Rattle.xm_rules.proofs.Allotments.{within_side}
@@ -116,17 +115,15 @@ some_traded s u e = λ side i j at to.
     never_meet (Call u.auction u.stage) u.orders side u.volume i j (greatest_volume (Call u.auction u.stage) u.orders (ref1 s) u.price u.volume e)
     (left_traded u side i is at) (left_traded u (opposite side) j is to)
 
-traded_if : (s : State) (u : Uncrossing) (stage : CallStage) (b : Bool) → auction_price (Call u.auction u.stage) u.orders (ref1 s) ≡ Some (u.price, u.volume)
-    → (if b then traded s u else record s { phase = Call u.auction stage }).phase ≡ Continuous → NoneMeet (if b then traded s u else record s { phase = Call u.auction stage }).orders
-traded_if s u stage true e h = some_traded s u e
-traded_if s u stage false e h = absurd (cc)
+none_determined : (s : State) (u : Uncrossing) (next : Option CallStage) → auction_price (Call u.auction u.stage) u.orders (ref1 s) ≡ Some (u.price, u.volume)
+    → (determined s u next).phase ≡ Continuous → NoneMeet (determined s u next).orders
+none_determined s u None e h = some_traded s u e
+none_determined s u (Some stage) e h = absurd (cc)
 
 pub none_meet_after : (s : State) (auction : Auction) (stage : CallStage) (o : Option (ℕ × ℕ)) → auction_price (Call auction stage) s.orders (ref1 s) ≡ o
     → All (λ (o : Order). 1 ≤ o.rest) s.orders → (uncrossed_at s auction stage o).phase ≡ Continuous → NoneMeet (uncrossed_at s auction stage o).orders
 none_meet_after s auction stage None e some h = none_traded s auction stage some e
-none_meet_after s auction Ordinary (Some priced) e some h = traded_if s (call_of s auction Ordinary priced) Interrupted (inside_both (ranges s) priced.0) e h
-none_meet_after s auction Interrupted (Some priced) e some h = traded_if s (call_of s auction Interrupted priced) Extended (inside_wide (ranges s) priced.0) e h
-none_meet_after s auction Extended (Some priced) e some h = some_traded s (call_of s auction Extended priced) e
+none_meet_after s auction stage (Some priced) e some h = none_determined s (call_of s auction stage priced) (stage_after (ranges s) stage priced.0) e h
 
 -- ---- the quote after it
 

@@ -9,14 +9,13 @@ use Rattle.xm_rules.specs.Allotment.{Uncrossing, auction_trades, end_unit, first
 use Rattle.xm_rules.specs.Orders.{trade_between}
 use Rattle.xm_rules.specs.Priority.{insert_in_order, sorted, in_order}
 use Rattle.xm_rules.specs.State.{State, inside_both, inside_wide, ranges}
-use Rattle.xm_rules.specs.Step.{new_trades, traded, uncrossed_at}
+use Rattle.xm_rules.specs.Step.{determined, new_trades, stage_after, traded, uncrossed_at}
 use Rattle.xm_rules.specs.declared.orders.Side.TheVariants.{Buy, Sell}
 use Rattle.xm_rules.specs.declared.orders.Trade.{Trade}
 use Rattle.xm_rules.specs.declared.orders.TradeKind.TheVariants as made
 use Rattle.xm_rules.specs.declared.phases.Auction.{Auction}
 use Rattle.xm_rules.specs.declared.phases.CallStage.{CallStage}
 use Rattle.xm_rules.specs.declared.phases.CallStage.TheVariants.{Ordinary, Interrupted, Extended}
-use Rattle.xm_rules.specs.declared.phases.Phase.{Phase}
 
 module _ {Y : Type 0} (P : Y → Type 0) where
   given_if : (o : Option Y) (ys : List Y) → IfSome o P → All P ys → All P (cons_option o ys)
@@ -93,10 +92,14 @@ adds_none P s t e = record { more = []; trades = e ∙ sym (append-nil s.trades)
 adds_traded : (P : Trade → Type 0) (s : State) (u : Uncrossing) → ((t : Trade) → IsOfCall u t → P t) → Adds P s (traded s u)
 adds_traded P s u h = record { more = auction_trades (s.sweeps + 1) u; trades = refl; each = All-weaker (IsOfCall u) P h (auction_trades (s.sweeps + 1) u) (trades_of_call (s.sweeps + 1) u) }
 
-adds_if : (P : Trade → Type 0) (s : State) (u : Uncrossing) (later : Phase) (b : Bool) → (b ≡ true → (t : Trade) → IsOfCall u t → P t)
-    → Adds P s (if b then traded s u else record s { phase = later })
-adds_if P s u later true h = adds_traded P s u (h refl)
-adds_if P s u later false h = adds_none P s (record s { phase = later }) refl
+adds_determined : (P : Trade → Type 0) (s : State) (u : Uncrossing) (next : Option CallStage) → (next ≡ None → (t : Trade) → IsOfCall u t → P t) → Adds P s (determined s u next)
+adds_determined P s u None h = adds_traded P s u (h refl)
+adds_determined P s u (Some stage) h = adds_none P s (determined s u (Some stage)) refl
+
+-- no stage follows on a test that is passed
+pub passed-where-none : (b : Bool) (stage : CallStage) → (if b then None else Some stage) ≡ None → b ≡ true
+passed-where-none true stage e = refl
+passed-where-none false stage e = absurd (cc)
 
 -- the call of an end that has a price
 abbrev pub call_of : State → Auction → CallStage → ℕ × ℕ → Uncrossing
@@ -106,9 +109,7 @@ call_of s auction stage priced = record { auction = auction; stage = stage; orde
 pub end_adds : (P : Trade → Type 0) (s : State) (auction : Auction) (stage : CallStage) (o : Option (ℕ × ℕ))
     → IfSome o (λ priced. (t : Trade) → IsOfCall (call_of s auction stage priced) t → P t) → Adds P s (uncrossed_at s auction stage o)
 end_adds P s auction stage None h = adds_none P s (uncrossed_at s auction stage None) refl
-end_adds P s auction Ordinary (Some priced) h = adds_if P s (call_of s auction Ordinary priced) _ (inside_both (ranges s) priced.0) (λ e. h)
-end_adds P s auction Interrupted (Some priced) h = adds_if P s (call_of s auction Interrupted priced) _ (inside_wide (ranges s) priced.0) (λ e. h)
-end_adds P s auction Extended (Some priced) h = adds_traded P s (call_of s auction Extended priced) h
+end_adds P s auction stage (Some priced) h = adds_determined P s (call_of s auction stage priced) (stage_after (ranges s) stage priced.0) (λ e. h)
 
 pub adds_marked : (s : State) (auction : Auction) (stage : CallStage) (o : Option (ℕ × ℕ)) → Adds (λ (t : Trade). t.kind ≡ made.Auction auction stage) s (uncrossed_at s auction stage o)
 adds_marked s auction stage o = end_adds (λ (t : Trade). t.kind ≡ made.Auction auction stage) s auction stage o (each o) where
@@ -130,11 +131,11 @@ no_new_trades s auction stage (Some priced) e = absurd (cc)
 pub adds_inside_both : (s : State) (auction : Auction) (o : Option (ℕ × ℕ)) → Adds (λ (t : Trade). inside_both (ranges s) t.price ≡ true) s (uncrossed_at s auction Ordinary o)
 adds_inside_both s auction None = adds_none _ s (uncrossed_at s auction Ordinary None) refl
 adds_inside_both s auction (Some priced) =
-    adds_if (λ (t : Trade). inside_both (ranges s) t.price ≡ true) s (call_of s auction Ordinary priced) _ (inside_both (ranges s) priced.0)
-    (λ e t h. ap (inside_both (ranges s)) h.price ∙ e)
+    adds_determined (λ (t : Trade). inside_both (ranges s) t.price ≡ true) s (call_of s auction Ordinary priced) (stage_after (ranges s) Ordinary priced.0)
+    (λ e t h. ap (inside_both (ranges s)) h.price ∙ passed-where-none (inside_both (ranges s) priced.0) Interrupted e)
 
 pub adds_inside_wide : (s : State) (auction : Auction) (o : Option (ℕ × ℕ)) → Adds (λ (t : Trade). inside_wide (ranges s) t.price ≡ true) s (uncrossed_at s auction Interrupted o)
 adds_inside_wide s auction None = adds_none _ s (uncrossed_at s auction Interrupted None) refl
 adds_inside_wide s auction (Some priced) =
-    adds_if (λ (t : Trade). inside_wide (ranges s) t.price ≡ true) s (call_of s auction Interrupted priced) _ (inside_wide (ranges s) priced.0)
-    (λ e t h. ap (inside_wide (ranges s)) h.price ∙ e)
+    adds_determined (λ (t : Trade). inside_wide (ranges s) t.price ≡ true) s (call_of s auction Interrupted priced) (stage_after (ranges s) Interrupted priced.0)
+    (λ e t h. ap (inside_wide (ranges s)) h.price ∙ passed-where-none (inside_wide (ranges s) priced.0) Extended e)

@@ -6,7 +6,8 @@ use Rattle.std.proofs.lemmas.Bool.{and_parts, and_from}
 use Rattle.std.proofs.lemmas.Bool.Decides.{nat_tests}
 use Rattle.std.proofs.lemmas.List.Elements.{All-head, All-tail}
 use Rattle.xm_rules.specs.Sides.{reaches, best, best_from}
-use Rattle.xm_rules.specs.Auction.{highest, lowest, where_greatest, where_least, kept_between, price_among}
+use Rattle.xm_ticks.specs.Ranges.{kept_between}
+use Rattle.xm_rules.specs.Auction.{highest, lowest, where_greatest, where_least, price_among}
 use Rattle.xm_rules.specs.declared.orders.Side.{Side}
 use Rattle.xm_rules.specs.declared.orders.Side.TheVariants.{Buy, Sell}
 

@@ -6,14 +6,15 @@ use Rattle.std.proofs.lemmas.List.Elements.{All-append, All-cons, All-filter, Al
 use Rattle.std.proofs.lemmas.List.Sums.{count_by-le-length, length-filter}
 use Rattle.xm_rules.proofs.Accepted.{entry-accepted}
 use Rattle.xm_rules.proofs.CallTrades.{call_of}
+use Rattle.xm_rules.specs.Allotment.{Uncrossing}
 use Rattle.xm_rules.proofs.ReachedStops.{come-stops}
 use Rattle.xm_rules.specs.Auction.{auction_price}
 use Rattle.xm_rules.specs.Commands.{is_in_range, outlasts, trigger_of}
 use Rattle.xm_rules.specs.Orders.{is_named, is_stop_named}
 use Rattle.xm_rules.specs.Refusals.{refusal_of}
 use Rattle.xm_rules.specs.Settling.{come, is_continuous, is_free, joined, sweep_of, swept}
-use Rattle.xm_rules.specs.State.{State, inside_both, inside_wide, ranges, ref1}
-use Rattle.xm_rules.specs.Step.{act, cancelled, changed, changed_order, come_under, entered, entered_order, keeps_priority, reduced, replaced, stop_of, traded, uncrossed, uncrossed_at}
+use Rattle.xm_rules.specs.State.{State, ranges, ref1}
+use Rattle.xm_rules.specs.Step.{act, cancelled, changed, changed_order, come_under, determined, entered, entered_order, keeps_priority, reduced, replaced, stage_after, stop_of, traded, uncrossed, uncrossed_at}
 use Rattle.xm_rules.specs.Sweep.{is_fillable, rest_after}
 use Rattle.xm_rules.specs.declared.commands.Command.{Command}
 use Rattle.xm_rules.specs.declared.commands.Command.TheVariants.{Enter, Change, Cancel, CancelAll, StartOpening, StartIntraday, StartClosing, Uncross, EndDay}
@@ -23,7 +24,6 @@ use Rattle.xm_rules.specs.declared.orders.Order.{Order}
 use Rattle.xm_rules.specs.declared.orders.Stop.{Stop}
 use Rattle.xm_rules.specs.declared.phases.Auction.{Auction}
 use Rattle.xm_rules.specs.declared.phases.CallStage.{CallStage}
-use Rattle.xm_rules.specs.declared.phases.CallStage.TheVariants.{Ordinary, Interrupted, Extended}
 use Rattle.xm_rules.specs.declared.phases.Phase.{Phase}
 use Rattle.xm_rules.specs.declared.phases.Phase.TheVariants.{Call}
 
@@ -89,17 +89,13 @@ changed-follows s quantity limit (Some o) =
     follows_if s (reduced s quantity o) (replaced s o again) (keeps_priority quantity limit o) (same-stops s (reduced s quantity o) refl (omega arith))
     (fewer-stops s (replaced s o again) (λ (stop : Stop). not (is_stop_named o.member o.reference stop)) (come-stops without again) (come-sweeps without again))
 
+determined-follows : (s : State) (u : Uncrossing) (next : Option CallStage) → Follows s (determined s u next)
+determined-follows s u None = same-stops s (traded s u) refl (omega arith)
+determined-follows s u (Some stage) = same-stops s (determined s u (Some stage)) refl (omega arith)
+
 priced-follows : (s : State) (auction : Auction) (stage : CallStage) (priced : Option (ℕ × ℕ)) → Follows s (uncrossed_at s auction stage priced)
 priced-follows s auction stage None = same-stops s (uncrossed_at s auction stage None) refl (omega arith)
-priced-follows s auction Ordinary (Some priced) =
-    let u = call_of s auction Ordinary priced in
-    follows_if s (traded s u) (record s { phase = Call auction Interrupted }) (inside_both (ranges s) priced.0) (same-stops s (traded s u) refl (omega arith))
-    (same-stops s (record s { phase = Call auction Interrupted }) refl (omega arith))
-priced-follows s auction Interrupted (Some priced) =
-    let u = call_of s auction Interrupted priced in
-    follows_if s (traded s u) (record s { phase = Call auction Extended }) (inside_wide (ranges s) priced.0) (same-stops s (traded s u) refl (omega arith))
-    (same-stops s (record s { phase = Call auction Extended }) refl (omega arith))
-priced-follows s auction Extended (Some priced) = same-stops s (traded s (call_of s auction Extended priced)) refl (omega arith)
+priced-follows s auction stage (Some priced) = determined-follows s (call_of s auction stage priced) (stage_after (ranges s) stage priced.0)
 
 uncrossed-follows : (s : State) (phase : Phase) → Follows s (uncrossed s phase)
 uncrossed-follows s (Call auction stage) = priced-follows s auction stage (auction_price (Call auction stage) s.orders (ref1 s))

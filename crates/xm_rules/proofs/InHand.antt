@@ -8,8 +8,8 @@ use Rattle.xm_rules.specs.Auction.{auction_price}
 use Rattle.xm_rules.specs.Commands.{outlasts, trigger_of}
 use Rattle.xm_rules.specs.Orders.{is_named, is_stop_named, with_rest}
 use Rattle.xm_rules.specs.Settling.{come, is_continuous, is_free, is_reached, joined, order_of_stop, reached, released, settle, sweep_of, swept}
-use Rattle.xm_rules.specs.State.{State, inside_both, inside_wide, ranges, ref1}
-use Rattle.xm_rules.specs.Step.{act, cancelled, changed, changed_order, come_under, entered, entered_order, keeps_priority, reduced, replaced, step, stop_of, traded, uncrossed, uncrossed_at}
+use Rattle.xm_rules.specs.State.{State, ranges, ref1}
+use Rattle.xm_rules.specs.Step.{act, cancelled, changed, changed_order, come_under, determined, entered, entered_order, keeps_priority, reduced, replaced, stage_after, step, stop_of, traded, uncrossed, uncrossed_at}
 use Rattle.xm_rules.specs.Sums.{total_quantity}
 use Rattle.xm_rules.specs.Sweep.{is_fillable, rest_after, sweep_trades}
 use Rattle.xm_rules.specs.declared.commands.Command.{Command}
@@ -21,7 +21,6 @@ use Rattle.xm_rules.specs.declared.orders.Side.TheVariants.{Buy, Sell}
 use Rattle.xm_rules.specs.declared.orders.Stop.{Stop}
 use Rattle.xm_rules.specs.declared.phases.Auction.{Auction}
 use Rattle.xm_rules.specs.declared.phases.CallStage.{CallStage}
-use Rattle.xm_rules.specs.declared.phases.CallStage.TheVariants.{Ordinary, Interrupted, Extended}
 use Rattle.xm_rules.specs.declared.phases.Phase.{Phase}
 use Rattle.xm_rules.specs.declared.phases.Phase.TheVariants.{Call}
 use Rattle.xm_rules.proofs.Allotments.{allotted_to_side, allotted_within, within_side}
@@ -92,14 +91,15 @@ traded-keeps s u same e =
       sum_by-append quantity_of s.trades (auction_trades (s.sweeps + 1) u),
     )
 
+determined-keeps : (s : State) (u : Uncrossing) (next : Option CallStage) → u.orders ≡ s.orders → auction_price (Call u.auction u.stage) u.orders (ref1 s) ≡ Some (u.price, u.volume)
+    → in_hand (determined s u next) ≤ in_hand s + 0
+determined-keeps s u None same e = omega (arith, traded-keeps s u same e)
+determined-keeps s u (Some stage) same e = omega arith
+
 uncrossed-keeps : (s : State) (auction : Auction) (stage : CallStage) (o : Option (ℕ × ℕ)) → auction_price (Call auction stage) s.orders (ref1 s) ≡ o
     → in_hand (uncrossed_at s auction stage o) ≤ in_hand s + 0
 uncrossed-keeps s auction stage None e = omega arith
-uncrossed-keeps s auction Ordinary (Some priced) e =
-    at_most s (traded s (call_of s auction Ordinary priced)) _ 0 (inside_both (ranges s) priced.0) (omega (arith, traded-keeps s (call_of s auction Ordinary priced) refl e)) (omega arith)
-uncrossed-keeps s auction Interrupted (Some priced) e =
-    at_most s (traded s (call_of s auction Interrupted priced)) _ 0 (inside_wide (ranges s) priced.0) (omega (arith, traded-keeps s (call_of s auction Interrupted priced) refl e)) (omega arith)
-uncrossed-keeps s auction Extended (Some priced) e = omega (arith, traded-keeps s (call_of s auction Extended priced) refl e)
+uncrossed-keeps s auction stage (Some priced) e = determined-keeps s (call_of s auction stage priced) (stage_after (ranges s) stage priced.0) refl e
 
 ended-keeps : (s : State) (phase : Phase) → in_hand (uncrossed s phase) ≤ in_hand s + 0
 ended-keeps s (Call auction stage) = uncrossed-keeps s auction stage (auction_price (Call auction stage) s.orders (ref1 s)) refl

@@ -1,12 +1,13 @@
 -- No command changes the settings of the day, nor the number of accepted commands before it is counted.
 use Rattle.std.proofs.Common.{◌≡◌, ◌∙◌, ℕ, ◌+◌, zero, suc, Bool, true, false, ◌&&◌, ◌==◌, if◌then◌else◌, List, [], ◌∷◌, ◌++◌, Option, Some, None, refl, ap, sym}
 use Rattle.std.specs.Prelude.{find}
+use Rattle.xm_rules.specs.Allotment.{Uncrossing}
 use Rattle.xm_rules.specs.Auction.{auction_price}
 use Rattle.xm_rules.specs.Commands.{trigger_of}
 use Rattle.xm_rules.specs.Orders.{is_named}
 use Rattle.xm_rules.specs.Settling.{come, is_continuous, is_free, joined, order_of_stop, reached, released, settle, settle_in, sweep_of, swept, take_pending}
-use Rattle.xm_rules.specs.State.{State, inside_both, inside_wide, ranges, ref1}
-use Rattle.xm_rules.specs.Step.{act, cancelled, changed, changed_order, come_under, entered, keeps_priority, reduced, replaced, step, uncrossed, uncrossed_at}
+use Rattle.xm_rules.specs.State.{State, ranges, ref1}
+use Rattle.xm_rules.specs.Step.{act, cancelled, changed, changed_order, come_under, determined, entered, keeps_priority, reduced, replaced, stage_after, step, uncrossed, uncrossed_at}
 use Rattle.xm_rules.specs.Sweep.{is_fillable, rest_after}
 use Rattle.xm_rules.specs.declared.commands.Command.{Command}
 use Rattle.xm_rules.specs.declared.commands.Command.TheVariants.{Enter, Change, Uncross}
@@ -16,9 +17,9 @@ use Rattle.xm_rules.specs.declared.orders.Order.{Order}
 use Rattle.xm_rules.specs.declared.orders.Stop.{Stop}
 use Rattle.xm_rules.specs.declared.phases.Auction.{Auction}
 use Rattle.xm_rules.specs.declared.phases.CallStage.{CallStage}
-use Rattle.xm_rules.specs.declared.phases.CallStage.TheVariants.{Ordinary, Interrupted, Extended}
 use Rattle.xm_rules.specs.declared.phases.Phase.{Phase}
 use Rattle.xm_rules.specs.declared.phases.Phase.TheVariants.{Call}
+use Rattle.xm_rules.proofs.CallTrades.{call_of}
 
 -- the second state has the settings of the first, and its number of accepted commands
 pub record Keeps (s t : State) : Type 0 where
@@ -71,11 +72,13 @@ changed-keeps s quantity limit (Some o) =
     either s (reduced s quantity o) (replaced s o (changed_order quantity limit o)) (keeps_priority quantity limit o)
     (record { settings = refl; accepted = refl }) (replaced-keeps s o (changed_order quantity limit o))
 
+determined-keeps : (s : State) (u : Uncrossing) (next : Option CallStage) → Keeps s (determined s u next)
+determined-keeps s u None = record { settings = refl; accepted = refl }
+determined-keeps s u (Some stage) = record { settings = refl; accepted = refl }
+
 priced-keeps : (s : State) (auction : Auction) (stage : CallStage) (priced : Option (ℕ × ℕ)) → Keeps s (uncrossed_at s auction stage priced)
 priced-keeps s auction stage None = record { settings = refl; accepted = refl }
-priced-keeps s auction Ordinary (Some priced) = either s _ _ (inside_both (ranges s) priced.0) (record { settings = refl; accepted = refl }) (record { settings = refl; accepted = refl })
-priced-keeps s auction Interrupted (Some priced) = either s _ _ (inside_wide (ranges s) priced.0) (record { settings = refl; accepted = refl }) (record { settings = refl; accepted = refl })
-priced-keeps s auction Extended (Some priced) = record { settings = refl; accepted = refl }
+priced-keeps s auction stage (Some priced) = determined-keeps s (call_of s auction stage priced) (stage_after (ranges s) stage priced.0)
 
 uncrossed-keeps : (s : State) (phase : Phase) → Keeps s (uncrossed s phase)
 uncrossed-keeps s (Call auction stage) = priced-keeps s auction stage (auction_price (Call auction stage) s.orders (ref1 s))

@@ -8,6 +8,7 @@ pub mod Checks
 pub mod Choices
 pub mod ComingIn
 pub mod DayLimits
+pub mod EachKept
 pub mod Following
 pub mod InHand
 pub mod Moments
@@ -15,12 +16,14 @@ pub mod OneName
 pub mod Journals
 pub mod Kept
 pub mod KnownMembers
+pub mod LastPrices
 pub mod LawfulJournals
 pub mod MemberSums
 pub mod Memory
 pub mod Orderings
 pub mod Positions
 pub mod Prices
+pub mod PricesInRange
 pub mod Queues
 pub mod ReachedStops
 pub mod Remaining

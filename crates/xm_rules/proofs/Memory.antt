@@ -9,7 +9,7 @@ use Rattle.xm_rules.specs.declared.replies.Refusal.{Refusal}
 use Rattle.xm_rules.specs.declared.replies.Refusal.TheVariants.{OutOfMemory}
 
 abbrev is_memory : Refusal → Bool
-is_memory OutOfMemory = true
+is_memory (OutOfMemory _) = true
 is_memory _ = false
 
 among_if : (b : Bool) (own : Refusal) (rest : Option Refusal) (refusal : Refusal) (later : Bool) → is_memory refusal ≡ true → (rest ≡ Some refusal → later ≡ true) → (if b then Some own else rest) ≡ Some refusal → (is_memory own || later) ≡ true
@@ -30,6 +30,6 @@ none s (Cancel member reference) = refl
 none s (CancelAll member) = refl
 none s _ = refl
 
-pub refusal-not_memory : (s : State) (c : Command) → refusal_of s c ≢ Some OutOfMemory
+pub refusal-not_memory : (s : State) (c : Command) → refusal_of s c ≢ Some (OutOfMemory tt)
 unfolding refusal_of
-refusal-not_memory s c h = let is = among (checks s c) OutOfMemory refl h in let no = none s c in cc
+refusal-not_memory s c h = let is = among (checks s c) (OutOfMemory tt) refl h in let no = none s c in cc

@@ -12,7 +12,7 @@ use Rattle.xm_rules.specs.Moments.{earlier, ranges_at}
 use Rattle.xm_rules.specs.Orders.{is_named, trade_between}
 use Rattle.xm_rules.specs.Settling.{come, is_continuous, is_free, joined, order_of_stop, settle, sweep_of, swept}
 use Rattle.xm_rules.specs.State.{Ranges, State, inside_both, inside_wide, last_auction_price, last_price, ranges, ref1}
-use Rattle.xm_rules.specs.Step.{Journal, act, cancelled, changed, changed_order, come_under, entered, entered_order, keeps_priority, reduced, replaced, replay, step, traded, uncrossed, uncrossed_at}
+use Rattle.xm_rules.specs.Step.{Journal, act, cancelled, changed, changed_order, come_under, determined, entered, entered_order, keeps_priority, reduced, replaced, replay, stage_after, step, traded, uncrossed, uncrossed_at}
 use Rattle.xm_rules.specs.Sweep.{is_fillable, rest_after, sweep_trades}
 use Rattle.xm_rules.specs.declared.commands.Command.{Command}
 use Rattle.xm_rules.specs.declared.commands.Command.TheVariants.{Enter, Change, Cancel, CancelAll, StartOpening, StartIntraday, StartClosing, Uncross, EndDay}
@@ -29,7 +29,7 @@ use Rattle.xm_rules.specs.declared.phases.CallStage.TheVariants.{Ordinary, Inter
 use Rattle.xm_rules.specs.declared.phases.Phase.{Phase}
 use Rattle.xm_rules.specs.declared.phases.Phase.TheVariants.{PreTrading, Call, Continuous, PostTrading, Ended}
 use Rattle.xm_rules.specs.declared.settings.DeskSettings.{DeskSettings}
-use Rattle.xm_rules.proofs.CallTrades.{All-filter_map, All-flat_map, All-in_order, call_of, trades_of_call}
+use Rattle.xm_rules.proofs.CallTrades.{All-filter_map, All-flat_map, All-in_order, call_of, passed-where-none, trades_of_call}
 use Rattle.xm_rules.proofs.ComingIn.{IsOfSweep, trades_of_sweep}
 use Rattle.xm_rules.proofs.Replays.{replay-has, settle-has}
 
@@ -185,16 +185,19 @@ traded-inside s u inside k =
     more-inside s (auction_trades number u) k
     (λ i d l. (let h = of_call i d l in (bear i d l, (λ t. is_inside_asked (ranges s) (h.kind t) (h.price t)) ∙ inside)))
 
-traded_if : (s : State) (u : Uncrossing) (later : Phase) (b : Bool) → (b ≡ true → is_inside_asked (ranges s) (made.Auction u.auction u.stage) u.price ≡ true) → WereInside s
-    → WereInside (if b then traded s u else record s { phase = later })
-traded_if s u later true inside k = traded-inside s u (inside refl) k
-traded_if s u later false inside k = k
+-- a price that leads to no other stage is inside the ranges that its stage asks
+asked-inside : (r : Ranges) (auction : Auction) (stage : CallStage) (price : ℕ) → stage_after r stage price ≡ None → is_inside_asked r (made.Auction auction stage) price ≡ true
+asked-inside r auction Ordinary price e = passed-where-none (inside_both r price) Interrupted e
+asked-inside r auction Interrupted price e = passed-where-none (inside_wide r price) Extended e
+asked-inside r auction Extended price e = refl
+
+determined-inside : (s : State) (u : Uncrossing) (next : Option CallStage) → stage_after (ranges s) u.stage u.price ≡ next → WereInside s → WereInside (determined s u next)
+determined-inside s u None e k = traded-inside s u (asked-inside (ranges s) u.auction u.stage u.price e) k
+determined-inside s u (Some stage) e k = k
 
 priced-inside : (s : State) (auction : Auction) (stage : CallStage) (priced : Option (ℕ × ℕ)) → WereInside s → WereInside (uncrossed_at s auction stage priced)
 priced-inside s auction stage None k = k
-priced-inside s auction Ordinary (Some priced) k = traded_if s (call_of s auction Ordinary priced) (Call auction Interrupted) (inside_both (ranges s) priced.0) (λ e. e) k
-priced-inside s auction Interrupted (Some priced) k = traded_if s (call_of s auction Interrupted priced) (Call auction Extended) (inside_wide (ranges s) priced.0) (λ e. e) k
-priced-inside s auction Extended (Some priced) k = traded-inside s (call_of s auction Extended priced) refl k
+priced-inside s auction stage (Some priced) k = determined-inside s (call_of s auction stage priced) (stage_after (ranges s) stage priced.0) refl k
 
 uncrossed-inside : (s : State) (phase : Phase) → WereInside s → WereInside (uncrossed s phase)
 uncrossed-inside s (Call auction stage) k = priced-inside s auction stage (auction_price (Call auction stage) s.orders (ref1 s)) k

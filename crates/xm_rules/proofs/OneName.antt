@@ -12,8 +12,8 @@ use Rattle.xm_rules.specs.Orders.{is_named, is_stop_named}
 use Rattle.xm_rules.specs.Priority.{without_units}
 use Rattle.xm_rules.specs.Refusals.{has_order, has_stop, refusal_of}
 use Rattle.xm_rules.specs.Settling.{come, is_continuous, is_free, is_reached, joined, order_of_stop, settle, sweep_of, swept}
-use Rattle.xm_rules.specs.State.{State, inside_both, inside_wide, ranges, ref1}
-use Rattle.xm_rules.specs.Step.{act, cancelled, changed, changed_order, come_under, entered, entered_order, keeps_priority, reduced, replaced, step, stop_of, traded, uncrossed, uncrossed_at}
+use Rattle.xm_rules.specs.State.{State, ranges, ref1}
+use Rattle.xm_rules.specs.Step.{act, cancelled, changed, changed_order, come_under, determined, entered, entered_order, keeps_priority, reduced, replaced, stage_after, step, stop_of, traded, uncrossed, uncrossed_at}
 use Rattle.xm_rules.specs.Sweep.{fill, is_fillable, rest_after}
 use Rattle.xm_rules.specs.declared.commands.Command.{Command}
 use Rattle.xm_rules.specs.declared.commands.Command.TheVariants.{Enter, Change, Cancel, CancelAll, StartOpening, StartIntraday, StartClosing, Uncross, EndDay}
@@ -23,7 +23,6 @@ use Rattle.xm_rules.specs.declared.orders.Order.{Order}
 use Rattle.xm_rules.specs.declared.orders.Stop.{Stop}
 use Rattle.xm_rules.specs.declared.phases.Auction.{Auction}
 use Rattle.xm_rules.specs.declared.phases.CallStage.{CallStage}
-use Rattle.xm_rules.specs.declared.phases.CallStage.TheVariants.{Ordinary, Interrupted, Extended}
 use Rattle.xm_rules.specs.declared.phases.Phase.{Phase}
 use Rattle.xm_rules.specs.declared.phases.Phase.TheVariants.{Call}
 use Rattle.xm_rules.proofs.Accepted.{entry-accepted}
@@ -150,13 +149,13 @@ module _ (member reference : ℕ) where
   traded-uses : (s : State) (u : Uncrossing) → u.orders ≡ s.orders → uses (traded s u) ≤ uses s
   traded-uses s u same = omega (arith, without-uses (allotted u) u.orders, ap (sum_by named) same)
 
+  determined-uses : (s : State) (u : Uncrossing) (next : Option CallStage) → u.orders ≡ s.orders → uses (determined s u next) ≤ uses s
+  determined-uses s u None same = traded-uses s u same
+  determined-uses s u (Some stage) same = omega arith
+
   priced-uses : (s : State) (auction : Auction) (stage : CallStage) (priced : Option (ℕ × ℕ)) → uses (uncrossed_at s auction stage priced) ≤ uses s
   priced-uses s auction stage None = omega arith
-  priced-uses s auction Ordinary (Some priced) =
-      at_most (traded s (call_of s auction Ordinary priced)) _ (uses s) (inside_both (ranges s) priced.0) (traded-uses s (call_of s auction Ordinary priced) refl) (omega arith)
-  priced-uses s auction Interrupted (Some priced) =
-      at_most (traded s (call_of s auction Interrupted priced)) _ (uses s) (inside_wide (ranges s) priced.0) (traded-uses s (call_of s auction Interrupted priced) refl) (omega arith)
-  priced-uses s auction Extended (Some priced) = traded-uses s (call_of s auction Extended priced) refl
+  priced-uses s auction stage (Some priced) = determined-uses s (call_of s auction stage priced) (stage_after (ranges s) stage priced.0) refl
 
   uncrossed-uses : (s : State) (phase : Phase) → uses (uncrossed s phase) ≤ uses s
   uncrossed-uses s (Call auction stage) = priced-uses s auction stage (auction_price (Call auction stage) s.orders (ref1 s))

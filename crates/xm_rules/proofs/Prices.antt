@@ -120,3 +120,27 @@ some_volume phase orders reference price zero e =
     let none = no_price phase orders reference (λ x. (let most = greatest_volume phase orders reference price zero e x in omega (arith, most))) (candidates phase orders) in
     absurd (let k : None ≡ Some (price, zero) = sym none ∙ e in cc)
 some_volume phase orders reference price (suc traded) e = omega arith
+
+-- ---- an auction price is the reference, a limit, or between two of those
+priced_within : (phase : Phase) (orders : List Order) (reference price traded most : ℕ) (cs : List ℕ) → candidates phase orders ≡ cs → reference ≤ most → All (λ x. x ≤ most) (candidates phase orders)
+    → price_from phase orders reference cs ≡ Some (price, traded) → price ≤ most
+priced_within phase orders reference price traded most [] none low all e =
+    subst (λ (x : ℕ). x ≤ most) (priced_if phase orders (volume phase orders reference == 0) reference price traded e).same low
+priced_within phase orders reference price traded most (c ∷ cs) some low all e =
+    let xs = best_candidates phase orders in
+    let Within : ℕ → Type 0 = λ x. x ≤ most in
+    let long : 0 < length (candidates phase orders) = subst (λ (ps : List ℕ). 0 < length ps) (sym some) (omega arith) in
+    let greatest = where_greatest (volume phase orders) (candidates phase orders) in
+    let best : All Within xs =
+    All-filter (λ x. list_all (λ y. nat_le (absolute_surplus phase orders x) (absolute_surplus phase orders y)) greatest) Within greatest
+    (All-filter (λ x. list_all (λ y. nat_le (volume phase orders y) (volume phase orders x)) (candidates phase orders)) Within (candidates phase orders) all) in
+    let chosen : chosen_price phase orders reference ≤ most =
+    price_among_has Within (λ n high x l m below above. omega (arith, m, above)) reference xs
+    (filter (λ x. nat_lt 0 (surplus phase orders Buy x)) xs) (filter (λ x. nat_lt 0 (surplus phase orders Sell x)) xs)
+    (least_exists (absolute_surplus phase orders) greatest (greatest_exists (volume phase orders) (candidates phase orders) long))
+    best (All-filter (λ x. nat_lt 0 (surplus phase orders Buy x)) Within xs best) (All-filter (λ x. nat_lt 0 (surplus phase orders Sell x)) Within xs best) in
+    subst Within (priced_if phase orders (list_all (λ y. volume phase orders y == 0) (c ∷ cs)) (chosen_price phase orders reference) price traded e).same chosen
+
+pub price_within : (phase : Phase) (orders : List Order) (reference price traded most : ℕ) → reference ≤ most → All (λ x. x ≤ most) (candidates phase orders)
+    → auction_price phase orders reference ≡ Some (price, traded) → price ≤ most
+price_within phase orders reference price traded most low all e = priced_within phase orders reference price traded most (candidates phase orders) refl low all e

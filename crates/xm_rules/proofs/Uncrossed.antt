@@ -13,8 +13,8 @@ use Rattle.xm_rules.specs.Priority.{without_units}
 use Rattle.xm_rules.specs.Refusals.{refusal_of}
 use Rattle.xm_rules.specs.Settling.{come, is_continuous, is_free, is_reached, joined, order_of_stop, settle, sweep_of, swept}
 use Rattle.xm_rules.specs.Sides.{opposite}
-use Rattle.xm_rules.specs.State.{State, inside_both, inside_wide, ranges, ref1}
-use Rattle.xm_rules.specs.Step.{Journal, act, cancelled, changed, changed_order, come_under, entered, entered_order, is_lawful, keeps_priority, reduced, replaced, replay, step, stop_of, traded, uncrossed, uncrossed_at}
+use Rattle.xm_rules.specs.State.{State, ranges, ref1}
+use Rattle.xm_rules.specs.Step.{Journal, act, cancelled, changed, changed_order, come_under, determined, entered, entered_order, is_lawful, keeps_priority, reduced, replaced, replay, stage_after, step, stop_of, uncrossed, uncrossed_at}
 use Rattle.xm_rules.specs.Sweep.{is_fillable, is_interrupted, rest_after}
 use Rattle.xm_rules.specs.declared.commands.Command.{Command}
 use Rattle.xm_rules.specs.declared.commands.Command.TheVariants.{Enter, Change, Cancel, CancelAll, StartOpening, StartIntraday, StartClosing, Uncross, EndDay}
@@ -26,7 +26,7 @@ use Rattle.xm_rules.specs.declared.orders.Stop.{Stop}
 use Rattle.xm_rules.specs.declared.phases.Auction.{Auction}
 use Rattle.xm_rules.specs.declared.phases.Auction.TheVariants.{Interruption}
 use Rattle.xm_rules.specs.declared.phases.CallStage.{CallStage}
-use Rattle.xm_rules.specs.declared.phases.CallStage.TheVariants.{Ordinary, Interrupted, Extended}
+use Rattle.xm_rules.specs.declared.phases.CallStage.TheVariants.{Ordinary, Interrupted}
 use Rattle.xm_rules.specs.declared.phases.Phase.{Phase}
 use Rattle.xm_rules.specs.declared.phases.Phase.TheVariants.{Call, Continuous, PreTrading, PostTrading, Ended}
 use Rattle.xm_rules.proofs.Accepted.{change-accepted, entry-accepted}
@@ -216,17 +216,13 @@ record Ends (s t : State) : Type 0 where
   pub rests : All HasUnits t.orders
   pub stops : t.stops ≡ s.stops
 
-either_ends : (s t u : State) (b : Bool) → Ends s t → Ends s u → Ends s (if b then t else u)
-either_ends s t u true h i = h
-either_ends s t u false h i = i
+determined-ends : (s : State) (auction : Auction) (stage : CallStage) (priced : ℕ × ℕ) (next : Option CallStage) → All HasUnits s.orders → Ends s (determined s (call_of s auction stage priced) next)
+determined-ends s auction stage priced None some = record { rests = left_have_units _ s.orders; stops = refl }
+determined-ends s auction stage priced (Some later) some = record { rests = some; stops = refl }
 
 priced-ends : (s : State) (auction : Auction) (stage : CallStage) (priced : Option (ℕ × ℕ)) → All HasUnits s.orders → Ends s (uncrossed_at s auction stage priced)
 priced-ends s auction stage None some = record { rests = some; stops = refl }
-priced-ends s auction Ordinary (Some priced) some =
-    either_ends s (traded s (call_of s auction Ordinary priced)) _ (inside_both (ranges s) priced.0) (record { rests = left_have_units _ s.orders; stops = refl }) (record { rests = some; stops = refl })
-priced-ends s auction Interrupted (Some priced) some =
-    either_ends s (traded s (call_of s auction Interrupted priced)) _ (inside_wide (ranges s) priced.0) (record { rests = left_have_units _ s.orders; stops = refl }) (record { rests = some; stops = refl })
-priced-ends s auction Extended (Some priced) some = record { rests = left_have_units _ s.orders; stops = refl }
+priced-ends s auction stage (Some priced) some = determined-ends s auction stage priced (stage_after (ranges s) stage priced.0) some
 
 ended-uncrossed : (s : State) (phase : Phase) → IsUncrossed s → IsUncrossed (uncrossed s phase)
 ended-uncrossed s (Call auction stage) u =

@@ -1,6 +1,7 @@
 -- The price of a call.
 use Rattle.std.specs.Prelude.{ℕ, ◌+◌, ◌-◌, ◌==◌, if◌then◌else◌, nat_lt, nat_le, min, List, [], ◌∷◌, ◌++◌, filter, sum_by, Option, Some, None, unwrap_or}
 use Rattle.std.specs.List.{list_all}
+use Rattle.xm_ticks.specs.Ranges.{kept_between}
 use Rattle.xm_rules.specs.Active.{Positioned, active, limits}
 use Rattle.xm_rules.specs.Orders.{accepts}
 use Rattle.xm_rules.specs.Sides.{best, opposite}
@@ -44,10 +45,6 @@ lowest xs = unwrap_or (best Sell xs) 0
 -- the candidates of greatest volume, and of these the ones of least absolute surplus
 abbrev pub best_candidates : Phase → List Order → List ℕ
 best_candidates phase orders = where_least (absolute_surplus phase orders) (where_greatest (volume phase orders) (candidates phase orders))
-
--- the last price, kept between two prices
-abbrev pub kept_between : ℕ → ℕ → ℕ → ℕ
-kept_between low high last = if nat_le last low then low else (if nat_le high last then high else last)
 
 -- the price among the best candidates, of which the second list has a surplus of buys and the third one of sells:
 -- where only one side has a surplus, the highest or the lowest; else the last price, kept between the lowest and the

@@ -4,7 +4,7 @@ use Rattle.xm_rules.specs.Active.{is_active}
 use Rattle.xm_rules.specs.Allotment.{Uncrossing}
 use Rattle.xm_rules.specs.Auction.{auction_price}
 use Rattle.xm_rules.specs.Refusals.{refusal_of}
-use Rattle.xm_rules.specs.State.{State, ref1, ref2}
+use Rattle.xm_rules.specs.State.{Ranges, State, ref1, ref2}
 use Rattle.xm_rules.specs.Step.{step, reply, replay, Journal}
 use Rattle.xm_rules.specs.Sweep.{Sweep}
 use Rattle.xm_rules.specs.declared.commands.Command.{Command}
@@ -22,7 +22,8 @@ use Rattle.xm_rules.specs.declared.orders.Side.TheVariants.{Buy, Sell}
 use Rattle.xm_rules.specs.declared.orders.Stop.{Stop}
 use Rattle.xm_rules.specs.declared.orders.Trade.{Trade}
 use Rattle.xm_rules.specs.declared.orders.TradeKind.{TradeKind}
-use Rattle.xm_rules.specs.declared.orders.Validity.TheVariants.{Day, TillCancelled}
+use Rattle.xm_rules.specs.declared.orders.TradeKind.TheVariants as made
+use Rattle.xm_rules.specs.declared.orders.Validity.TheVariants.{Day, TillDate, TillCancelled}
 use Rattle.xm_rules.specs.declared.phases.Auction.TheVariants.{Opening, Intraday, Closing, Interruption}
 use Rattle.xm_rules.specs.declared.phases.CallStage.TheVariants.{Ordinary, Interrupted}
 use Rattle.xm_rules.specs.declared.phases.Phase.{Phase}
@@ -31,6 +32,7 @@ use Rattle.xm_rules.specs.declared.replies.Refusal.{Refusal}
 use Rattle.xm_rules.specs.declared.replies.Refusal.TheVariants.{WrongPhase}
 use Rattle.xm_rules.specs.declared.replies.Reply.{Reply}
 use Rattle.xm_rules.specs.declared.settings.DeskSettings.{DeskSettings}
+use Rattle.xm_rules.specs.declared.settings.Widths.{Widths}
 
 -- a free order for the day, named by its member and reference
 abbrev pub order : ℕ → ℕ → Side → OrderKind → ℕ → Order
@@ -56,8 +58,8 @@ settings = record { today = 20260105; members = 2; tick = 1; reference = 1000; w
 abbrev pub journal : List Command → Journal
 journal commands = record { settings = settings; commands = commands }
 
-abbrev pub after : List Command → State
-after commands = replay (journal commands)
+abbrev pub state_after : List Command → State
+state_after commands = replay (journal commands)
 
 -- an opening auction without a trade, and what follows
 abbrev pub opened : List Command → List Command
@@ -65,7 +67,7 @@ opened commands = StartOpening ∷ Uncross ∷ commands
 
 -- the reply to a command that follows others
 abbrev pub answer : List Command → Command → Reply
-answer commands command = reply (after commands) (step (after commands) command)
+answer commands command = reply (state_after commands) (step (state_after commands) command)
 
 -- a state of these orders and stops, with no trade and the settings above
 abbrev pub standing : Phase → List Order → List Stop → State
@@ -105,6 +107,10 @@ queued_orders = buy 1 101 10 ∷ order 0 2 Buy Market 10 ∷ sell 1 100 5 ∷ se
 -- orders with a surplus of sells at 100 and an equal one of buys at 90
 abbrev pub crossed_orders : List Order
 crossed_orders = buy 1 100 10 ∷ buy 2 90 5 ∷ sell 1 90 10 ∷ sell 2 100 5 ∷ []
+
+-- two limits with a surplus of buys, 90 and 92, and two with an equal one of sells, 98 and 100
+abbrev pub four_candidates : List Order
+four_candidates = buy 1 100 10 ∷ buy 2 92 5 ∷ sell 1 90 10 ∷ sell 2 98 5 ∷ []
 
 -- a market order beside a limit
 abbrev pub resting_buys : List Order
@@ -236,3 +242,26 @@ wrong = Some WrongPhase
 -- the phase after a call without an order
 abbrev pub after_empty : Phase → Phase
 after_empty phase = (step (standing phase [] []) Uncross).phase
+
+-- a call in which two orders cross, after an auction trade at 92 and a later trade at 95
+abbrev pub moved_call : State
+moved_call = record (standing (Call Intraday Ordinary) (buy 1 100 10 ∷ sell 1 90 10 ∷ []) []) {
+  trades = trade (made.Auction Opening Ordinary) 1 1 92 (0, 8) (1, 8) ∷ trade made.Continuous 2 1 95 (0, 9) (1, 9) ∷ [];
+  sweeps = 2;
+}
+
+-- the widths of the dynamic, the static and the wide range
+abbrev pub widths : ℕ → ℕ → ℕ → Widths
+widths dynamic statics wide = record { dynamic = dynamic; statics = statics; wide = wide }
+
+-- the ranges around two reference prices, with widths of 40, 50 and 75 thousandths
+abbrev pub ranges_around : ℕ → ℕ → Ranges
+ranges_around last last_auction = record { ref1 = last; ref2 = last_auction; widths = widths 40 50 75 }
+
+-- a stop that is valid to the end of a date
+abbrev pub stop_till : ℕ → ℕ → Stop
+stop_till reference date = record (stop 0 reference Sell 900 Market 5) { validity = TillDate date }
+
+-- the first member bought four units at 990 from the second
+abbrev pub one_trade : List Trade
+one_trade = trade made.Continuous 1 4 990 (0, 1) (1, 1) ∷ []

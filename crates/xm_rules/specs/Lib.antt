@@ -9,6 +9,7 @@ pub mod Orders
 pub mod Priority
 pub mod Quote
 pub mod Refusals
+pub mod Settings
 pub mod Settling
 pub mod Sides
 pub mod State

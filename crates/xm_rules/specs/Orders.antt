@@ -1,9 +1,11 @@
 -- Orders: their names, their limits, and the trades between them.
-use Rattle.std.specs.Prelude.{ℕ, Bool, true, ◌&&◌, ◌==◌, not, if◌then◌else◌, List, filter, map, Option, Some, None}
+use Rattle.std.specs.Prelude.{ℕ, Bool, true, false, ◌&&◌, ◌==◌, not, if◌then◌else◌, List, filter, map, Option, Some, None}
 use Rattle.xm_rules.specs.Sides.{reaches}
 use Rattle.xm_rules.specs.declared.orders.Order.{Order}
 use Rattle.xm_rules.specs.declared.orders.OrderKind.{OrderKind}
 use Rattle.xm_rules.specs.declared.orders.OrderKind.TheVariants.{Market, Limit}
+use Rattle.xm_rules.specs.declared.orders.Restriction.{Restriction}
+use Rattle.xm_rules.specs.declared.orders.Restriction.TheVariants.{Free, OpeningOnly, AuctionsOnly, ClosingOnly}
 use Rattle.xm_rules.specs.declared.orders.Side.{Side}
 use Rattle.xm_rules.specs.declared.orders.Side.TheVariants.{Buy, Sell}
 use Rattle.xm_rules.specs.declared.orders.Stop.{Stop}
@@ -38,6 +40,18 @@ without_stops_of member stops = filter (λ (s : Stop). not (s.member == member))
 abbrev pub limit_of : OrderKind → Option ℕ
 limit_of Market = None
 limit_of (Limit p) = Some p
+
+abbrev pub same_kind : OrderKind → OrderKind → Bool
+same_kind Market Market = true
+same_kind (Limit p) (Limit q) = p == q
+same_kind _ _ = false
+
+abbrev pub same_restriction : Restriction → Restriction → Bool
+same_restriction Free Free = true
+same_restriction OpeningOnly OpeningOnly = true
+same_restriction AuctionsOnly AuctionsOnly = true
+same_restriction ClosingOnly ClosingOnly = true
+same_restriction _ _ = false
 
 -- an order of this side and kind accepts a price: a market order each, a limit order those up to its limit
 abbrev pub accepts : Side → OrderKind → ℕ → Bool

@@ -7,16 +7,24 @@ use Rattle.xm_rules.specs.declared.orders.OrderKind.{OrderKind}
 use Rattle.xm_rules.specs.declared.orders.OrderKind.TheVariants.{Market, Limit}
 use Rattle.xm_rules.specs.declared.orders.Side.{Side}
 
+-- the second limit is worse than the first
+abbrev pub is_worse_limit : Side → ℕ → ℕ → Bool
+is_worse_limit side p q = not (reaches side q p)
+
 -- market orders come first, then better limits
 abbrev pub is_better : Side → OrderKind → OrderKind → Bool
 is_better side Market Market = false
 is_better side Market (Limit q) = true
 is_better side (Limit p) Market = false
-is_better side (Limit p) (Limit q) = not (reaches side q p)
+is_better side (Limit p) (Limit q) = is_worse_limit side p q
 
--- then the earlier in the time list
+-- then the earlier ones
+abbrev pub is_prior : Side → OrderKind → OrderKind → Bool → Bool
+is_prior side kind other is_earlier = is_better side kind other || (not (is_better side other kind) && is_earlier)
+
+-- in the time list
 abbrev pub is_ahead : Side → Positioned → Positioned → Bool
-is_ahead side i j = is_better side i.order.kind j.order.kind || (not (is_better side j.order.kind i.order.kind) && nat_lt i.position j.position)
+is_ahead side i j = is_prior side i.order.kind j.order.kind (nat_lt i.position j.position)
 
 -- the units that rest ahead of an order of a side
 abbrev pub before : Side → List Positioned → Positioned → ℕ

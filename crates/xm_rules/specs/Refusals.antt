@@ -63,9 +63,9 @@ is_given_in_range None = true
 is_given_in_range (Some p) = is_in_range p
 
 -- the last price has reached this trigger
-abbrev pub has_reached : State → Side → Option ℕ → Bool
-has_reached s side None = false
-has_reached s side (Some trigger) = reaches side (ref1 s) trigger
+abbrev pub is_trigger_reached : State → Side → Option ℕ → Bool
+is_trigger_reached s side None = false
+is_trigger_reached s side (Some trigger) = reaches side (ref1 s) trigger
 
 -- where each command of the phases is allowed
 abbrev pub is_allowed : Phase → Command → Bool
@@ -93,7 +93,7 @@ own_checks s (Enter member reference side kind quantity validity restriction con
     ∷ record { fails = is_bad_combination condition kind restriction; refusal = BadCombination }
     ∷ record { fails = is_immediate condition && not (is_continuous s.phase); refusal = WrongPhase }
     ∷ record { fails = has_order s member reference || has_stop s member reference; refusal = DuplicateReference }
-    ∷ record { fails = has_reached s side (trigger_of kind); refusal = TriggerReached }
+    ∷ record { fails = is_trigger_reached s side (trigger_of kind); refusal = TriggerReached }
     ∷ []
 own_checks s (Change member reference quantity limit) =
     record { fails = is_unknown_order s member reference; refusal = UnknownOrder }

@@ -6,7 +6,7 @@ use Rattle.xm_rules.specs.Commands.{order_kind, trigger_of, outlasts}
 use Rattle.xm_rules.specs.Orders.{is_named, removed, removed_stop, with_rest, without_member, without_stops_of}
 use Rattle.xm_rules.specs.Refusals.{refusal_of}
 use Rattle.xm_rules.specs.Settling.{come, swept, sweep_of, settle}
-use Rattle.xm_rules.specs.State.{State, opening, ref1, ranges, inside_both, inside_wide}
+use Rattle.xm_rules.specs.State.{Ranges, State, opening, ref1, ranges, inside_both, inside_wide}
 use Rattle.xm_rules.specs.Sums.{total_quantity, total_money}
 use Rattle.xm_rules.specs.Sweep.{is_fillable}
 use Rattle.xm_rules.specs.declared.commands.Command.{Command}
@@ -98,18 +98,23 @@ abbrev pub traded : State → Uncrossing → State
 traded s u =
     record s { phase = next_phase u.auction; orders = orders_after_call u; trades = s.trades ++ auction_trades (s.sweeps + 1) u; sweeps = s.sweeps + 1 }
 
--- a call without a price ends without a trade, whatever its stage; a price outside a range that its stage asks leads to the next
--- stage: an ordinary call asks the dynamic and the static range, an interrupted one the wide range, an extended one none
+-- the stage to which a price outside a range that a stage asks leads: an ordinary call asks the dynamic and the static range, an
+-- interrupted one the wide range, an extended one none
+abbrev pub stage_after : Ranges → CallStage → ℕ → Option CallStage
+stage_after r Ordinary price = if inside_both r price then None else Some Interrupted
+stage_after r Interrupted price = if inside_wide r price then None else Some Extended
+stage_after r Extended price = None
+
+-- a call that has a price goes on in that stage, or else it trades and ends
+abbrev pub determined : State → Uncrossing → Option CallStage → State
+determined s u None = traded s u
+determined s u (Some stage) = record s { phase = Call u.auction stage }
+
+-- a call without a price ends without a trade, whatever its stage
 abbrev pub uncrossed_at : State → Auction → CallStage → Option (ℕ × ℕ) → State
 uncrossed_at s auction stage None = record s { phase = next_phase auction }
-uncrossed_at s auction stage (Some priced) = determined stage where
-  trade : State
-  trade = traded s (record { auction = auction; stage = stage; orders = s.orders; price = priced.0; volume = priced.1 })
-
-  determined : CallStage → State
-  determined Ordinary = if inside_both (ranges s) priced.0 then trade else record s { phase = Call auction Interrupted }
-  determined Interrupted = if inside_wide (ranges s) priced.0 then trade else record s { phase = Call auction Extended }
-  determined Extended = trade
+uncrossed_at s auction stage (Some priced) =
+    determined s (record { auction = auction; stage = stage; orders = s.orders; price = priced.0; volume = priced.1 }) (stage_after (ranges s) stage priced.0)
 
 abbrev pub uncrossed : State → Phase → State
 uncrossed s (Call auction stage) = uncrossed_at s auction stage (auction_price (Call auction stage) s.orders (ref1 s))

@@ -1,5 +1,5 @@
 -- Sums over trades: of each member, and in total.
-use Rattle.std.specs.Prelude.{ℕ, zero, suc, ◌+◌, ◌*◌, ◌<◌, ◌≤◌, ◌==◌, ℤ, pos, ◌-ℤ◌, if◌then◌else◌, List, sum_by}
+use Rattle.std.specs.Prelude.{ℕ, Bool, nat_lt, zero, suc, ◌+◌, ◌*◌, ◌<◌, ◌≤◌, ◌==◌, ℤ, pos, ◌-ℤ◌, if◌then◌else◌, List, sum_by}
 use Rattle.xm_rules.specs.declared.orders.Trade.{Trade}
 use Rattle.xm_rules.specs.declared.totals.TheConstants.{MAX_TRADED_MONEY, MAX_TRADED_QUANTITY}
 
@@ -18,6 +18,10 @@ paid member trades = sum_by (λ (t : Trade). if t.buyer == member then money_of 
 
 abbrev pub received : ℕ → List Trade → ℕ
 received member trades = sum_by (λ (t : Trade). if t.seller == member then money_of t else 0) trades
+
+-- a member bought or sold a unit
+abbrev pub has_traded : ℕ → List Trade → Bool
+has_traded member trades = nat_lt 0 (bought member trades + sold member trades)
 
 -- in units: what a member bought less what it sold
 abbrev pub net : ℕ → List Trade → ℤ

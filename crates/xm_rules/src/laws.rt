@@ -145,12 +145,13 @@ pub fn lawful_journals_hold_no_refused_command()
 {}
 
 /// A lawful journal trades no more than a million units for each command of members that it takes, since no command brings in
-/// more. So where that is no more than a journal may take, and no trade is above the highest price, as a desk's types keep, its
-/// trades are within the limits of a day.
+/// more. Its opening reference is in range, as that of each desk is, and so are the limits that its checks let in: so no trade is
+/// above the highest price. Where its limit is one that a journal may have, its trades are within the limits of a day.
 pub fn lawful_journals_stay_within_the_limits_of_a_day()
     ensures quantity { (j : Journal) → is_lawful j ≡ true → total_quantity (replay j).trades ≤ MAX_QUANTITY * j.settings.limit }
-    ensures limits { (j : Journal) → is_lawful j ≡ true → j.settings.limit ≤ MAX_JOURNAL_LIMIT
-        → All (λ (t : Trade). t.price ≤ MAX_PRICE) (replay j).trades → AreWithinLimits (replay j).trades }
+    ensures prices { (j : Journal) → is_lawful j ≡ true → j.settings.reference ≤ MAX_PRICE → All (λ (t : Trade). t.price ≤ MAX_PRICE) (replay j).trades }
+    ensures limits { (j : Journal) → is_lawful j ≡ true → j.settings.limit ≤ MAX_JOURNAL_LIMIT → j.settings.reference ≤ MAX_PRICE
+        → AreWithinLimits (replay j).trades }
 {}
 
 /// Each live order and each held stop of a lawful journal is of a member that the desk knows, and each trade is between two of

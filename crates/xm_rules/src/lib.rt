@@ -13,6 +13,6 @@ mod totals;
 pub use commands::{Command, Condition, Kind, MAX_NUMBER, is_given_in_range, is_in_range};
 pub use orders::{Order, OrderKind, Restriction, Side, Stop, Trade, TradeKind, Validity};
 pub use phases::{Auction, CallStage, Phase};
-pub use replies::{OutOfMemory, Quote, Refusal, Reply, Totals};
+pub use replies::{Quote, Refusal, Reply, Totals};
 pub use settings::{DeskSettings, PHASE_COMMANDS_MORE, Widths};
-pub use totals::{MAX_TRADED_MONEY, MAX_TRADED_QUANTITY, total_money, total_quantity};
+pub use totals::{MAX_TRADED_MONEY, MAX_TRADED_QUANTITY, last_price, total_money, total_quantity};

@@ -1,14 +1,15 @@
 //! Orders, stops and trades.
-ghost use Rattle.std.specs.Prelude.{◌≡◌, ◌&&◌, IsTrue};
+ghost use Rattle.std.specs.Prelude.{◌≡◌, ◌&&◌, IsTrue, Some};
 ghost use Rattle.xm_rules.specs.Active.{is_active};
 ghost use Rattle.xm_rules.specs.Commands.{is_over, outlasts};
 ghost use Rattle.xm_rules.specs.Orders.{accepts, limit_of, meets, trade_between};
 ghost use Rattle.xm_rules.specs.Priority.{is_better};
-ghost use Rattle.xm_rules.specs.Refusals.{is_given_in_range};
+ghost use Rattle.xm_rules.specs.Refusals.{is_given_in_range, is_limit_for_market};
 ghost use Rattle.xm_rules.specs.Settling.{is_free, is_reached, order_of_stop};
 ghost use Rattle.xm_rules.specs.Sides.{opposite, reaches, same_side};
 ghost use Rattle.xm_rules.specs.State.{is_auction};
 ghost use Rattle.xm_rules.specs.Step.{changed_kind, changed_order, keeps_priority, same_limit};
+ghost use Rattle.xm_rules.specs.Sums.{money_of};
 
 use crate::phases::{Auction, CallStage, Phase};
 use xm_ticks::Price;
@@ -215,6 +216,13 @@ impl Order {
         self.kind.same_limit(limit) && quantity <= self.rest
     }
 
+    /// Whether a change that gives this limit, or none, would give one to a market order.
+    pub fn is_limit_for_market(&self, limit: Option<u32>) -> bool
+        ensures { result ≡ is_limit_for_market limit (Some self.now) }
+    {
+        limit.is_some() && self.kind == OrderKind::Market
+    }
+
     /// The order that comes in again after such a change, whose limit is in range.
     pub fn changed_order(&self, quantity: u32, limit: Option<u32>) -> Order
         requires { IsTrue (is_given_in_range limit) }
@@ -331,5 +339,11 @@ impl Trade {
             seller: sell.member,
             sell_ref: sell.reference,
         }
+    }
+    /// The money that it moves, in ticks times units.
+    pub fn money_of(&self) -> u64
+        ensures { result ≡ money_of self.now }
+    {
+        u64::from(self.price.get()) * u64::from(self.quantity)
     }
 }

@@ -2,7 +2,7 @@
 ghost use Rattle.std.specs.Prelude.{◌≡◌};
 
 use crate::phases::Phase;
-use std::alloc::{AllocError, AllocFailed};
+use xm_memory::OutOfMemory;
 use xm_ticks::Price;
 
 /// Why a command is refused, in the order of the checks. A refusal changes nothing.
@@ -36,42 +36,16 @@ pub enum Refusal {
     /// The journal has taken all the commands that it takes.
     JournalFull,
     /// A growth was refused.
-    OutOfMemory,
-}
-
-/// A growth was refused.
-#[derive(Clone, Copy, PartialEq, Eq, Hash, Debug)]
-pub struct OutOfMemory;
-
-impl From<AllocError> for OutOfMemory {
-    fn from(_error: AllocError) -> OutOfMemory {
-        OutOfMemory
-    }
-}
-
-impl<T: Drop> From<AllocFailed<T>> for OutOfMemory {
-    fn from(_error: AllocFailed<T>) -> OutOfMemory {
-        OutOfMemory
-    }
-}
-
-impl From<AllocError> for Refusal {
-    ghost use Rattle.xm_rules.specs.declared.replies.Refusal.TheVariants.{OutOfMemory};
-
-    ghost from_gives = { λ _ refusal. refusal ≡ OutOfMemory };
-
-    fn from(_error: AllocError) -> Refusal {
-        Refusal::OutOfMemory
-    }
+    OutOfMemory(OutOfMemory),
 }
 
 impl From<OutOfMemory> for Refusal {
     ghost use Rattle.xm_rules.specs.declared.replies.Refusal.TheVariants.{OutOfMemory};
 
-    ghost from_gives = { λ _ refusal. refusal ≡ OutOfMemory };
+    ghost from_gives = { λ _ refusal. refusal ≡ OutOfMemory tt };
 
-    fn from(_error: OutOfMemory) -> Refusal {
-        Refusal::OutOfMemory
+    fn from(error: OutOfMemory) -> Refusal {
+        Refusal::OutOfMemory(error)
     }
 }
 

@@ -1,11 +1,15 @@
 //! The settings of a security for its day.
-ghost use Rattle.std.specs.Prelude.{ℕ, ◌≡◌, ◌≤◌};
+ghost use Rattle.std.specs.Prelude.{ℕ, ◌≡◌, ◌≤◌, true};
+ghost use Rattle.xm_rules.specs.Settings.{are_widths, is_width};
 ghost use Rattle.xm_rules.specs.State.{inside_both, inside_wide};
+ghost use Rattle.xm_rules.specs.Step.{stage_after};
+ghost use Rattle.xm_ticks.specs.declared.ranges.TheConstants.{MAX_WIDTH};
 
-use xm_ticks::{JournalLimit, Price, TickSize, inside};
+use crate::phases::CallStage;
+use xm_ticks::{JournalLimit, MAX_WIDTH, Price, TickSize, inside};
 
 /// The widths of the price ranges in thousandths of their reference price. A desk opens only with
-/// each within 1 to 999 and `dynamic` below `wide`.
+/// each within 1 to `MAX_WIDTH` and `dynamic` below `wide`.
 #[derive(Clone, Copy, PartialEq, Eq, Hash, Debug)]
 pub struct Widths {
     /// Of the range around the price of the last trade.
@@ -17,11 +21,21 @@ pub struct Widths {
 }
 
 impl Widths {
+    /// Whether each is 1 to `MAX_WIDTH` thousandths and the dynamic range is narrower than the wide one.
+    pub fn are_widths(&self) -> bool
+        ensures { result ≡ are_widths self.now }
+    {
+        is_width(self.dynamic)
+            && is_width(self.statics)
+            && is_width(self.wide)
+            && self.dynamic < self.wide
+    }
+
     /// Whether a price is inside both the dynamic range, around the price of the last trade, and the static range, around
     /// that of the last auction trade. The edges are inside.
     pub fn is_inside_both(&self, ref1: Price, ref2: Price, price: Price) -> bool
-        requires dynamic { self.now.dynamic ≤ 999 }
-        requires statics { self.now.statics ≤ 999 }
+        requires dynamic { self.now.dynamic ≤ MAX_WIDTH }
+        requires statics { self.now.statics ≤ MAX_WIDTH }
         ensures { result ≡ inside_both (record { ref1 = ref1; ref2 = ref2; widths = self.now }) price }
     {
         inside(price, ref1, self.dynamic) && inside(price, ref2, self.statics)
@@ -30,11 +44,49 @@ impl Widths {
     /// Whether a price is inside the wide range around the price of the last trade, whatever that of the last auction
     /// trade. The edges are inside.
     pub fn is_inside_wide(&self, ref1: Price, price: Price) -> bool
-        requires { self.now.wide ≤ 999 }
+        requires { self.now.wide ≤ MAX_WIDTH }
         ensures { (ref2 : ℕ) → result ≡ inside_wide (record { ref1 = ref1; ref2 = ref2; widths = self.now }) price }
     {
         inside(price, ref1, self.wide)
     }
+
+    /// The stage in which a call goes on whose price is outside a range that its stage asks; nothing where it is inside
+    /// each, and the call ends.
+    pub fn stage_after(
+        &self,
+        ref1: Price,
+        ref2: Price,
+        stage: CallStage,
+        price: Price,
+    ) -> Option<CallStage>
+        requires { are_widths self.now ≡ true }
+        ensures { result ≡ stage_after (record { ref1 = ref1; ref2 = ref2; widths = self.now }) stage price }
+    {
+        match stage {
+            CallStage::Ordinary => {
+                if self.is_inside_both(ref1, ref2, price) {
+                    None
+                } else {
+                    Some(CallStage::Interrupted)
+                }
+            }
+            CallStage::Interrupted => {
+                if self.is_inside_wide(ref1, price) {
+                    None
+                } else {
+                    Some(CallStage::Extended)
+                }
+            }
+            CallStage::Extended => None,
+        }
+    }
+}
+
+/// Whether a width is 1 to `MAX_WIDTH` thousandths.
+fn is_width(width: u32) -> bool
+    ensures { result ≡ is_width width }
+{
+    1 <= width && width <= MAX_WIDTH
 }
 
 /// How many commands a journal takes of the phases beyond its limit, which is that of members.

@@ -8,9 +8,8 @@ mod reading;
 mod writing;
 
 pub use numbers::{
-    JournalLimit, MAX_JOURNAL_LIMIT, MAX_PRICE, MAX_QUANTITY, MAX_TICK_SIZE, Price, Quantity,
-    TickSize,
+    JournalLimit, MAX_JOURNAL_LIMIT, MAX_PRICE, MAX_QUANTITY, MAX_TICK_SIZE, Price, TickSize,
 };
-pub use ranges::inside;
+pub use ranges::{MAX_WIDTH, inside};
 pub use reading::{MAX_NUMBER_LENGTH, PriceFault, read_number, read_price};
 pub use writing::{write_money, write_price, write_whole};

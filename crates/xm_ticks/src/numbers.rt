@@ -1,6 +1,7 @@
 //! The numbers of the market model that have a range. A clause sees each as its number.
 ghost use Rattle.std.specs.Prelude.{◌≡◌, ℕ, ◌≤◌, SomeIff};
-ghost use Rattle.xm_ticks.specs.declared.numbers.TheConstants.{MAX_PRICE, MAX_QUANTITY, MAX_TICK_SIZE, MAX_JOURNAL_LIMIT};
+ghost use Rattle.xm_ticks.specs.Ranges.{kept_between};
+ghost use Rattle.xm_ticks.specs.declared.numbers.TheConstants.{MAX_PRICE, MAX_TICK_SIZE, MAX_JOURNAL_LIMIT};
 
 use std::marker::Model;
 
@@ -52,43 +53,19 @@ impl Price {
     {
         self.ticks
     }
-}
 
-/// A quantity, 1 to `MAX_QUANTITY` units of its security.
-#[derive(Clone, Copy, PartialEq, Eq, PartialOrd, Ord, Hash, Debug)]
-pub struct Quantity {
-    units: u32,
-}
-
-impl Model for Quantity {
-    ghost Value = { ℕ };
-
-    ghost view = { λ q. q.units };
-
-    ghost invariant = { λ q. (1 ≤ q.units) × (q.units ≤ MAX_QUANTITY) };
-
-    ghost inverse = { λ n. record { units = n } };
-}
-
-impl Quantity {
-    /// The quantity of this many units, if they are in range.
-    pub fn new(units: u32) -> Option<Quantity>
-        ensures { SomeIff result ((1 ≤ units) × (units ≤ MAX_QUANTITY)) units }
+    /// This price, kept between two others: the low one where it is no higher than that, the high one where it is no
+    /// lower than that.
+    pub fn kept_between(self, low: Price, high: Price) -> Price
+        ensures { result ≡ kept_between low high self }
     {
-        if (1..=MAX_QUANTITY).contains(&units) {
-            Some(Quantity { units })
+        if self.ticks <= low.ticks {
+            low
+        } else if high.ticks <= self.ticks {
+            high
         } else {
-            None
+            self
         }
-    }
-
-    /// The number of units.
-    pub fn get(self) -> u32
-        ensures value { result ≡ self }
-        ensures low { 1 ≤ result }
-        ensures high { result ≤ MAX_QUANTITY }
-    {
-        self.units
     }
 }
 

@@ -1,13 +1,17 @@
 //! Price ranges.
 ghost use Rattle.std.specs.Prelude.{◌≡◌, ◌≤◌};
 ghost use Rattle.xm_ticks.specs.Ranges.{inside};
+ghost use Rattle.xm_ticks.specs.declared.ranges.TheConstants.{MAX_WIDTH};
 
 use crate::numbers::Price;
+
+/// The width of the widest range, in thousandths of its reference price.
+pub const MAX_WIDTH: u32 = 999;
 
 /// Whether a price is inside the range of this width, in thousandths, around a reference price.
 /// The edges are inside.
 pub fn inside(price: Price, reference: Price, width: u32) -> bool
-    requires { width ≤ 999 }
+    requires { width ≤ MAX_WIDTH }
     ensures { result ≡ inside price reference width }
 {
     let distance = price.get().abs_diff(reference.get());

@@ -1,18 +1,23 @@
 //! Who takes part in a call, its price, and who trades with whom.
 #![tactic(auto, unfolding(crate::specs::Refusals::refusal_of, crate::specs::Step::step, crate::specs::Step::reply, crate::specs::Step::replay, crate::specs::Step::is_lawful))]
 
-ghost use Rattle.std.specs.Prelude.{◌≡◌, [], ◌∷◌, Some, None, true, false};
+ghost use Rattle.std.specs.Prelude.{◌≡◌, [], ◌∷◌, ◌++◌, Some, None, true, false};
 ghost use Rattle.xm_rules.specs.Active.{is_active};
 ghost use Rattle.xm_rules.specs.Allotment.{auction_trades, orders_after_call};
 ghost use Rattle.xm_rules.specs.Auction.{auction_price};
-ghost use Rattle.xm_rules.specs.Examples.{takes_part_in, crossed_orders, four_orders, queued_orders, order, buy, sell, trade, uncrossing};
+ghost use Rattle.xm_rules.specs.Examples.{takes_part_in, crossed_orders, four_candidates, four_orders, moved_call, queued_orders, order, buy, ranges_around, references, sell, trade, uncrossing, widths};
+ghost use Rattle.xm_rules.specs.Quote.{indicative};
+ghost use Rattle.xm_rules.specs.Settings.{are_widths};
+ghost use Rattle.xm_rules.specs.State.{inside_both, inside_wide};
+ghost use Rattle.xm_rules.specs.Step.{stage_after, step};
+ghost use Rattle.xm_rules.specs.declared.commands.Command.TheVariants.{Uncross};
 ghost use Rattle.xm_rules.specs.declared.orders.OrderKind.TheVariants.{Market, Limit};
 ghost use Rattle.xm_rules.specs.declared.orders.Restriction.TheVariants.{Free, OpeningOnly, AuctionsOnly, ClosingOnly};
 ghost use Rattle.xm_rules.specs.declared.orders.Side.TheVariants.{Buy, Sell};
 ghost use Rattle.xm_rules.specs.declared.orders.TradeKind.TheVariants as made;
-ghost use Rattle.xm_rules.specs.declared.phases.Auction.TheVariants.{Opening};
-ghost use Rattle.xm_rules.specs.declared.phases.CallStage.TheVariants.{Ordinary, Extended};
-ghost use Rattle.xm_rules.specs.declared.phases.Phase.TheVariants.{Call};
+ghost use Rattle.xm_rules.specs.declared.phases.Auction.TheVariants.{Opening, Intraday};
+ghost use Rattle.xm_rules.specs.declared.phases.CallStage.TheVariants.{Ordinary, Interrupted, Extended};
+ghost use Rattle.xm_rules.specs.declared.phases.Phase.TheVariants.{Call, Continuous};
 
 /// In which phases an order takes part: before the day, the opening call, continuous trading, an intraday call, one after
 /// an interruption, the closing call, post-trading, and after the day. The stage of a call doesn't matter.
@@ -58,6 +63,48 @@ pub fn reference_decides_between_limits()
     ensures above { auction_price (Call Opening Ordinary) crossed_orders 105 ≡ Some (100, 10) }
     ensures below { auction_price (Call Opening Ordinary) crossed_orders 80 ≡ Some (90, 10) }
     ensures no_surplus { auction_price (Call Opening Ordinary) (buy 1 100 10 ∷ sell 1 90 10 ∷ []) 95 ≡ Some (95, 10) }
+{}
+
+/// Where some of the limits of equal volume and surplus have a surplus of buys and the others one of sells, the last price
+/// decides between the highest of the first and the lowest of the second.
+pub fn last_price_decides_between_surpluses()
+    ensures below { auction_price (Call Opening Ordinary) four_candidates 91 ≡ Some (92, 10) }
+    ensures between { auction_price (Call Opening Ordinary) four_candidates 95 ≡ Some (95, 10) }
+    ensures above { auction_price (Call Opening Ordinary) four_candidates 99 ≡ Some (98, 10) }
+{}
+
+/// Where the last price decides, it is that of the last trade, and not of the last auction trade: so it is shown while the
+/// call goes on, and so the call ends. Outside a call nothing is shown.
+pub fn last_trade_decides_the_price()
+    ensures references { references moved_call ≡ (95, 92) }
+    ensures shown { indicative moved_call ≡ Some (95, 10) }
+    ensures outside { indicative (record moved_call { phase = Continuous }) ≡ None }
+    ensures ended { (step moved_call Uncross).trades ≡ moved_call.trades ++ trade (made.Auction Intraday Ordinary) 3 10 95 (0, 1) (1, 1) ∷ [] }
+{}
+
+/// Each range has its own width and its own reference price; the edges are inside.
+pub fn each_range_has_its_width()
+    ensures dynamic_edge { inside_both (ranges_around 1000 1000) 1040 ≡ true }
+    ensures dynamic_outside { inside_both (ranges_around 1000 1000) 1041 ≡ false }
+    ensures static_edge { inside_both (ranges_around 1040 1000) 1050 ≡ true }
+    ensures static_outside { inside_both (ranges_around 1040 1000) 1051 ≡ false }
+    ensures wide_edge { inside_wide (ranges_around 1000 1200) 1075 ≡ true }
+    ensures wide_outside { inside_wide (ranges_around 1000 1200) 1076 ≡ false }
+    ensures wide_edge_below { inside_wide (ranges_around 1000 1200) 925 ≡ true }
+    ensures wide_outside_below { inside_wide (ranges_around 1000 1200) 924 ≡ false }
+    ensures interrupted_inside { stage_after (ranges_around 1000 1200) Interrupted 1075 ≡ None }
+    ensures interrupted_outside { stage_after (ranges_around 1000 1200) Interrupted 1076 ≡ Some Extended }
+{}
+
+/// Each width is 1 to 999 thousandths, and the dynamic range is narrower than the wide one.
+pub fn widths_at_their_limits()
+    ensures narrowest { are_widths (widths 1 1 2) ≡ true }
+    ensures widest { are_widths (widths 998 999 999) ≡ true }
+    ensures no_dynamic { are_widths (widths 0 50 40) ≡ false }
+    ensures no_static { are_widths (widths 20 0 40) ≡ false }
+    ensures high_static { are_widths (widths 20 1000 40) ≡ false }
+    ensures high_wide { are_widths (widths 20 50 1000) ≡ false }
+    ensures dynamic_as_wide { are_widths (widths 40 50 40) ≡ false }
 {}
 
 /// Market orders alone are executed at the reference, and beside one limit at that limit: they set no limit themselves.

@@ -47,6 +47,19 @@ pub fn refusals_of_an_entry()
     ensures last_of_the_journal { refusal_of (with_accepted 999) (enter 0 9 Buy (kind.Limit 1000) 10) ≡ None }
 {}
 
+/// A limit and a trigger are 1 to 1,000,000 ticks, also the limit of a stop's order and one that a change gives.
+pub fn prices_at_their_limits()
+    ensures lowest { refusal_of in_call (enter 0 9 Buy (kind.Limit 1) 10) ≡ None }
+    ensures lowest_trigger { refusal_of in_call (enter 0 9 Sell (kind.StopLimit 1 1000000) 10) ≡ None }
+    ensures highest_trigger { refusal_of in_call (enter 0 9 Buy (kind.StopLimit 1000000 1) 10) ≡ None }
+    ensures no_stop_limit { refusal_of in_call (enter 0 9 Sell (kind.StopLimit 990 0) 10) ≡ Some BadPrice }
+    ensures no_stop_limit_trigger { refusal_of in_call (enter 0 9 Sell (kind.StopLimit 0 990) 10) ≡ Some BadPrice }
+    ensures high_stop_trigger { refusal_of in_call (enter 0 9 Buy (kind.StopMarket 1000001) 10) ≡ Some BadPrice }
+    ensures lowest_given { refusal_of in_call (Change 0 1 5 (Some 1)) ≡ None }
+    ensures highest_given { refusal_of in_call (Change 0 1 5 (Some 1000000)) ≡ None }
+    ensures high_given { refusal_of in_call (Change 0 1 5 (Some 1000001)) ≡ Some BadPrice }
+{}
+
 /// The refusals of a change and of cancellations.
 pub fn refusals_of_changes_and_cancellations()
     ensures changed { refusal_of in_call (Change 0 1 5 (Some 1000)) ≡ None }

@@ -2,7 +2,7 @@
 #![tactic(auto, unfolding(crate::specs::Refusals::refusal_of, crate::specs::Step::step, crate::specs::Step::reply, crate::specs::Step::replay, crate::specs::Step::is_lawful))]
 
 ghost use Rattle.std.specs.Prelude.{◌≡◌, [], ◌∷◌, ◌++◌, true, Some};
-ghost use Rattle.xm_rules.specs.Examples.{open_spread, references, order, enter, trade, settings, journal, after, answer, distant_call, drifted_call, waiting_order, call_price, after_empty};
+ghost use Rattle.xm_rules.specs.Examples.{open_spread, references, order, enter, trade, settings, journal, state_after, answer, distant_call, drifted_call, waiting_order, call_price, after_empty};
 ghost use Rattle.xm_rules.specs.Step.{is_lawful};
 ghost use Rattle.xm_rules.specs.declared.commands.Command.TheVariants.{Cancel, StartOpening, StartIntraday, StartClosing, Uncross};
 ghost use Rattle.xm_rules.specs.declared.commands.Kind.TheVariants as kind;
@@ -17,7 +17,7 @@ ghost use Rattle.xm_rules.specs.declared.phases.Phase.TheVariants.{Call, Continu
 /// An opening auction without a price leads to continuous trading all the same, and takes no sweep number; so does a
 /// closing one to post-trading.
 pub fn auction_without_a_price()
-    ensures state { after (open_spread ++ Uncross ∷ []) ≡ record {
+    ensures state { state_after (open_spread ++ Uncross ∷ []) ≡ record {
       settings = settings;
       accepted = 4;
       phase = Continuous;
@@ -41,7 +41,7 @@ pub fn extended_auction()
         ≡ record { version = 5; first_trade = 0; trades = 0; quantity = 0; money = 0; phase = Call Opening Extended } }
     ensures third { answer (distant_call ++ Uncross ∷ Uncross ∷ []) Uncross
         ≡ record { version = 6; first_trade = 0; trades = 1; quantity = 10; money = 11000; phase = Continuous } }
-    ensures state { after (distant_call ++ Uncross ∷ Uncross ∷ Uncross ∷ []) ≡ record {
+    ensures state { state_after (distant_call ++ Uncross ∷ Uncross ∷ Uncross ∷ []) ≡ record {
       settings = settings;
       accepted = 6;
       phase = Continuous;
@@ -50,19 +50,19 @@ pub fn extended_auction()
       trades = trade (made.Auction Opening Extended) 1 10 1100 (0, 1) (1, 1) ∷ [];
       sweeps = 1;
     } }
-    ensures references { references (after (distant_call ++ Uncross ∷ Uncross ∷ Uncross ∷ [])) ≡ (1100, 1100) }
+    ensures references { references (state_after (distant_call ++ Uncross ∷ Uncross ∷ Uncross ∷ [])) ≡ (1100, 1100) }
 {}
 
 /// What a call would trade at doesn't depend on its stage.
 pub fn price_in_each_stage()
-    ensures ordinary { call_price (after distant_call) ≡ Some (1100, 10) }
-    ensures interrupted { call_price (after (distant_call ++ Uncross ∷ [])) ≡ Some (1100, 10) }
-    ensures extended { call_price (after (distant_call ++ Uncross ∷ Uncross ∷ [])) ≡ Some (1100, 10) }
+    ensures ordinary { call_price (state_after distant_call) ≡ Some (1100, 10) }
+    ensures interrupted { call_price (state_after (distant_call ++ Uncross ∷ [])) ≡ Some (1100, 10) }
+    ensures extended { call_price (state_after (distant_call ++ Uncross ∷ Uncross ∷ [])) ≡ Some (1100, 10) }
 {}
 
 /// An interrupted or an extended call without a price ends without a trade, as an ordinary one does.
 pub fn later_stages_without_a_price()
-    ensures interrupted { after (distant_call ++ Uncross ∷ Cancel 1 1 ∷ Uncross ∷ []) ≡ record {
+    ensures interrupted { state_after (distant_call ++ Uncross ∷ Cancel 1 1 ∷ Uncross ∷ []) ≡ record {
       settings = settings;
       accepted = 6;
       phase = Continuous;
@@ -71,7 +71,7 @@ pub fn later_stages_without_a_price()
       trades = [];
       sweeps = 0;
     } }
-    ensures extended { after (distant_call ++ Uncross ∷ Uncross ∷ Cancel 1 1 ∷ Uncross ∷ []) ≡ record {
+    ensures extended { state_after (distant_call ++ Uncross ∷ Uncross ∷ Cancel 1 1 ∷ Uncross ∷ []) ≡ record {
       settings = settings;
       accepted = 7;
       phase = Continuous;
@@ -95,8 +95,8 @@ pub fn static_range_interrupts_a_call()
     ensures first { answer drifted_call Uncross ≡ record { version = 10; first_trade = 2; trades = 0; quantity = 0; money = 0; phase = Call Intraday Interrupted } }
     ensures second { answer (drifted_call ++ Uncross ∷ []) Uncross
         ≡ record { version = 11; first_trade = 2; trades = 1; quantity = 10; money = 10550; phase = Continuous } }
-    ensures references_before { references (after drifted_call) ≡ (1040, 1000) }
-    ensures state { after (drifted_call ++ Uncross ∷ Uncross ∷ []) ≡ record {
+    ensures references_before { references (state_after drifted_call) ≡ (1040, 1000) }
+    ensures state { state_after (drifted_call ++ Uncross ∷ Uncross ∷ []) ≡ record {
       settings = settings;
       accepted = 11;
       phase = Continuous;
@@ -107,12 +107,12 @@ pub fn static_range_interrupts_a_call()
           ∷ trade (made.Auction Intraday Interrupted) 5 10 1055 (0, 3) (1, 3) ∷ [];
       sweeps = 5;
     } }
-    ensures references { references (after (drifted_call ++ Uncross ∷ Uncross ∷ [])) ≡ (1055, 1055) }
+    ensures references { references (state_after (drifted_call ++ Uncross ∷ Uncross ∷ [])) ≡ (1055, 1055) }
 {}
 
 /// A sell for auctions alone isn't met in continuous trading, and is in the next auction.
 pub fn auction_order_waits()
-    ensures waits { after waiting_order ≡ record {
+    ensures waits { state_after waiting_order ≡ record {
       settings = settings;
       accepted = 4;
       phase = Continuous;
@@ -121,7 +121,7 @@ pub fn auction_order_waits()
       trades = [];
       sweeps = 1;
     } }
-    ensures traded { after (waiting_order ++ StartIntraday ∷ Uncross ∷ []) ≡ record {
+    ensures traded { state_after (waiting_order ++ StartIntraday ∷ Uncross ∷ []) ≡ record {
       settings = settings;
       accepted = 6;
       phase = Continuous;

@@ -2,7 +2,7 @@
 #![tactic(auto, unfolding(crate::specs::Refusals::refusal_of, crate::specs::Step::step, crate::specs::Step::reply, crate::specs::Step::replay, crate::specs::Step::is_lawful))]
 
 ghost use Rattle.std.specs.Prelude.{◌≡◌, [], ◌∷◌, ◌++◌, true, false};
-ghost use Rattle.xm_rules.specs.Examples.{distant_book, distant_sell, distant_sells, falling_buys, resting_buys, resting_sells, references, order, stop, enter, buy, sell, trade, settings, journal, after, opened, answer, sweep, cascade_book, full_cascade_book, cut_cascade_book, falling_sell};
+ghost use Rattle.xm_rules.specs.Examples.{distant_book, distant_sell, distant_sells, falling_buys, resting_buys, resting_sells, references, order, stop, enter, buy, sell, trade, settings, journal, state_after, opened, answer, sweep, cascade_book, full_cascade_book, cut_cascade_book, falling_sell};
 ghost use Rattle.xm_rules.specs.Step.{is_lawful};
 ghost use Rattle.xm_rules.specs.Sweep.{sweep_trades, rest_after, is_interrupted, is_fillable, orders_after_sweep};
 ghost use Rattle.xm_rules.specs.declared.commands.Command.TheVariants.{Enter, Uncross};
@@ -44,7 +44,7 @@ pub fn market_sell_is_met()
 /// A sell against a resting market buy at a price outside the dynamic range interrupts trading; the auction that follows
 /// is held to the wide range, and trades at the sell's limit.
 pub fn interruption_after_a_market_sweep()
-    ensures interrupted { after distant_sell ≡ record {
+    ensures interrupted { state_after distant_sell ≡ record {
       settings = settings;
       accepted = 5;
       phase = Call Interruption Interrupted;
@@ -53,7 +53,7 @@ pub fn interruption_after_a_market_sweep()
       trades = [];
       sweeps = 3;
     } }
-    ensures uncrossed { after (distant_sell ++ Uncross ∷ []) ≡ record {
+    ensures uncrossed { state_after (distant_sell ++ Uncross ∷ []) ≡ record {
       settings = settings;
       accepted = 6;
       phase = Continuous;
@@ -62,7 +62,7 @@ pub fn interruption_after_a_market_sweep()
       trades = trade (made.Auction Interruption Interrupted) 4 10 1030 (0, 2) (1, 1) ∷ [];
       sweeps = 4;
     } }
-    ensures references { references (after (distant_sell ++ Uncross ∷ [])) ≡ (1030, 1030) }
+    ensures references { references (state_after (distant_sell ++ Uncross ∷ [])) ≡ (1030, 1030) }
     ensures reply { answer distant_sell Uncross
         ≡ record { version = 6; first_trade = 0; trades = 1; quantity = 10; money = 10300; phase = Continuous } }
 {}
@@ -77,7 +77,7 @@ pub fn fok_then_ioc()
     ensures interrupted { is_interrupted (sweep distant_sells (buy 1 1030 30)) ≡ true }
     ensures killed { answer distant_book (Enter 0 1 Buy (kind.Limit 1030) 30 Day Free Fok)
         ≡ record { version = 5; first_trade = 0; trades = 0; quantity = 0; money = 0; phase = Continuous } }
-    ensures filled { after (distant_book ++ Enter 0 1 Buy (kind.Limit 1030) 10 Day Free Fok ∷ []) ≡ record {
+    ensures filled { state_after (distant_book ++ Enter 0 1 Buy (kind.Limit 1030) 10 Day Free Fok ∷ []) ≡ record {
       settings = settings;
       accepted = 5;
       phase = Continuous;
@@ -86,8 +86,8 @@ pub fn fok_then_ioc()
       trades = trade made.Continuous 3 10 1010 (0, 1) (1, 1) ∷ [];
       sweeps = 3;
     } }
-    ensures rest_deleted { after (distant_book ++ Enter 0 1 Buy (kind.Limit 1010) 15 Day Free Ioc ∷ []) ≡ after (distant_book ++ Enter 0 1 Buy (kind.Limit 1030) 10 Day Free Fok ∷ []) }
-    ensures after_both { after (distant_book ++ Enter 0 1 Buy (kind.Limit 1030) 30 Day Free Fok
+    ensures rest_deleted { state_after (distant_book ++ Enter 0 1 Buy (kind.Limit 1010) 15 Day Free Ioc ∷ []) ≡ state_after (distant_book ++ Enter 0 1 Buy (kind.Limit 1030) 10 Day Free Fok ∷ []) }
+    ensures after_both { state_after (distant_book ++ Enter 0 1 Buy (kind.Limit 1030) 30 Day Free Fok
         ∷ Enter 0 1 Buy (kind.Limit 1030) 30 Day Free Ioc ∷ []) ≡ record {
           settings = settings;
           accepted = 6;
@@ -121,7 +121,7 @@ pub fn earlier_order_first()
 
 /// The static range is asked in a sweep too: at a last price of 1040 and a last auction price of 1000, 1055 is outside.
 pub fn static_range_stops_a_sweep()
-    ensures state { after (opened (enter 1 1 Sell (kind.Limit 1020) 1 ∷ enter 0 1 Buy (kind.Limit 1020) 1 ∷ enter 1 2 Sell (kind.Limit 1040) 1 ∷ enter 0 2 Buy (kind.Limit 1040) 1
+    ensures state { state_after (opened (enter 1 1 Sell (kind.Limit 1020) 1 ∷ enter 0 1 Buy (kind.Limit 1020) 1 ∷ enter 1 2 Sell (kind.Limit 1040) 1 ∷ enter 0 2 Buy (kind.Limit 1040) 1
         ∷ enter 1 3 Sell (kind.Limit 1055) 10 ∷ enter 0 3 Buy (kind.Limit 1055) 10 ∷ [])) ≡ record {
           settings = settings;
           accepted = 8;
@@ -146,7 +146,7 @@ pub fn first_sweep_of_the_cascade()
 /// executed at 985, and reaches the second.
 pub fn cascade()
     ensures lawful { is_lawful (journal (cascade_book ++ falling_sell ∷ [])) ≡ true }
-    ensures state { after (cascade_book ++ falling_sell ∷ []) ≡ record {
+    ensures state { state_after (cascade_book ++ falling_sell ∷ []) ≡ record {
       settings = settings;
       accepted = 8;
       phase = Continuous;
@@ -157,23 +157,23 @@ pub fn cascade()
           ∷ trade made.Continuous 6 5 985 (0, 3) (1, 2) ∷ [];
       sweeps = 6;
     } }
-    ensures references { references (after (cascade_book ++ falling_sell ∷ [])) ≡ (985, 1000) }
+    ensures references { references (state_after (cascade_book ++ falling_sell ∷ [])) ≡ (985, 1000) }
     ensures reply { answer cascade_book falling_sell ≡ record { version = 8; first_trade = 0; trades = 4; quantity = 60; money = 59350; phase = Continuous } }
 {}
 
 /// Stops come in in the order in which they are reached: the one reached at 985 after the two reached at 990.
 pub fn stops_come_in_as_they_are_reached()
-    ensures trades { (after (full_cascade_book ++ falling_sell ∷ [])).trades
+    ensures trades { (state_after (full_cascade_book ++ falling_sell ∷ [])).trades
         ≡ trade made.Continuous 4 10 1000 (0, 1) (1, 3) ∷ trade made.Continuous 4 20 990 (0, 2) (1, 3) ∷ trade made.Continuous 5 25 985 (0, 3) (1, 1)
         ∷ trade made.Continuous 6 5 985 (0, 3) (1, 4) ∷ trade made.Continuous 7 10 985 (0, 3) (1, 2) ∷ [] }
-    ensures orders { (after (full_cascade_book ++ falling_sell ∷ [])).orders ≡ [] }
+    ensures orders { (state_after (full_cascade_book ++ falling_sell ∷ [])).orders ≡ [] }
 {}
 
 /// The market order of the first stop meets a buy at 960, outside the range, and interrupts trading: it rests, the stop
 /// that was pending rests after it, and the one that isn't reached stays held till the auction at 960 reaches it.
 pub fn cascade_cut_by_an_interruption()
     ensures lawful { is_lawful (journal (cut_cascade_book ++ falling_sell ∷ Uncross ∷ [])) ≡ true }
-    ensures interrupted { after (cut_cascade_book ++ falling_sell ∷ []) ≡ record {
+    ensures interrupted { state_after (cut_cascade_book ++ falling_sell ∷ []) ≡ record {
       settings = settings;
       accepted = 9;
       phase = Call Interruption Interrupted;
@@ -184,7 +184,7 @@ pub fn cascade_cut_by_an_interruption()
     } }
     ensures reply { answer cut_cascade_book falling_sell
         ≡ record { version = 9; first_trade = 0; trades = 2; quantity = 30; money = 29800; phase = Call Interruption Interrupted } }
-    ensures uncrossed { after (cut_cascade_book ++ falling_sell ∷ Uncross ∷ []) ≡ record {
+    ensures uncrossed { state_after (cut_cascade_book ++ falling_sell ∷ Uncross ∷ []) ≡ record {
       settings = settings;
       accepted = 10;
       phase = Continuous;
@@ -195,14 +195,14 @@ pub fn cascade_cut_by_an_interruption()
           ∷ trade (made.Auction Interruption Interrupted) 6 25 960 (0, 3) (1, 1) ∷ [];
       sweeps = 7;
     } }
-    ensures references { references (after (cut_cascade_book ++ falling_sell ∷ Uncross ∷ [])) ≡ (960, 960) }
+    ensures references { references (state_after (cut_cascade_book ++ falling_sell ∷ Uncross ∷ [])) ≡ (960, 960) }
     ensures last_reply { answer (cut_cascade_book ++ falling_sell ∷ []) Uncross
         ≡ record { version = 10; first_trade = 2; trades = 1; quantity = 25; money = 24000; phase = Continuous } }
 {}
 
 /// A trade at 1010 reaches two stops. The first one trades at 1005, below their triggers; the second comes in all the same.
 pub fn pending_stop_comes_in_though_the_price_turned()
-    ensures state { after (opened (enter 0 1 Buy (kind.Limit 1010) 5 ∷ enter 0 8 Buy (kind.StopMarket 1010) 3 ∷ enter 0 9 Buy (kind.StopMarket 1010) 4
+    ensures state { state_after (opened (enter 0 1 Buy (kind.Limit 1010) 5 ∷ enter 0 8 Buy (kind.StopMarket 1010) 3 ∷ enter 0 9 Buy (kind.StopMarket 1010) 4
         ∷ enter 1 1 Sell (kind.Limit 1005) 20 ∷ [])) ≡ record {
           settings = settings;
           accepted = 6;
