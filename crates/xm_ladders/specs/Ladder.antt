@@ -1,5 +1,5 @@
 -- The levels of one side and restriction, as a clause sees them.
-use Rattle.std.specs.Prelude.{◌≡◌, ◌==◌, ℕ, ◌<◌, ◌≤◌, Bool, true, false, List, [], Option, Some, None, IfSome, IsSome}
+use Rattle.std.specs.Prelude.{◌≡◌, ℕ, ◌<◌, ◌≤◌, false, List, [], Option, Some, None, IfSome, IsSome}
 use Rattle.xm_ladders.specs.declared.level.Level.{Level}
 use Rattle.xm_prices.specs.Levels as levels
 use Rattle.xm_queues.specs.Queue.{IsQueue}
@@ -13,11 +13,6 @@ use Rattle.xm_ticks.specs.declared.numbers.TheConstants.{MAX_PRICE}
 pub record LadderView : Type 0 where
   pub market : Level
   pub limits : levels.LevelsView Level
-
-abbrev pub same_kind : OrderKind → OrderKind → Bool
-same_kind Market Market = true
-same_kind (Limit p) (Limit q) = p == q
-same_kind _ _ = false
 
 -- the level of a limit that has an order
 abbrev pub limit_level : LadderView → ℕ → Option Level
@@ -36,7 +31,7 @@ HasKind l (Limit p) = levels.HasPrice l.limits p
 -- so many levels more can be made with no memory, for orders of this kind
 abbrev pub HasLevels : LadderView → OrderKind → ℕ → Type 0
 HasLevels l Market n = Unit {0}
-HasLevels l (Limit p) n = levels.HasRoom l.limits n
+HasLevels l (Limit p) n = levels.HasLevelRoom l.limits n
 
 -- there is no level, or one without an order
 abbrev pub IsCleared : Option Level → Type 0

@@ -1,12 +1,14 @@
 //! The levels of one side and restriction.
 ghost use Rattle.std.specs.Prelude.{◌≡◌, if◌then◌else◌, ℕ, ◌+◌, ◌<◌, IfNone, IfSome, IsSome, None, Some, OnOk, false};
-ghost use Rattle.xm_ladders.specs.Ladder.{HasKind, HasLevels, IsBestLimit, IsCleared, IsNextLimit, level_of, limit_level, same_kind};
+ghost use Rattle.xm_ladders.specs.Ladder.{HasKind, HasLevels, IsBestLimit, IsCleared, IsNextLimit, level_of, limit_level};
+ghost use Rattle.xm_rules.specs.Orders.{same_kind};
 ghost use Rattle.xm_rules.specs.Sides.{reaches};
 ghost use Rattle.xm_rules.specs.declared.orders.OrderKind.{OrderKind};
 
 use crate::level::Level;
-use std::alloc::{AllocError, Allocator};
+use std::alloc::Allocator;
 use std::marker::Model;
+use xm_memory::OutOfMemory;
 use xm_prices::Levels;
 use xm_rules::{OrderKind, Side};
 use xm_ticks::Price;
@@ -50,7 +52,7 @@ impl<A: Allocator + Copy> Ladder<A> {
     }
 
     /// Makes all the room that orders of a kind need, which stays, and room for so many levels more.
-    pub fn reserve(&mut self, kind: OrderKind, levels: usize) -> Result<(), AllocError>
+    pub fn reserve(&mut self, kind: OrderKind, levels: usize) -> Result<(), OutOfMemory>
         ensures kind { OnOk result (HasKind self.new kind) }
         ensures room { OnOk result (HasLevels self.new kind levels) }
         ensures kinds_kept { (k : OrderKind) → HasKind self.old k → HasKind self.new k }

@@ -2,9 +2,9 @@
 use Rattle.std.proofs.Common.{◌≡◌, ◌≢◌, get_or, ℕ, zero, suc, ◌+◌, Bool, true, false, ◌==◌, ◌<◌, ◌≤◌, if◌then◌else◌, List, [], ◌∷◌, set, length, Option, Some, None, IsSome, nat_lt, slice_get, refl, sym, subst, ap, ◌∙◌, arith, eqb-true, eq-eqb}
 use Rattle.std.proofs.lemmas.Bool.Decides.{nat_tests}
 use Rattle.std.proofs.lemmas.Bool.{false≢true}
-use Rattle.xm_names.specs.Buckets.{AreApart, Leaves, key_in}
+use Rattle.xm_names.specs.Buckets.{AreNamedApart, Leaves, key_in}
 use Rattle.xm_names.specs.Names.{Retains}
-use Rattle.xm_names.specs.Tables.{IsPlaced, TableView, home, key_among, key_at, table_key}
+use Rattle.xm_names.specs.Tables.{IsPlaced, TableView, home, key_in_bucket, key_at, table_key}
 use Rattle.xm_names.specs.declared.slot.Slot.{Slot}
 use Rattle.xm_names.proofs.Buckets.{IsByKey, keys-retained}
 
@@ -37,9 +37,9 @@ some-is x y e = cc
 
 -- the key that the bucket at an index gives
 pub key-there : (t : TableView) (h r : ℕ) (old : List Slot) → h < length t.buckets → old ≡ get_or t.buckets h old → key_in r old ≡ key_at t h r
-key-there t h r old within is = ap (key_among r) (ap (λ (b : List Slot). Some b) is ∙ sym (there old t.buckets h old within))
+key-there t h r old within is = ap (key_in_bucket r) (ap (λ (b : List Slot). Some b) is ∙ sym (there old t.buckets h old within))
 
-pub no-bucket : (r : ℕ) (bs : List (List Slot)) (h : ℕ) → length bs ≤ h → key_among r (slice_get bs h) ≡ None
+pub no-bucket : (r : ℕ) (bs : List (List Slot)) (h : ℕ) → length bs ≤ h → key_in_bucket r (slice_get bs h) ≡ None
 no-bucket r [] h past = refl
 no-bucket r (b ∷ bs) zero past = absurd (omega arith)
 no-bucket r (b ∷ bs) (suc h) past = no-bucket r bs h (omega arith)
@@ -72,9 +72,9 @@ module _ (t : TableView) (h : ℕ) (v : List Slot) where
 
   module _ (within : h < length t.buckets) where
     pub bucket-at : (i r : ℕ) → key_at with_bucket i r ≡ (if i == h then key_in r v else key_at t i r)
-    bucket-at i r = ap (key_among r) (set-at v t.buckets h i within) ∙ by (i == h)
+    bucket-at i r = ap (key_in_bucket r) (set-at v t.buckets h i within) ∙ by (i == h)
       where
-        by : (b : Bool) → key_among r (if b then Some v else slice_get t.buckets i) ≡ (if b then key_in r v else key_at t i r)
+        by : (b : Bool) → key_in_bucket r (if b then Some v else slice_get t.buckets i) ≡ (if b then key_in r v else key_at t i r)
         by true = refl
         by false = refl
 
@@ -125,7 +125,7 @@ pub kept-others : (t : TableView) (h : ℕ) (v : List Slot) → h < length t.buc
 kept-others t h v within i r apart = bucket-at t h v within i r ∙ ap (λ (b : Bool). if b then key_in r v else key_at t i r) (other i h apart)
 
 -- what a test of the names of a bucket leaves of its keys
-pub kept-in : (A : ℕ → Bool → Type 0) (t : TableView) (h : ℕ) (old v : List Slot) → h < length t.buckets → old ≡ get_or t.buckets h old → AreApart old → Leaves (IsByKey A) old v → (r : ℕ) → Retains A (key_at t h r) (key_in r v)
+pub kept-in : (A : ℕ → Bool → Type 0) (t : TableView) (h : ℕ) (old v : List Slot) → h < length t.buckets → old ≡ get_or t.buckets h old → AreNamedApart old → Leaves (IsByKey A) old v → (r : ℕ) → Retains A (key_at t h r) (key_in r v)
 kept-in A t h old v within is apart leaves r = subst (λ (o : Option ℕ). Retains A o (key_in r v)) (key-there t h r old within is) (keys-retained A r old v apart leaves)
 
 module _ (A : ℕ → Bool → Type 0) (t : TableView) (h : ℕ) (v : List Slot) (within : h < length t.buckets) (kept : (r : ℕ) → Retains A (key_at t h r) (key_in r v)) where

@@ -2,7 +2,7 @@
 use Rattle.std.proofs.Common.{◌≡◌, ℕ, ◌+◌, ◌*◌, ◌/◌, ◌^◌, Bool, true, false, ◌==◌, ◌<◌, ◌≤◌, if◌then◌else◌, nat_lt, List, length, Some, None, IsSome, slice_get, refl, sym, subst, ap, ◌∙◌, ◌⊎◌, inl, inr, arith, eqb-true, eq-eqb, shr-shr, length-append, ◌++◌, ◌∷◌, [], zero, suc}
 use Rattle.std.proofs.lemmas.Bool.Decides.{nat_tests}
 use Rattle.xm_names.specs.Buckets.{key_in}
-use Rattle.xm_names.specs.Tables.{IsPlaced, TableView, hash, home, key_among, key_at, table_key}
+use Rattle.xm_names.specs.Tables.{IsPlaced, TableView, hash, home, key_in_bucket, key_at, table_key}
 use Rattle.xm_names.specs.declared.slot.Slot.{Slot}
 use Rattle.xm_names.proofs.Placed.{differs, no-bucket}
 
@@ -37,7 +37,7 @@ module _ (t : TableView) (shift : ℕ) where
 
   -- the bucket at an index has the names of another that are at home there
   abbrev pub IsPart : List (List Slot) → ℕ → ℕ → Type 0
-  IsPart new i j = (r : ℕ) → key_among r (slice_get new j) ≡ (if home shifted r == j then key_at t i r else None)
+  IsPart new i j = (r : ℕ) → key_in_bucket r (slice_get new j) ≡ (if home shifted r == j then key_at t i r else None)
 
   pub record AreParts (new : List (List Slot)) (n : ℕ) : Type 0 where
     pub len : length new ≡ 2 * n
@@ -123,14 +123,14 @@ module _ (t : TableView) (shift : ℕ) where
     }
       where
         even-if : (i : ℕ) (c : Bool) → nat_lt i n ≡ c → i < n + 1 → IsPart longer i (2 * i)
-        even-if i true is within r = (let w : i < n = grind (arith, nat_tests, is) in ap (key_among r) (kept (2 * i) (omega (arith, w, p.len))) ∙ p.even i w r)
+        even-if i true is within r = (let w : i < n = grind (arith, nat_tests, is) in ap (key_in_bucket r) (kept (2 * i) (omega (arith, w, p.len))) ∙ p.even i w r)
         even-if i false isnt within r =
-            (let w : n ≡ i = grind (arith, nat_tests, isnt, within) in subst (λ (m : ℕ). key_among r (slice_get longer (2 * m)) ≡ (if home shifted r == 2 * m then key_at t m r else None)) w (ap (key_among r) first-new ∙ ea r))
+            (let w : n ≡ i = grind (arith, nat_tests, isnt, within) in subst (λ (m : ℕ). key_in_bucket r (slice_get longer (2 * m)) ≡ (if home shifted r == 2 * m then key_at t m r else None)) w (ap (key_in_bucket r) first-new ∙ ea r))
 
         odd-if : (i : ℕ) (c : Bool) → nat_lt i n ≡ c → i < n + 1 → IsPart longer i (2 * i + 1)
-        odd-if i true is within r = (let w : i < n = grind (arith, nat_tests, is) in ap (key_among r) (kept (2 * i + 1) (omega (arith, w, p.len))) ∙ p.odd i w r)
+        odd-if i true is within r = (let w : i < n = grind (arith, nat_tests, is) in ap (key_in_bucket r) (kept (2 * i + 1) (omega (arith, w, p.len))) ∙ p.odd i w r)
         odd-if i false isnt within r =
-            (let w : n ≡ i = grind (arith, nat_tests, isnt, within) in subst (λ (m : ℕ). key_among r (slice_get longer (2 * m + 1)) ≡ (if home shifted r == 2 * m + 1 then key_at t m r else None)) w (ap (key_among r) second-new ∙ eb r))
+            (let w : n ≡ i = grind (arith, nat_tests, isnt, within) in subst (λ (m : ℕ). key_in_bucket r (slice_get longer (2 * m + 1)) ≡ (if home shifted r == 2 * m + 1 then key_at t m r else None)) w (ap (key_in_bucket r) second-new ∙ eb r))
 
   -- no bucket yet
   pub no-parts : AreParts [] 0

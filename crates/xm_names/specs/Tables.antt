@@ -22,13 +22,13 @@ pub record TableView : Type 0 where
 unfoldable pub home : TableView → ℕ → ℕ
 home table reference = hash table.seed reference / 2 ^ table.shift
 
-abbrev pub key_among : ℕ → Option (List Slot) → Option ℕ
-key_among reference None = None
-key_among reference (Some slots) = key_in reference slots
+abbrev pub key_in_bucket : ℕ → Option (List Slot) → Option ℕ
+key_in_bucket reference None = None
+key_in_bucket reference (Some slots) = key_in reference slots
 
 -- the key that the bucket at an index gives a reference
 abbrev pub key_at : TableView → ℕ → ℕ → Option ℕ
-key_at table index reference = key_among reference (slice_get table.buckets index)
+key_at table index reference = key_in_bucket reference (slice_get table.buckets index)
 
 -- the key of a reference: what its bucket gives
 abbrev pub table_key : TableView → ℕ → Option ℕ

@@ -1,6 +1,6 @@
 //! A bucket of names.
 ghost use Rattle.std.specs.Prelude.{◌≡◌, ℕ, None, Some, IfNone, IfSome, IsSome, IsTrue, not, false, find, option_copied, position, if◌then◌else◌, ◌==◌, ◌<◌};
-ghost use Rattle.xm_names.specs.Buckets.{AreApart, Leaves, is_named, is_vacant, key_in};
+ghost use Rattle.xm_names.specs.Buckets.{AreNamedApart, Leaves, is_occupied, is_vacant, key_in};
 ghost use Rattle.xm_names.specs.declared.slot.TheConstants.{VACANT};
 ghost use Rattle.xm_names.specs.declared.slot.Slot.{Slot};
 
@@ -15,14 +15,14 @@ pub struct Bucket {
 
 impl Model for Bucket {
     ghost use Rattle.std.specs.Prelude.{List};
-    ghost use Rattle.xm_names.specs.Buckets.{AreApart};
+    ghost use Rattle.xm_names.specs.Buckets.{AreNamedApart};
     ghost use Rattle.xm_names.specs.declared.slot.Slot.{Slot};
 
     ghost Value = { List Slot };
 
     ghost view = { λ b. b.slots };
 
-    ghost invariant = { λ b. AreApart b.slots };
+    ghost invariant = { λ b. AreNamedApart b.slots };
 }
 
 impl Bucket {
@@ -86,7 +86,7 @@ impl Bucket {
     pub fn retained<F: Fn(Slot) -> bool>(&self, passes: &F) -> Bucket
         requires { (slot : Slot) → F.pre passes.now slot }
         ensures leaves { Leaves (F.post passes.now) self.now result }
-        ensures apart { AreApart self.now }
+        ensures apart { AreNamedApart self.now }
     {
         let [a, b, c, d] = self.slots;
         Bucket {
@@ -116,7 +116,7 @@ impl Bucket {
 
     /// The first slot that has a name.
     fn named(&self) -> Option<&Slot>
-        ensures { option_copied result ≡ find is_named self.now }
+        ensures { option_copied result ≡ find is_occupied self.now }
     {
         self.slots.iter().find(|slot| !slot.is_vacant())
     }

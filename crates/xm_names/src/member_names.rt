@@ -6,8 +6,9 @@ ghost use Rattle.std.specs.Map as map;
 use crate::seed::Seed;
 use crate::table::NameTable;
 use indexmap::IndexMap;
-use std::alloc::{AllocError, Allocator};
+use std::alloc::Allocator;
 use std::marker::Model;
+use xm_memory::{OutOfMemory, count_within};
 
 /// The key of each reference of one member, and room for more of them.
 #[derive(Drop)]
@@ -55,7 +56,7 @@ impl<A: Allocator + Copy> MemberNames<A> {
 
     /// Makes room for one name more.
     #[inline(always)]
-    pub fn reserve(&mut self) -> Result<(), AllocError>
+    pub fn reserve(&mut self) -> Result<(), OutOfMemory>
         ensures keys { (r : ℕ) → key_of r self.new ≡ key_of r self.old }
         ensures room { OnOk result (self.new.room ≡ self.old.room + 1) }
         ensures err { OnErr result (self.new ≡ self.old) }
@@ -69,12 +70,13 @@ impl<A: Allocator + Copy> MemberNames<A> {
 
     /// The same, where all names that `rest` is known to have room for may come already.
     #[inline(never)]
-    fn make_ready(&mut self) -> Result<(), AllocError>
+    fn make_ready(&mut self) -> Result<(), OutOfMemory>
         ensures keys { (r : ℕ) → key_of r self.new ≡ key_of r self.old }
         ensures room { OnOk result (self.new.room ≡ self.old.room + 1) }
         ensures err { OnErr result (self.new ≡ self.old) }
     {
-        let room = self.room.checked_add(1).ok_or(AllocError)?;
+        count_within(self.room as u64, usize::MAX as u64 - 1)?;
+        let room = self.room + 1;
         self.rest.reserve(room)?;
         self.table.fit(self.rest.len())?;
         self.room = room;

@@ -7,8 +7,9 @@ ghost use Rattle.xm_names.specs.Names.{Retains, StandsAt, key_of, lookup, names_
 use crate::member_names::MemberNames;
 use crate::seed::Seed;
 use indexmap::IndexMap;
-use std::alloc::{AllocError, Allocator};
+use std::alloc::Allocator;
 use std::marker::Model;
+use xm_memory::OutOfMemory;
 
 /// The members below this one are found without a hash. They are as many as a market has.
 const PLACED: usize = 1024;
@@ -45,7 +46,7 @@ impl<A: Allocator + Copy> Members<A> {
 
     /// Makes room for one name more of this member.
     #[inline(always)]
-    pub fn reserve(&mut self, member: u32) -> Result<(), AllocError>
+    pub fn reserve(&mut self, member: u32) -> Result<(), OutOfMemory>
         ensures names { (m r : ℕ) → lookup self.new m r ≡ lookup self.old m r }
         ensures room { OnOk result ((m : ℕ) → room self.new m ≡ (if m == member then room self.old m + 1 else room self.old m)) }
         ensures err { OnErr result (self.new ≡ self.old) }
@@ -58,7 +59,7 @@ impl<A: Allocator + Copy> Members<A> {
 
     /// Makes the table of a member that has none, with room for a name.
     #[inline(never)]
-    fn begin(&mut self, member: u32) -> Result<(), AllocError>
+    fn begin(&mut self, member: u32) -> Result<(), OutOfMemory>
         requires { names_of self.old member ≡ None }
         ensures names { (m r : ℕ) → lookup self.new m r ≡ lookup self.old m r }
         ensures room { OnOk result ((m : ℕ) → room self.new m ≡ (if m == member then room self.old m + 1 else room self.old m)) }
@@ -83,14 +84,13 @@ impl<A: Allocator> Members<A> {
     }
 
     /// Makes room for the places.
-    fn reserve_places(&mut self) -> Result<(), AllocError>
+    fn reserve_places(&mut self) -> Result<(), OutOfMemory>
         ensures { self.new ≡ self.old }
     {
         if self.places.is_empty() {
-            self.places.resize(PLACED, usize::MAX)
-        } else {
-            Ok(())
+            self.places.resize(PLACED, usize::MAX)?;
         }
+        Ok(())
     }
 
     /// Notes where the table of a member is, if there is room for it.

@@ -4,8 +4,9 @@ ghost use Rattle.xm_names.specs.Names.{Retains, is_above, lookup, room};
 
 use crate::members::Members;
 use crate::seed::Seed;
-use std::alloc::{AllocError, Allocator};
+use std::alloc::Allocator;
 use std::marker::Model;
+use xm_memory::OutOfMemory;
 
 /// Of the members below this one the highest reference is noted. They are as many as a market has.
 const NOTED: usize = 1024;
@@ -45,7 +46,7 @@ impl<A: Allocator + Copy> Names<A> {
 
     /// Makes room for one name more of this member.
     #[inline(always)]
-    pub fn reserve(&mut self, member: u32) -> Result<(), AllocError>
+    pub fn reserve(&mut self, member: u32) -> Result<(), OutOfMemory>
         ensures names { (m r : ℕ) → lookup self.new m r ≡ lookup self.old m r }
         ensures room { OnOk result ((m : ℕ) → room self.new m ≡ (if m == member then room self.old m + 1 else room self.old m)) }
         ensures err { OnErr result (self.new ≡ self.old) }
@@ -60,14 +61,13 @@ impl<A: Allocator + Copy> Names<A> {
 impl<A: Allocator> Names<A> {
     /// Makes room for the highest references, where no member has had a name.
     #[inline(never)]
-    fn begin(&mut self) -> Result<(), AllocError>
+    fn begin(&mut self) -> Result<(), OutOfMemory>
         ensures { self.new ≡ self.old }
     {
         if self.members.is_empty() {
-            self.highest.resize(NOTED, 0)
-        } else {
-            Ok(())
+            self.highest.resize(NOTED, 0)?;
         }
+        Ok(())
     }
 
     /// Gives up the room for one name of this member.

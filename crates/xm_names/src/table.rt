@@ -7,8 +7,9 @@ ghost use Rattle.xm_names.specs.Buckets.{key_in};
 use crate::bucket::Bucket;
 use crate::seed::Seed;
 use crate::slot::{Slot, VACANT};
-use std::alloc::{AllocError, Allocator};
+use std::alloc::Allocator;
 use std::marker::Model;
+use xm_memory::OutOfMemory;
 
 /// So many buckets are kept where no name is left.
 const KEPT_BUCKETS: usize = 64;
@@ -186,7 +187,7 @@ impl<A: Allocator + Copy> NameTable<A> {
     /// Makes more buckets where there is none, or where too many names are without a place; or gives most of them back where
     /// `pop` has found no name.
     #[inline(always)]
-    pub fn fit(&mut self, without_place: usize) -> Result<(), AllocError>
+    pub fn fit(&mut self, without_place: usize) -> Result<(), OutOfMemory>
         ensures keys { (r : ℕ) → table_key self.new r ≡ table_key self.old r }
         ensures err { OnErr result (self.new ≡ self.old) }
     {
@@ -200,7 +201,7 @@ impl<A: Allocator + Copy> NameTable<A> {
 
     /// Makes twice as many buckets, or one where there is none.
     #[inline(never)]
-    fn grow(&mut self) -> Result<(), AllocError>
+    fn grow(&mut self) -> Result<(), OutOfMemory>
         ensures keys { (r : ℕ) → table_key self.new r ≡ table_key self.old r }
         ensures err { OnErr result (self.new ≡ self.old) }
     {
@@ -214,7 +215,7 @@ impl<A: Allocator + Copy> NameTable<A> {
     }
 
     /// Makes the first bucket.
-    fn begin(&mut self) -> Result<(), AllocError>
+    fn begin(&mut self) -> Result<(), OutOfMemory>
         requires { self.old.buckets ≡ [] }
         ensures keys { (r : ℕ) → table_key self.new r ≡ table_key self.old r }
         ensures err { OnErr result (self.new ≡ self.old) }
@@ -225,7 +226,7 @@ impl<A: Allocator + Copy> NameTable<A> {
     }
 
     /// Splits each bucket into two, by one bit more of the hashes.
-    fn split(&mut self) -> Result<(), AllocError>
+    fn split(&mut self) -> Result<(), OutOfMemory>
         requires { 0 < self.old.shift }
         ensures keys { (r : ℕ) → table_key self.new r ≡ table_key self.old r }
         ensures err { OnErr result (self.new ≡ self.old) }

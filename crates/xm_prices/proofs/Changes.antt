@@ -4,10 +4,10 @@ use Rattle.std.specs.Int.{bit_at}
 use Rattle.std.proofs.lemmas.Bool.{cases_eq}
 use Rattle.std.proofs.lemmas.Nat.Bits.{bit_at-zero}
 use Rattle.xm_prices.specs.Words.{word}
-use Rattle.xm_prices.specs.Marks.{mark, IsPut, IsReady, IsChanged, IsTied}
+use Rattle.xm_prices.specs.Marks.{mark, IsPut, IsMarkReady, IsChanged, IsTied}
 use Rattle.xm_prices.proofs.Stored.{same_room}
 
-module _ (old new : List (List ℕ)) (p v : ℕ) (small : p < 1065220) (ready : IsReady old p v) (put : IsPut old new p v) where
+module _ (old new : List (List ℕ)) (p v : ℕ) (small : p < 1065220) (ready : IsMarkReady old p v) (put : IsPut old new p v) where
   top : (j : ℕ) → 1065220 ≤ j → mark new j ≡ 0
   top j beyond = put.same j (λ e. omega arith) ∙ ready.top j beyond
 
@@ -58,7 +58,7 @@ module _ (old new : List (List ℕ)) (p v : ℕ) (small : p < 1065220) (ready : 
   }
 
   module _ (below : p / 64 < 16644) where
-    pub ready_up : (0 < word new (p / 64) → word old (p / 64) ≡ 0) → IsReady new (1048576 + p / 64) v
+    pub ready_up : (0 < word new (p / 64) → word old (p / 64) ≡ 0) → IsMarkReady new (1048576 + p / 64) v
     ready_up turned = record {
       there = same_room old new put.shape ((1048576 + p / 64) / 64) (ready.upper ((1048576 + p / 64) / 64) (omega arith) (omega arith));
       upper = λ w high within. same_room old new put.shape w (ready.upper w high within);

@@ -3,66 +3,66 @@ use Rattle.std.proofs.Common.{◌≡◌, ◌==◌, if◌then◌else◌, eq-eqb, 
 use Rattle.std.proofs.lemmas.Bool.{cases_eq}
 use Rattle.std.proofs.lemmas.List.{length-replicate}
 use Rattle.xm_prices.specs.Slots.{page_at, slot_at, SameShape}
-use Rattle.xm_prices.specs.Map.{lookup, HasRoom, IsShaped}
+use Rattle.xm_prices.specs.Map.{value_at, HasValueRoom, IsMapShaped}
 use Rattle.xm_prices.proofs.Paging.{has_page, none_in_absent, none_in_replicate, none_of_none, slot-written, slot-kept, shape-kept, slot-unchanged, len-here, len-other, not_less}
 
 module _ {V : Type 0} where
-  pub room_page : (pages : List (List (Option V))) (p : ℕ) → HasRoom pages p → p / 1024 < length pages
-  unfolding HasRoom
+  pub room_page : (pages : List (List (Option V))) (p : ℕ) → HasValueRoom pages p → p / 1024 < length pages
+  unfolding HasValueRoom
   room_page pages p room = has_page pages (p / 1024) (p % 1024) room
 
-  pub room_slot : (pages : List (List (Option V))) (p : ℕ) → HasRoom pages p → p % 1024 < length (page_at pages (p / 1024))
-  unfolding HasRoom
+  pub room_slot : (pages : List (List (Option V))) (p : ℕ) → HasValueRoom pages p → p % 1024 < length (page_at pages (p / 1024))
+  unfolding HasValueRoom
   room_slot pages p room = room
 
-  pub lookup_is : (pages : List (List (Option V))) (p : ℕ) → lookup pages p ≡ slot_at None pages (p / 1024) (p % 1024)
-  unfolding lookup
+  pub lookup_is : (pages : List (List (Option V))) (p : ℕ) → value_at pages p ≡ slot_at None pages (p / 1024) (p % 1024)
+  unfolding value_at
   lookup_is pages p = refl
 
-  pub lookup_absent : (pages : List (List (Option V))) (p : ℕ) → length (page_at pages (p / 1024)) ≡ 0 → lookup pages p ≡ None
-  unfolding lookup
+  pub lookup_absent : (pages : List (List (Option V))) (p : ℕ) → length (page_at pages (p / 1024)) ≡ 0 → value_at pages p ≡ None
+  unfolding value_at
   lookup_absent pages p absent = none_in_absent None pages (p / 1024) (p % 1024) absent
 
-  pub lookup_none : (pages : List (List (Option V))) → length pages ≡ 0 → (p : ℕ) → lookup pages p ≡ None
+  pub lookup_none : (pages : List (List (Option V))) → length pages ≡ 0 → (p : ℕ) → value_at pages p ≡ None
   lookup_none pages none p = lookup_absent pages p (none_of_none pages (p / 1024) none)
 
-  pub same_shaped : (old new : List (List (Option V))) → SameShape old new → IsShaped old → IsShaped new
+  pub same_shaped : (old new : List (List (Option V))) → SameShape old new → IsMapShaped old → IsMapShaped new
   same_shaped old new shape shaped = record {
     count = λ some. shape.len ∙ shaped.count (rw shape.len at some);
     whole = λ i some. shape.pages i ∙ shaped.whole i (rw (shape.pages i) at some);
   }
 
-  same_room : (old new : List (List (Option V))) → SameShape old new → (p : ℕ) → HasRoom old p → HasRoom new p
-  unfolding HasRoom
+  same_room : (old new : List (List (Option V))) → SameShape old new → (p : ℕ) → HasValueRoom old p → HasValueRoom new p
+  unfolding HasValueRoom
   same_room old new shape p room = rw (shape.pages (p / 1024)) room
 
   -- a page that is there has room for its prices
-  pub has_room : (pages : List (List (Option V))) → IsShaped pages → (p : ℕ) → 0 < length (page_at pages (p / 1024)) → HasRoom pages p
-  unfolding HasRoom
+  pub has_room : (pages : List (List (Option V))) → IsMapShaped pages → (p : ℕ) → 0 < length (page_at pages (p / 1024)) → HasValueRoom pages p
+  unfolding HasValueRoom
   has_room pages shaped p some = rw (shaped.whole (p / 1024) some) (omega arith)
 
-  pub no_room : (pages : List (List (Option V))) → IsShaped pages → (p : ℕ) → (HasRoom pages p → ⊥) → length (page_at pages (p / 1024)) ≡ 0
+  pub no_room : (pages : List (List (Option V))) → IsMapShaped pages → (p : ℕ) → (HasValueRoom pages p → ⊥) → length (page_at pages (p / 1024)) ≡ 0
   no_room pages shaped p none =
       elim (cases_eq (length (page_at pages (p / 1024))) 0) [
         | inl absent ↦ absent
         | inr there ↦ absurd (none (has_room pages shaped p (omega arith)))
       ]
 
-  pub room_there : (pages : List (List (Option V))) (p : ℕ) → HasRoom pages p → 0 < length (page_at pages (p / 1024))
-  unfolding HasRoom
+  pub room_there : (pages : List (List (Option V))) (p : ℕ) → HasValueRoom pages p → 0 < length (page_at pages (p / 1024))
+  unfolding HasValueRoom
   room_there pages p room = omega arith
 
   -- a value is written under a price
-  module _ (pages : List (List (Option V))) (price : ℕ) (page : List (Option V)) (x : Option V) (room : HasRoom pages price) (written : page ≡ set (page_at pages (price / 1024)) (price % 1024) x) where
-    lookup_other : (p : ℕ) → (p ≡ price → ⊥) → lookup (set pages (price / 1024) page) p ≡ lookup pages p
-    unfolding lookup
+  module _ (pages : List (List (Option V))) (price : ℕ) (page : List (Option V)) (x : Option V) (room : HasValueRoom pages price) (written : page ≡ set (page_at pages (price / 1024)) (price % 1024) x) where
+    lookup_other : (p : ℕ) → (p ≡ price → ⊥) → value_at (set pages (price / 1024) page) p ≡ value_at pages p
+    unfolding value_at
     lookup_other p differs = rw written (slot-kept pages (price / 1024) (price % 1024) x (room_slot pages price room) None (p / 1024) (p % 1024) (λ i k. differs (omega arith)))
 
-    lookup_same : lookup (set pages (price / 1024) page) price ≡ x
-    unfolding lookup
+    lookup_same : value_at (set pages (price / 1024) page) price ≡ x
+    unfolding value_at
     lookup_same = rw written (slot-written pages (price / 1024) (price % 1024) x (room_slot pages price room) None)
 
-    pub lookup_written : (p : ℕ) → lookup (set pages (price / 1024) page) p ≡ (if p == price then x else lookup pages p)
+    pub lookup_written : (p : ℕ) → value_at (set pages (price / 1024) page) p ≡ (if p == price then x else value_at pages p)
     lookup_written p =
         elim (cases_eq p price) [
           | inl same ↦ rw (eq-eqb p price same, same) lookup_same
@@ -72,26 +72,26 @@ module _ {V : Type 0} where
     pub shape_written : SameShape pages (set pages (price / 1024) page)
     shape_written = rw written (shape-kept pages (price / 1024) (price % 1024) x (room_slot pages price room))
 
-    pub room_written : (p : ℕ) → HasRoom pages p → HasRoom (set pages (price / 1024) page) p
+    pub room_written : (p : ℕ) → HasValueRoom pages p → HasValueRoom (set pages (price / 1024) page) p
     room_written = same_room pages (set pages (price / 1024) page) shape_written
 
   -- a page of empty slots is made in the place of an absent one
   module _ (pages : List (List (Option V))) (price : ℕ) (page : List (Option V)) (filled : page ≡ replicate 1024 None) (inside : price / 1024 < length pages) (absent : length (page_at pages (price / 1024)) ≡ 0) where
-    pub lookup_unchanged : (p : ℕ) → lookup (set pages (price / 1024) page) p ≡ lookup pages p
-    unfolding lookup
+    pub lookup_unchanged : (p : ℕ) → value_at (set pages (price / 1024) page) p ≡ value_at pages p
+    unfolding value_at
     lookup_unchanged p = slot-unchanged pages (price / 1024) page 1024 None inside absent filled (p / 1024) (p % 1024)
 
-    pub room_made : HasRoom (set pages (price / 1024) page) price
-    unfolding HasRoom
+    pub room_made : HasValueRoom (set pages (price / 1024) page) price
+    unfolding HasValueRoom
     room_made = rw (len-here pages (price / 1024) page 1024 None inside absent filled) (omega arith)
 
-    pub room_kept : (p : ℕ) → HasRoom pages p → HasRoom (set pages (price / 1024) page) p
-    unfolding HasRoom
+    pub room_kept : (p : ℕ) → HasValueRoom pages p → HasValueRoom (set pages (price / 1024) page) p
+    unfolding HasValueRoom
     room_kept p room =
         let more = not_less pages (price / 1024) page 1024 None inside absent filled (p / 1024) in
         omega arith
 
-    pub shaped_made : length pages ≡ 1024 → ((i : ℕ) → 0 < length (page_at pages i) → length (page_at pages i) ≡ 1024) → IsShaped (set pages (price / 1024) page)
+    pub shaped_made : length pages ≡ 1024 → ((i : ℕ) → 0 < length (page_at pages i) → length (page_at pages i) ≡ 1024) → IsMapShaped (set pages (price / 1024) page)
     shaped_made count whole = record {
       count = λ some. length-set pages (price / 1024) page ∙ count;
       whole = λ i some.
@@ -119,15 +119,15 @@ module _ {V : Type 0} where
     inside : price / 1024 < length base
     inside = rw count (omega arith)
 
-    pub first_room : HasRoom (set base (price / 1024) page) price
+    pub first_room : HasValueRoom (set base (price / 1024) page) price
     first_room = room_made base price page filled inside (absent_here (price / 1024))
 
-    pub first_kept : (p : ℕ) → HasRoom old p → HasRoom (set base (price / 1024) page) p
+    pub first_kept : (p : ℕ) → HasValueRoom old p → HasValueRoom (set base (price / 1024) page) p
     first_kept p room = absurd (let there = room_page old p room in omega arith)
 
-    pub first_same : (p : ℕ) → lookup (set base (price / 1024) page) p ≡ lookup old p
+    pub first_same : (p : ℕ) → value_at (set base (price / 1024) page) p ≡ value_at old p
     first_same p =
         lookup_unchanged base price page filled inside (absent_here (price / 1024)) p ∙ lookup_absent base p (absent_here (p / 1024)) ∙ sym (lookup_none old none p)
 
-    pub first_shaped : IsShaped (set base (price / 1024) page)
+    pub first_shaped : IsMapShaped (set base (price / 1024) page)
     first_shaped = shaped_made base price page filled inside (absent_here (price / 1024)) count (λ i some. absurd (let none = absent_here i in omega arith))

@@ -4,8 +4,8 @@ use Rattle.std.specs.Int.{bit_at}
 use Rattle.std.proofs.lemmas.Bool.{cases_eq, cases_lt}
 use Rattle.std.proofs.lemmas.Nat.Bits.{bit_at-zero}
 use Rattle.xm_prices.specs.Words.{word, IsShaped}
-use Rattle.xm_prices.specs.Marks.{mark, IsAbove, IsBelow, IsClearAbove, IsClearBelow, IsSound, IsReady, IsChanged}
-use Rattle.xm_prices.specs.Set.{Prices, has, HasRoom, IsNextAbove, IsNextBelow, IsFirst, IsLast}
+use Rattle.xm_prices.specs.Marks.{mark, IsAbove, IsBelow, IsClearAbove, IsClearBelow, AreMarksSound, IsMarkReady, IsChanged}
+use Rattle.xm_prices.specs.Set.{Prices, has, HasRoom, IsNextAbove, IsNextBelow, IsFirstPrice, IsLastPrice}
 use Rattle.xm_prices.proofs.Stored.{word_page, same_room, has_upper}
 
 pub has_inside : (s : Prices) (n : ℕ) → n < 1048576 → has s n ≡ (mark s.pages n == 1)
@@ -56,7 +56,7 @@ pub none_below : (s : Prices) (n : ℕ) → n < 1048576 → IsClearBelow s.pages
 none_below s n small clear k below = has_clear s k (clear 0 1048576 (inl (refl, refl)) (omega arith) small k (omega arith) below)
 
 -- where a price has room, its bit can change
-pub ready : (s : Prices) (n v : ℕ) → n < 1048576 → HasRoom s n → IsSound s.pages → IsShaped s.pages → IsReady s.pages n v
+pub ready : (s : Prices) (n v : ℕ) → n < 1048576 → HasRoom s n → AreMarksSound s.pages → IsShaped s.pages → IsMarkReady s.pages n v
 unfolding HasRoom
 ready s n v small room sound shaped =
     let inside = word_page s.pages (n / 64) room in
@@ -99,7 +99,7 @@ module _ (old new : List (List ℕ)) (same : (w : ℕ) → word new w ≡ word o
   same_marks : (p : ℕ) → mark new p ≡ mark old p
   same_marks p = ap (λ (x : ℕ). bit_at x (p % 64)) (same (p / 64))
 
-  pub same_sound : IsSound old → IsSound new
+  pub same_sound : AreMarksSound old → AreMarksSound new
   same_sound sound = record {
     tied = λ w below. rw (same_marks (1048576 + w), same w) (sound.tied w below);
     top = λ j beyond. same_marks j ∙ sound.top j beyond;
@@ -116,7 +116,7 @@ mark_none : (pages : List (List ℕ)) → ((w : ℕ) → word pages w ≡ 0) →
 mark_none pages none p = ap (λ (x : ℕ). bit_at x (p % 64)) (none (p / 64)) ∙ bit_at-zero (p % 64)
 
 -- a tree in which no word has a bit
-pub sound_none : (pages : List (List ℕ)) → ((w : ℕ) → word pages w ≡ 0) → IsSound pages
+pub sound_none : (pages : List (List ℕ)) → ((w : ℕ) → word pages w ≡ 0) → AreMarksSound pages
 sound_none pages none = record {
   tied = λ w below. record {
     used = λ m. absurd (let clear = mark_none pages none (1048576 + w) in omega arith);
@@ -129,10 +129,10 @@ pub has_none : (s : Prices) → ((w : ℕ) → word s.pages w ≡ 0) → (n : �
 has_none s none n = has_clear s n (mark_none s.pages none n)
 
 -- from the first and the last price of all
-pub first_here : (s : Prices) → has s 0 ≡ true → IsFirst s 0
+pub first_here : (s : Prices) → has s 0 ≡ true → IsFirstPrice s 0
 first_here s member = record { within = omega arith; member = member; first = λ k below. absurd (omega arith) }
 
-pub first_above : (s : Prices) (o : Option ℕ) → has s 0 ≡ false → IfSome o (IsNextAbove s 0) → IfSome o (IsFirst s)
+pub first_above : (s : Prices) (o : Option ℕ) → has s 0 ≡ false → IfSome o (IsNextAbove s 0) → IfSome o (IsFirstPrice s)
 first_above s None none h = tt
 first_above s (Some m) none h = record {
   within = h.within;
@@ -160,10 +160,10 @@ beyond_last s none n high =
       | inr outside ↦ has_outside s n (omega arith)
     ]
 
-pub last_here : (s : Prices) → has s 1048575 ≡ true → IsLast s 1048575
+pub last_here : (s : Prices) → has s 1048575 ≡ true → IsLastPrice s 1048575
 last_here s member = record { within = omega arith; member = member; last = λ k above. has_outside s k (omega arith) }
 
-pub last_below : (s : Prices) (o : Option ℕ) → has s 1048575 ≡ false → IfSome o (IsNextBelow s 1048575) → IfSome o (IsLast s)
+pub last_below : (s : Prices) (o : Option ℕ) → has s 1048575 ≡ false → IfSome o (IsNextBelow s 1048575) → IfSome o (IsLastPrice s)
 last_below s None none h = tt
 last_below s (Some m) none h =
     let below = h.below in

@@ -4,7 +4,7 @@ use Rattle.std.specs.Int.{bit_at}
 use Rattle.std.proofs.lemmas.Bool.{cases_lt}
 use Rattle.std.proofs.lemmas.Nat.Bits.{bit_at-zero}
 use Rattle.xm_prices.specs.Words.{word}
-use Rattle.xm_prices.specs.Marks.{mark, IsBitAbove, IsBitBelow, IsLevel, IsSameLevel, IsClearAbove, IsClearBelow, IsAbove, IsBelow, IsSound}
+use Rattle.xm_prices.specs.Marks.{mark, IsBitAbove, IsBitBelow, IsLevel, IsSameLevel, IsClearAbove, IsClearBelow, IsAbove, IsBelow, AreMarksSound}
 
 -- the places that stand for the words of a level are a level
 pub record HasUpper (start end p : ℕ) : Type 0 where
@@ -47,7 +47,7 @@ mark_of_word pages w b within =
 mark_of_none : (pages : List (List ℕ)) (w j : ℕ) → j / 64 ≡ w → word pages w ≡ 0 → mark pages j ≡ 0
 mark_of_none pages w j e clear = rw (e, clear) (bit_at-zero (j % 64))
 
-module _ (pages : List (List ℕ)) (sound : IsSound pages) where
+module _ (pages : List (List ℕ)) (sound : AreMarksSound pages) where
   marked_below : (j : ℕ) → mark pages j ≡ 1 → j < 1065220
   marked_below j marked =
       elim (cases_lt j 1065220) [

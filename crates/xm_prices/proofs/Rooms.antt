@@ -3,7 +3,7 @@ use Rattle.std.proofs.Common.{◌≡◌, ℕ, ◌/◌, ◌<◌, List, length, se
 use Rattle.std.proofs.lemmas.Bool.{cases_eq}
 use Rattle.xm_prices.specs.Slots.{page_at}
 use Rattle.xm_prices.specs.Words.{word, IsShaped}
-use Rattle.xm_prices.specs.Marks.{IsSound}
+use Rattle.xm_prices.specs.Marks.{AreMarksSound}
 use Rattle.xm_prices.specs.Set.{Prices, has, HasRoom}
 use Rattle.xm_prices.proofs.Members.{same_sound, same_members}
 use Rattle.xm_prices.proofs.Stored.{has_word, word_page, word_slot, word-unchanged, room-made, room-kept, shaped_made}
@@ -49,7 +49,7 @@ module _ (old : Prices) (base : List (List ℕ)) (n : ℕ) (small : n < 1048576)
   pub made_same : (m : ℕ) → has (record { pages = set base (n / 16384) page }) m ≡ has old m
   made_same m = same_members old (record { pages = set base (n / 16384) page }) same_words m
 
-  pub made_sound : IsSound old.pages → IsSound (set base (n / 16384) page)
+  pub made_sound : AreMarksSound old.pages → AreMarksSound (set base (n / 16384) page)
   made_sound sound = same_sound old.pages (set base (n / 16384) page) same_words sound
 
   pub made_shaped : IsShaped (set base (n / 16384) page)

@@ -1,16 +1,16 @@
 -- The ends of a set of prices.
 use Rattle.std.specs.Prelude.{◌≡◌, ◌==◌, ℕ, Bool, false, if◌then◌else◌, nat_lt, Option, None, Some}
-use Rattle.xm_prices.specs.Set.{IsFirst, IsLast, Prices, has}
+use Rattle.xm_prices.specs.Set.{IsFirstPrice, IsLastPrice, Prices, has}
 
 -- the first price of the set, or none where it is empty
-abbrev pub IsFirstOf : Prices → Option ℕ → Type 0
-IsFirstOf s None = (n : ℕ) → has s n ≡ false
-IsFirstOf s (Some m) = IsFirst s m
+abbrev pub IsFirstPriceOf : Prices → Option ℕ → Type 0
+IsFirstPriceOf s None = (n : ℕ) → has s n ≡ false
+IsFirstPriceOf s (Some m) = IsFirstPrice s m
 
 -- the last price of the set, or none where it is empty
-abbrev pub IsLastOf : Prices → Option ℕ → Type 0
-IsLastOf s None = (n : ℕ) → has s n ≡ false
-IsLastOf s (Some m) = IsLast s m
+abbrev pub IsLastPriceOf : Prices → Option ℕ → Type 0
+IsLastPriceOf s None = (n : ℕ) → has s n ≡ false
+IsLastPriceOf s (Some m) = IsLastPrice s m
 
 abbrev pub lower_of : Option ℕ → ℕ → ℕ
 lower_of None p = p

@@ -14,7 +14,7 @@ pub record LevelsView (L : Type 0) : Type 0 where
 
 module _ {L : Type 0} where
   abbrev pub level_under : List (List (Option ℕ)) → Slab (Priced L) → ℕ → Option (Priced L)
-  level_under keys slab p = option_and_then (λ (k : ℕ). get slab k) (map.lookup keys p)
+  level_under keys slab p = option_and_then (λ (k : ℕ). get slab k) (map.value_at keys p)
 
   -- the level of a price
   unfoldable pub level_at : LevelsView L → ℕ → Option L
@@ -22,11 +22,11 @@ module _ {L : Type 0} where
 
   -- a level can be put under the price, and taken away, as far as the price goes
   unfoldable pub HasPrice : LevelsView L → ℕ → Type 0
-  HasPrice l p = set.HasRoom l.prices p × map.HasRoom l.keys p
+  HasPrice l p = set.HasRoom l.prices p × map.HasValueRoom l.keys p
 
   -- so many levels more can be put in with no memory
-  unfoldable pub HasRoom : LevelsView L → ℕ → Type 0
-  HasRoom l n = HasRoomFor l.slab n
+  unfoldable pub HasLevelRoom : LevelsView L → ℕ → Type 0
+  HasLevelRoom l n = HasRoomFor l.slab n
 
   -- a level of this price lies under the key
   pub record Lies (slab : Slab (Priced L)) (p k : ℕ) : Type 0 where
@@ -36,8 +36,8 @@ module _ {L : Type 0} where
 
   -- the set has the prices of the levels, each of which lies under its key
   pub record IsLaidOut (prices : set.Prices) (keys : List (List (Option ℕ))) (slab : Slab (Priced L)) : Type 0 where
-    pub marked : (p : ℕ) → set.has prices p ≡ is_some (map.lookup keys p)
-    pub lies : (p k : ℕ) → map.lookup keys p ≡ Some k → Lies slab p k
+    pub marked : (p : ℕ) → set.has prices p ≡ is_some (map.value_at keys p)
+    pub lies : (p k : ℕ) → map.value_at keys p ≡ Some k → Lies slab p k
 
   pub record IsFirstLevel (l : LevelsView L) (p : ℕ) : Type 0 where
     pub within : p < 1048576

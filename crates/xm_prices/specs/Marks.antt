@@ -68,12 +68,12 @@ abbrev pub IsTied : List (List ℕ) → ℕ → Type 0
 IsTied pages w = Agrees (mark pages (1048576 + w)) (word pages w)
 
 -- each word but the root is tied, and no place past the last one's is marked
-pub record IsSound (pages : List (List ℕ)) : Type 0 where
+pub record AreMarksSound (pages : List (List ℕ)) : Type 0 where
   pub tied : (w : ℕ) → w < 16644 → IsTied pages w
   pub top : (j : ℕ) → 1065220 ≤ j → mark pages j ≡ 0
 
 -- the tree is sound once place p has bit v, and the words that this may change are there
-pub record IsReady (pages : List (List ℕ)) (p v : ℕ) : Type 0 where
+pub record IsMarkReady (pages : List (List ℕ)) (p v : ℕ) : Type 0 where
   pub there : HasWord pages (p / 64)
   pub upper : (w : ℕ) → 16384 ≤ w → w < 16645 → HasWord pages w
   pub tied : (w : ℕ) → w < 16644 → 1048576 + w ≢ p → IsTied pages w
@@ -90,7 +90,7 @@ pub record IsPut (old new : List (List ℕ)) (p v : ℕ) : Type 0 where
 
 -- place p has bit v, and no other place of its level has changed
 pub record IsChanged (old new : List (List ℕ)) (p v : ℕ) : Type 0 where
-  pub sound : IsSound new
+  pub sound : AreMarksSound new
   pub marked : mark new p ≡ v
   pub same : (j : ℕ) → j / 64 ≡ p / 64 → j ≢ p → mark new j ≡ mark old j
   pub others : (w : ℕ) → w < 16384 + p / 4096 → w ≢ p / 64 → word new w ≡ word old w

@@ -29,13 +29,13 @@ pub record IsNextBelow (s : Prices) (n m : ℕ) : Type 0 where
   pub last : (k : ℕ) → m < k → k < n → has s k ≡ false
 
 -- price m is the first of the set
-pub record IsFirst (s : Prices) (m : ℕ) : Type 0 where
+pub record IsFirstPrice (s : Prices) (m : ℕ) : Type 0 where
   pub within : m < 1048576
   pub member : has s m ≡ true
   pub first : (k : ℕ) → k < m → has s k ≡ false
 
 -- price m is the last of the set
-pub record IsLast (s : Prices) (m : ℕ) : Type 0 where
+pub record IsLastPrice (s : Prices) (m : ℕ) : Type 0 where
   pub within : m < 1048576
   pub member : has s m ≡ true
   pub last : (k : ℕ) → m < k → has s k ≡ false

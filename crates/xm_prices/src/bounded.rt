@@ -1,12 +1,13 @@
 //! A set that knows its ends.
 ghost use Rattle.std.specs.Prelude.{◌≡◌, ◌==◌, if◌then◌else◌, ℕ, ◌<◌, IfNone, IfSome, OnErr, OnOk, Ok, true, false};
 ghost use Rattle.xm_prices.specs.Ends.{higher_of, is_at, lower_of};
-ghost use Rattle.xm_prices.specs.Set.{has, HasRoom, IsFirst, IsLast, IsNextAbove, IsNextBelow};
+ghost use Rattle.xm_prices.specs.Set.{has, HasRoom, IsFirstPrice, IsLastPrice, IsNextAbove, IsNextBelow};
 
 use crate::marks::PRICES;
 use crate::set::PriceSet;
-use std::alloc::{AllocError, Allocator};
+use std::alloc::Allocator;
 use std::marker::Model;
+use xm_memory::OutOfMemory;
 
 /// A set of prices that keeps its first and its last one at hand: both are asked far more often than they change.
 #[derive(Drop)]
@@ -17,7 +18,7 @@ pub struct BoundedSet<A: Allocator + Copy> {
 }
 
 impl<A: Allocator + Copy> Model for BoundedSet<A> {
-    ghost use Rattle.xm_prices.specs.Ends.{IsFirstOf, IsLastOf};
+    ghost use Rattle.xm_prices.specs.Ends.{IsFirstPriceOf, IsLastPriceOf};
     ghost use Rattle.xm_prices.specs.Set.{Prices};
 
     ghost Value = { Prices };
@@ -25,8 +26,8 @@ impl<A: Allocator + Copy> Model for BoundedSet<A> {
     ghost view = { λ s. s.prices };
 
     ghost invariant = { λ s. record {
-      first : IsFirstOf s.prices s.first;
-      last : IsLastOf s.prices s.last;
+      first : IsFirstPriceOf s.prices s.first;
+      last : IsLastPriceOf s.prices s.last;
     } };
 }
 
@@ -74,7 +75,7 @@ impl<A: Allocator + Copy> BoundedSet<A> {
 
     /// Makes all the room that a price needs, if it has none yet.
     #[inline(always)]
-    pub fn reserve(&mut self, price: u32) -> Result<(), AllocError>
+    pub fn reserve(&mut self, price: u32) -> Result<(), OutOfMemory>
         requires { price < PRICES }
         ensures room { OnOk result (HasRoom self.new price) }
         ensures kept { (n : ℕ) → HasRoom self.old n → HasRoom self.new n }
@@ -134,7 +135,7 @@ impl<A: Allocator + Copy> BoundedSet<A> {
     /// The first member.
     #[inline(always)]
     pub fn first(&self) -> Option<u32>
-        ensures some { IfSome result (IsFirst self.now) }
+        ensures some { IfSome result (IsFirstPrice self.now) }
         ensures none { IfNone result ((n : ℕ) → has self.now n ≡ false) }
     {
         self.first
@@ -143,7 +144,7 @@ impl<A: Allocator + Copy> BoundedSet<A> {
     /// The last member.
     #[inline(always)]
     pub fn last(&self) -> Option<u32>
-        ensures some { IfSome result (IsLast self.now) }
+        ensures some { IfSome result (IsLastPrice self.now) }
         ensures none { IfNone result ((n : ℕ) → has self.now n ≡ false) }
     {
         self.last

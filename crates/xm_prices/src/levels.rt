@@ -1,14 +1,15 @@
 //! Levels by price.
 ghost use Rattle.std.specs.Prelude.{◌≡◌, ◌==◌, if◌then◌else◌, ℕ, ◌+◌, ◌<◌, IfNone, IfSome, IsSome, None, Some, OnOk};
-ghost use Rattle.xm_prices.specs.Map.{lookup};
-ghost use Rattle.xm_prices.specs.Levels.{HasPrice, HasRoom, IsFirstLevel, IsLastLevel, IsLevelAbove, IsLevelBelow, level_at};
+ghost use Rattle.xm_prices.specs.Map.{value_at};
+ghost use Rattle.xm_prices.specs.Levels.{HasPrice, HasLevelRoom, IsFirstLevel, IsLastLevel, IsLevelAbove, IsLevelBelow, level_at};
 
 use crate::bounded::BoundedSet;
 use crate::map::PriceMap;
 use crate::marks::PRICES;
 use slab::Slab;
-use std::alloc::{AllocError, Allocator};
+use std::alloc::Allocator;
 use std::marker::Model;
+use xm_memory::OutOfMemory;
 
 /// A level and its price.
 #[derive(Clone, Copy)]
@@ -27,7 +28,7 @@ pub struct Levels<L, A: Allocator + Copy> {
 }
 
 impl<L, A: Allocator + Copy> Model for Levels<L, A> {
-    ghost use Rattle.xm_prices.specs.Map.{lookup};
+    ghost use Rattle.xm_prices.specs.Map.{value_at};
     ghost use Rattle.xm_prices.specs.Levels.{IsLaidOut, LevelsView};
 
     ghost Value = { LevelsView L };
@@ -50,17 +51,18 @@ impl<L: Copy, A: Allocator + Copy> Levels<L, A> {
     }
 
     /// Makes all the room that a price needs, which stays, and room for so many levels more.
-    pub fn reserve(&mut self, price: u32, levels: usize) -> Result<(), AllocError>
+    pub fn reserve(&mut self, price: u32, levels: usize) -> Result<(), OutOfMemory>
         requires { price < PRICES }
         ensures price { OnOk result (HasPrice self.new price) }
-        ensures room { OnOk result (HasRoom self.new levels) }
+        ensures room { OnOk result (HasLevelRoom self.new levels) }
         ensures prices_kept { (p : ℕ) → HasPrice self.old p → HasPrice self.new p }
-        ensures room_kept { (n : ℕ) → HasRoom self.old n → HasRoom self.new n }
+        ensures room_kept { (n : ℕ) → HasLevelRoom self.old n → HasLevelRoom self.new n }
         ensures same { (p : ℕ) → level_at self.new p ≡ level_at self.old p }
     {
         self.prices.reserve(price)?;
         self.keys.reserve(price)?;
-        self.levels.reserve(levels)
+        self.levels.reserve(levels)?;
+        Ok(())
     }
 
     /// The level of a price.
@@ -79,11 +81,11 @@ impl<L: Copy, A: Allocator + Copy> Levels<L, A> {
     pub fn put(&mut self, price: u32, level: L)
         requires in_range { price < PRICES }
         requires price { HasPrice self.old price }
-        requires room { level_at self.old price ≡ None → HasRoom self.old 1 }
+        requires room { level_at self.old price ≡ None → HasLevelRoom self.old 1 }
         ensures levels { (p : ℕ) → level_at self.new p ≡ (if p == price then Some level else level_at self.old p) }
         ensures prices_kept { (p : ℕ) → HasPrice self.old p → HasPrice self.new p }
-        ensures room_used { (n : ℕ) → HasRoom self.old (n + 1) → HasRoom self.new n }
-        ensures room_kept { IsSome (level_at self.old price) → (n : ℕ) → HasRoom self.old n → HasRoom self.new n }
+        ensures room_used { (n : ℕ) → HasLevelRoom self.old (n + 1) → HasLevelRoom self.new n }
+        ensures room_kept { IsSome (level_at self.old price) → (n : ℕ) → HasLevelRoom self.old n → HasLevelRoom self.new n }
     {
         match self.keys.get(price) {
             Some(key) => self.overwrite(price, key, level),
@@ -98,10 +100,10 @@ impl<L: Copy, A: Allocator + Copy> Levels<L, A> {
     /// Puts another level under the key of a price. The level alone is written, so that it goes there from registers.
     #[inline(always)]
     fn overwrite(&mut self, price: u32, key: usize, level: L)
-        requires { lookup self.old.keys price ≡ Some key }
+        requires { value_at self.old.keys price ≡ Some key }
         ensures levels { (p : ℕ) → level_at self.new p ≡ (if p == price then Some level else level_at self.old p) }
         ensures prices_kept { (p : ℕ) → HasPrice self.old p → HasPrice self.new p }
-        ensures room_kept { (n : ℕ) → HasRoom self.old n → HasRoom self.new n }
+        ensures room_kept { (n : ℕ) → HasLevelRoom self.old n → HasLevelRoom self.new n }
     {
         self.levels[key].level = level;
     }
@@ -109,11 +111,11 @@ impl<L: Copy, A: Allocator + Copy> Levels<L, A> {
     fn begin(&mut self, price: u32, level: L)
         requires in_range { price < PRICES }
         requires price { HasPrice self.old price }
-        requires absent { lookup self.old.keys price ≡ None }
-        requires room { HasRoom self.old 1 }
+        requires absent { value_at self.old.keys price ≡ None }
+        requires room { HasLevelRoom self.old 1 }
         ensures levels { (p : ℕ) → level_at self.new p ≡ (if p == price then Some level else level_at self.old p) }
         ensures prices_kept { (p : ℕ) → HasPrice self.old p → HasPrice self.new p }
-        ensures room_used { (n : ℕ) → HasRoom self.old (n + 1) → HasRoom self.new n }
+        ensures room_used { (n : ℕ) → HasLevelRoom self.old (n + 1) → HasLevelRoom self.new n }
     {
         let key = self.levels.insert_reserved(Priced { price, level });
         self.keys.insert(price, key);
@@ -126,7 +128,7 @@ impl<L: Copy, A: Allocator + Copy> Levels<L, A> {
         requires price { HasPrice self.old price }
         ensures levels { (p : ℕ) → level_at self.new p ≡ (if p == price then None else level_at self.old p) }
         ensures prices_kept { (p : ℕ) → HasPrice self.old p → HasPrice self.new p }
-        ensures room_kept { (n : ℕ) → HasRoom self.old n → HasRoom self.new n }
+        ensures room_kept { (n : ℕ) → HasLevelRoom self.old n → HasLevelRoom self.new n }
     {
         match self.keys.get(price) {
             Some(key) => self.end(price, key),
@@ -137,10 +139,10 @@ impl<L: Copy, A: Allocator + Copy> Levels<L, A> {
     fn end(&mut self, price: u32, key: usize)
         requires in_range { price < PRICES }
         requires price { HasPrice self.old price }
-        requires there { lookup self.old.keys price ≡ Some key }
+        requires there { value_at self.old.keys price ≡ Some key }
         ensures levels { (p : ℕ) → level_at self.new p ≡ (if p == price then None else level_at self.old p) }
         ensures prices_kept { (p : ℕ) → HasPrice self.old p → HasPrice self.new p }
-        ensures room_kept { (n : ℕ) → HasRoom self.old n → HasRoom self.new n }
+        ensures room_kept { (n : ℕ) → HasLevelRoom self.old n → HasLevelRoom self.new n }
     {
         self.levels.remove(key);
         self.keys.remove(price);

@@ -1,11 +1,12 @@
 //! The map.
 ghost use Rattle.std.specs.Prelude.{◌≡◌, ◌==◌, if◌then◌else◌, ℕ, ◌<◌, None, Some, OnOk, OnErr, Ok, IsTrue, IsFalse};
-ghost use Rattle.xm_prices.specs.Map.{lookup, HasRoom};
+ghost use Rattle.xm_prices.specs.Map.{value_at, HasValueRoom};
 
 use crate::marks::PRICES;
 use crate::page::{Page, absent_pages, is_made, slot_at};
-use std::alloc::{AllocError, Allocator};
+use std::alloc::Allocator;
 use std::marker::Model;
+use xm_memory::OutOfMemory;
 
 /// How many slots a page has. A map that is used at one price takes one page and what says where
 /// each page is, which is 24 bytes a page: as many pages as slots make both together least where a
@@ -24,19 +25,19 @@ pub struct PriceMap<V, A: Allocator + Copy> {
 
 impl<V, A: Allocator + Copy> Model for PriceMap<V, A> {
     ghost use Rattle.std.specs.Prelude.{List, Option};
-    ghost use Rattle.xm_prices.specs.Map.{IsShaped};
+    ghost use Rattle.xm_prices.specs.Map.{IsMapShaped};
 
     ghost Value = { List (List (Option V)) };
 
     ghost view = { λ m. m.pages.items };
 
-    ghost invariant = { λ m. IsShaped m.pages.items };
+    ghost invariant = { λ m. IsMapShaped m.pages.items };
 }
 
 impl<V: Copy, A: Allocator + Copy> PriceMap<V, A> {
     /// The empty map, which has room for no price and has taken no memory.
     pub fn new(alloc: A) -> PriceMap<V, A>
-        ensures { (p : ℕ) → lookup result p ≡ None }
+        ensures { (p : ℕ) → value_at result p ≡ None }
     {
         PriceMap {
             alloc,
@@ -47,20 +48,20 @@ impl<V: Copy, A: Allocator + Copy> PriceMap<V, A> {
     /// Whether a price has room.
     pub fn has_room(&self, price: u32) -> bool
         requires { price < PRICES }
-        ensures some { IsTrue result → HasRoom self.now price }
-        ensures none { IsFalse result → HasRoom self.now price → ⊥ }
+        ensures some { IsTrue result → HasValueRoom self.now price }
+        ensures none { IsFalse result → HasValueRoom self.now price → ⊥ }
     {
         is_made(&self.pages, price as usize / PAGE_SLOTS)
     }
 
     /// Makes all the room that a price needs, if it has none yet.
     #[inline(always)]
-    pub fn reserve(&mut self, price: u32) -> Result<(), AllocError>
+    pub fn reserve(&mut self, price: u32) -> Result<(), OutOfMemory>
         requires { price < PRICES }
-        ensures room { OnOk result (HasRoom self.new price) }
-        ensures kept { (p : ℕ) → HasRoom self.old p → HasRoom self.new p }
-        ensures same { (p : ℕ) → lookup self.new p ≡ lookup self.old p }
-        ensures free { HasRoom self.old price → result ≡ Ok tt }
+        ensures room { OnOk result (HasValueRoom self.new price) }
+        ensures kept { (p : ℕ) → HasValueRoom self.old p → HasValueRoom self.new p }
+        ensures same { (p : ℕ) → value_at self.new p ≡ value_at self.old p }
+        ensures free { HasValueRoom self.old price → result ≡ Ok tt }
         ensures err { OnErr result (self.new ≡ self.old) }
     {
         if self.has_room(price) {
@@ -73,7 +74,7 @@ impl<V: Copy, A: Allocator + Copy> PriceMap<V, A> {
     #[inline(always)]
     pub fn get(&self, price: u32) -> Option<V>
         requires { price < PRICES }
-        ensures { result ≡ lookup self.now price }
+        ensures { result ≡ value_at self.now price }
     {
         let place = price as usize;
         slot_at(&self.pages, place / PAGE_SLOTS, place % PAGE_SLOTS, None)
@@ -82,10 +83,10 @@ impl<V: Copy, A: Allocator + Copy> PriceMap<V, A> {
     /// Puts a value under a price that has room, and gives the one that was there.
     pub fn insert(&mut self, price: u32, value: V) -> Option<V>
         requires in_range { price < PRICES }
-        requires room { HasRoom self.old price }
-        ensures value { result ≡ lookup self.old price }
-        ensures values { (p : ℕ) → lookup self.new p ≡ (if p == price then Some value else lookup self.old p) }
-        ensures kept { (p : ℕ) → HasRoom self.old p → HasRoom self.new p }
+        requires room { HasValueRoom self.old price }
+        ensures value { result ≡ value_at self.old price }
+        ensures values { (p : ℕ) → value_at self.new p ≡ (if p == price then Some value else value_at self.old p) }
+        ensures kept { (p : ℕ) → HasValueRoom self.old p → HasValueRoom self.new p }
     {
         self.replace(price, Some(value))
     }
@@ -93,10 +94,10 @@ impl<V: Copy, A: Allocator + Copy> PriceMap<V, A> {
     /// Takes the value from under a price that has room, which stays.
     pub fn remove(&mut self, price: u32) -> Option<V>
         requires in_range { price < PRICES }
-        requires room { HasRoom self.old price }
-        ensures value { result ≡ lookup self.old price }
-        ensures values { (p : ℕ) → lookup self.new p ≡ (if p == price then None else lookup self.old p) }
-        ensures kept { (p : ℕ) → HasRoom self.old p → HasRoom self.new p }
+        requires room { HasValueRoom self.old price }
+        ensures value { result ≡ value_at self.old price }
+        ensures values { (p : ℕ) → value_at self.new p ≡ (if p == price then None else value_at self.old p) }
+        ensures kept { (p : ℕ) → HasValueRoom self.old p → HasValueRoom self.new p }
     {
         self.replace(price, None)
     }
@@ -104,10 +105,10 @@ impl<V: Copy, A: Allocator + Copy> PriceMap<V, A> {
     /// Puts a value or none under a price that has room, and gives what was there.
     fn replace(&mut self, price: u32, value: Option<V>) -> Option<V>
         requires in_range { price < PRICES }
-        requires room { HasRoom self.old price }
-        ensures value { result ≡ lookup self.old price }
-        ensures values { (p : ℕ) → lookup self.new p ≡ (if p == price then value else lookup self.old p) }
-        ensures kept { (p : ℕ) → HasRoom self.old p → HasRoom self.new p }
+        requires room { HasValueRoom self.old price }
+        ensures value { result ≡ value_at self.old price }
+        ensures values { (p : ℕ) → value_at self.new p ≡ (if p == price then value else value_at self.old p) }
+        ensures kept { (p : ℕ) → HasValueRoom self.old p → HasValueRoom self.new p }
     {
         let place = price as usize;
         self.pages[place / PAGE_SLOTS].replace(place % PAGE_SLOTS, value)
@@ -115,12 +116,12 @@ impl<V: Copy, A: Allocator + Copy> PriceMap<V, A> {
 
     /// Makes the page of a price that has none, and all pages where this is the first.
     #[inline(never)]
-    fn make_room(&mut self, price: u32) -> Result<(), AllocError>
+    fn make_room(&mut self, price: u32) -> Result<(), OutOfMemory>
         requires in_range { price < PRICES }
-        requires none { HasRoom self.old price → ⊥ }
-        ensures room { OnOk result (HasRoom self.new price) }
-        ensures kept { (p : ℕ) → HasRoom self.old p → HasRoom self.new p }
-        ensures same { (p : ℕ) → lookup self.new p ≡ lookup self.old p }
+        requires none { HasValueRoom self.old price → ⊥ }
+        ensures room { OnOk result (HasValueRoom self.new price) }
+        ensures kept { (p : ℕ) → HasValueRoom self.old p → HasValueRoom self.new p }
+        ensures same { (p : ℕ) → value_at self.new p ≡ value_at self.old p }
         ensures err { OnErr result (self.new ≡ self.old) }
     {
         let i = price as usize / PAGE_SLOTS;
@@ -129,9 +130,9 @@ impl<V: Copy, A: Allocator + Copy> PriceMap<V, A> {
             let mut pages = absent_pages(self.alloc, PAGES)?;
             pages[i] = page;
             self.pages = pages;
-        } else {
-            self.pages[i] = page;
+            return Ok(());
         }
+        self.pages[i] = page;
         Ok(())
     }
 }

@@ -1,7 +1,7 @@
 //! The tree of words: the lower words have a bit for each price, and each further bit says whether a
 //! word has a bit.
 ghost use Rattle.std.specs.Prelude.{◌≡◌, ℕ, ◌+◌, ◌/◌, ◌<◌, ◌≤◌, IfNone, IfSome};
-ghost use Rattle.xm_prices.specs.Marks.{mark, bit_of, IsAbove, IsBelow, IsClearAbove, IsClearBelow, IsSound, IsReady, IsChanged};
+ghost use Rattle.xm_prices.specs.Marks.{mark, bit_of, IsAbove, IsBelow, IsClearAbove, IsClearBelow, AreMarksSound, IsMarkReady, IsChanged};
 
 use crate::bits::{bit_above, bit_below, first_bit, last_bit};
 use crate::page::Page;
@@ -26,7 +26,7 @@ pub enum Mark {
 
 /// The first marked place above `place`.
 pub fn place_above<A: Allocator>(pages: &[Page<u64, A>], place: usize) -> Option<usize>
-    requires sound { IsSound pages.now }
+    requires sound { AreMarksSound pages.now }
     requires place { place < 1065220 }
     ensures some { IfSome result (IsAbove pages.now place) }
     ensures none { IfNone result (IsClearAbove pages.now place) }
@@ -46,7 +46,7 @@ pub fn place_above<A: Allocator>(pages: &[Page<u64, A>], place: usize) -> Option
 
 /// The last marked place below `place`.
 pub fn place_below<A: Allocator>(pages: &[Page<u64, A>], place: usize) -> Option<usize>
-    requires sound { IsSound pages.now }
+    requires sound { AreMarksSound pages.now }
     requires place { place < 1065220 }
     ensures some { IfSome result (IsBelow pages.now place) }
     ensures none { IfNone result (IsClearBelow pages.now place) }
@@ -66,7 +66,7 @@ pub fn place_below<A: Allocator>(pages: &[Page<u64, A>], place: usize) -> Option
 
 /// Changes the bit of a place, and those of the places that stand for its word, as far as needed.
 pub fn put_mark<A: Allocator>(pages: &mut [Page<u64, A>], place: usize, mark: Mark)
-    requires ready { IsReady pages.old place (bit_of mark) }
+    requires ready { IsMarkReady pages.old place (bit_of mark) }
     requires place { place < 1065220 }
     ensures { IsChanged pages.old pages.new place (bit_of mark) }
 {

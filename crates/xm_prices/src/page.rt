@@ -2,9 +2,10 @@
 ghost use Rattle.std.specs.Prelude.{◌≡◌, ◌==◌, ℕ, ◌<◌, [], IfOk, IsFalse, IsTrue, length, replicate, slice_index_or, slice_set};
 ghost use Rattle.xm_prices.specs.Slots.{page_at, slot_at};
 
-use std::alloc::{AllocError, Allocator};
+use std::alloc::Allocator;
 use std::marker::Model;
 use std::mem;
+use xm_memory::OutOfMemory;
 
 /// A page of slots, or an absent one, which has none and has taken no memory.
 #[derive(Drop)]
@@ -40,7 +41,7 @@ impl<T, A: Allocator> Page<T, A> {
 
 impl<T: Copy, A: Allocator> Page<T, A> {
     /// A page of `len` slots that have this value.
-    pub fn filled(alloc: A, len: usize, value: T) -> Result<Page<T, A>, AllocError>
+    pub fn filled(alloc: A, len: usize, value: T) -> Result<Page<T, A>, OutOfMemory>
         ensures { IfOk result (λ p. p ≡ replicate len value) }
     {
         let mut slots = Vec::with_capacity(alloc, len)?;
@@ -76,7 +77,7 @@ impl<T: Copy, A: Allocator> Page<T, A> {
 pub fn absent_pages<T: Drop, A: Allocator + Copy>(
     alloc: A,
     count: usize,
-) -> Result<Vec<Page<T, A>, A>, AllocError>
+) -> Result<Vec<Page<T, A>, A>, OutOfMemory>
     ensures { IfOk result (λ pages. pages.items ≡ replicate count []) }
 {
     let mut pages = Vec::with_capacity(alloc, count)?;

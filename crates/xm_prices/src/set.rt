@@ -1,13 +1,14 @@
 //! The set.
 ghost use Rattle.std.specs.Prelude.{◌≡◌, ◌==◌, if◌then◌else◌, ℕ, ◌<◌, ◌≤◌, IfNone, IfSome, OnErr, OnOk, Ok, IsTrue, IsFalse, true, false};
 ghost use Rattle.xm_prices.specs.Marks.{bit_of};
-ghost use Rattle.xm_prices.specs.Set.{has, HasRoom, IsFirst, IsLast, IsNextAbove, IsNextBelow};
+ghost use Rattle.xm_prices.specs.Set.{has, HasRoom, IsFirstPrice, IsLastPrice, IsNextAbove, IsNextBelow};
 
 use crate::marks::{Mark, PRICES, place_above, place_below, put_mark};
 use crate::page::{Page, is_made};
 use crate::words::{PAGE_WORDS, unused_pages, word};
-use std::alloc::{AllocError, Allocator};
+use std::alloc::Allocator;
 use std::marker::Model;
+use xm_memory::OutOfMemory;
 
 /// How many prices a page has a bit for.
 const PAGE_PRICES: usize = 64 * PAGE_WORDS;
@@ -20,7 +21,7 @@ pub struct PriceSet<A: Allocator + Copy> {
 }
 
 impl<A: Allocator + Copy> Model for PriceSet<A> {
-    ghost use Rattle.xm_prices.specs.Marks.{IsSound};
+    ghost use Rattle.xm_prices.specs.Marks.{AreMarksSound};
     ghost use Rattle.xm_prices.specs.Set.{Prices};
     ghost use Rattle.xm_prices.specs.Words.{IsShaped};
 
@@ -29,7 +30,7 @@ impl<A: Allocator + Copy> Model for PriceSet<A> {
     ghost view = { λ s. record { pages = s.pages.items } };
 
     ghost invariant = { λ s. record {
-      sound : IsSound s.pages.items;
+      sound : AreMarksSound s.pages.items;
       shaped : IsShaped s.pages.items;
     } };
 }
@@ -56,7 +57,7 @@ impl<A: Allocator + Copy> PriceSet<A> {
 
     /// Makes all the room that a price needs, if it has none yet.
     #[inline(always)]
-    pub fn reserve(&mut self, price: u32) -> Result<(), AllocError>
+    pub fn reserve(&mut self, price: u32) -> Result<(), OutOfMemory>
         requires { price < PRICES }
         ensures room { OnOk result (HasRoom self.new price) }
         ensures kept { (n : ℕ) → HasRoom self.old n → HasRoom self.new n }
@@ -125,7 +126,7 @@ impl<A: Allocator + Copy> PriceSet<A> {
 
     /// The first member.
     pub fn first(&self) -> Option<u32>
-        ensures some { IfSome result (IsFirst self.now) }
+        ensures some { IfSome result (IsFirstPrice self.now) }
         ensures none { IfNone result ((n : ℕ) → has self.now n ≡ false) }
     {
         if self.contains(0) {
@@ -137,7 +138,7 @@ impl<A: Allocator + Copy> PriceSet<A> {
 
     /// The last member.
     pub fn last(&self) -> Option<u32>
-        ensures some { IfSome result (IsLast self.now) }
+        ensures some { IfSome result (IsLastPrice self.now) }
         ensures none { IfNone result ((n : ℕ) → has self.now n ≡ false) }
     {
         if self.contains(PRICES - 1) {
@@ -159,7 +160,7 @@ impl<A: Allocator + Copy> PriceSet<A> {
 
     /// Makes the page of a price that has none, and all pages where this is the first.
     #[inline(never)]
-    fn make_room(&mut self, price: u32) -> Result<(), AllocError>
+    fn make_room(&mut self, price: u32) -> Result<(), OutOfMemory>
         requires in_range { price < PRICES }
         requires none { HasRoom self.old price → ⊥ }
         ensures room { OnOk result (HasRoom self.new price) }
@@ -173,9 +174,9 @@ impl<A: Allocator + Copy> PriceSet<A> {
             let mut pages = unused_pages(self.alloc)?;
             pages[i] = page;
             self.pages = pages;
-        } else {
-            self.pages[i] = page;
+            return Ok(());
         }
+        self.pages[i] = page;
         Ok(())
     }
 }

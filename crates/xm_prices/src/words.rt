@@ -7,7 +7,8 @@ ghost use Rattle.xm_prices.specs.Words.{HasWord, IsShaped, word};
 
 use crate::marks::Mark;
 use crate::page::{Page, absent_pages, slot_at};
-use std::alloc::{AllocError, Allocator};
+use std::alloc::Allocator;
+use xm_memory::OutOfMemory;
 
 /// How many words a page has: one bit each for 16,384 prices, in 2 KB.
 pub const PAGE_WORDS: usize = 256;
@@ -22,7 +23,7 @@ const PAGES: usize = 66;
 const LAST_PAGE_WORDS: usize = 5;
 
 /// The pages of a set that has room for no price yet.
-pub fn unused_pages<A: Allocator + Copy>(alloc: A) -> Result<Vec<Page<u64, A>, A>, AllocError>
+pub fn unused_pages<A: Allocator + Copy>(alloc: A) -> Result<Vec<Page<u64, A>, A>, OutOfMemory>
     ensures shaped { IfOk result (λ pages. IsShaped pages.items) }
     ensures count { IfOk result (λ pages. length pages.items ≡ 66) }
     ensures clear { IfOk result (λ pages. (w : ℕ) → word pages.items w ≡ 0) }

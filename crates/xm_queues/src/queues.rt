@@ -7,8 +7,9 @@ ghost use Rattle.xm_queues.specs.declared.links.TheConstants.{MAX_KEYS};
 ghost use Rattle.xm_queues.specs.declared.queues.Ends.{Ends};
 
 use crate::links::{Link, MAX_KEYS, MaybeKey, lead_back, lead_to};
-use std::alloc::{AllocError, Allocator};
+use std::alloc::Allocator;
 use std::marker::Model;
+use xm_memory::{OutOfMemory, count_within};
 
 /// The first and the last key of a queue. Its owner keeps it, and passes it to each change of that queue.
 #[derive(Clone, Copy)]
@@ -68,7 +69,7 @@ impl<A: Allocator> Queues<A> {
 
     /// Makes room for `key` and each key below it. It fails for a key of `MAX_KEYS` or more, and where a growth is
     /// refused.
-    pub fn reserve_key(&mut self, key: usize) -> Result<(), AllocError>
+    pub fn reserve_key(&mut self, key: usize) -> Result<(), OutOfMemory>
         ensures room { OnOk result (key < key_limit self.new) }
         ensures fits { OnOk result (key < MAX_KEYS) }
         ensures enough { key < key_limit self.old → IsOk result }
@@ -79,16 +80,13 @@ impl<A: Allocator> Queues<A> {
         if key < self.links.len() {
             return Ok(());
         }
-        if key >= MAX_KEYS {
-            return Err(AllocError);
-        }
-        self.links.resize(
-            key + 1,
-            Link {
-                prev: MaybeKey::none(),
-                next: MaybeKey::none(),
-            },
-        )
+        count_within(key as u64, MAX_KEYS as u64 - 1)?;
+        let link = Link {
+            prev: MaybeKey::none(),
+            next: MaybeKey::none(),
+        };
+        self.links.resize(key + 1, link)?;
+        Ok(())
     }
 
     /// The key behind `key` in its queue.

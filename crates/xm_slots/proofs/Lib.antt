@@ -5,6 +5,7 @@ pub mod InTime
 pub mod Keeping
 pub mod Leaving
 pub mod Members
+pub mod Naming
 pub mod Rising
 pub mod SlotKeys
 pub mod Tests

@@ -1,4 +1,5 @@
 pub mod Listing
+pub mod Naming
 pub mod Slot
 pub mod Slots
 pub mod Timeline

@@ -5,6 +5,9 @@ use Rattle.xm_slots.specs.declared.entry.Entry.{Entry}
 use Rattle.xm_slots.specs.declared.listing.Listed.{Listed}
 
 module _ {I : Type 0} where
+  abbrev pub listed_item : Listed I → I
+  listed_item x = x.item
+
   abbrev pub listed_entry : Listed I → Entry I
   listed_entry x = record { item = x.item; time = x.time }
 

@@ -11,5 +11,5 @@ list_after (Joined x before) = before.value ++ x.value ∷ []
 list_after (Left key before) = filter (is_other_key key.value) before.value
 list_after (Replaced x before) = map (replaced_by x.value) before.value
 
-unfoldable pub listed : {I : Type 0} → Change I → List (Listed I)
-listed {I} change = fold-Change I (List (Listed I)) list_after change
+unfoldable pub listing_of : {I : Type 0} → Change I → List (Listed I)
+listing_of {I} change = fold-Change I (List (Listed I)) list_after change

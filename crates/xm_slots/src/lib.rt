@@ -3,10 +3,12 @@
 
 mod entry;
 mod listing;
+mod room;
 mod slot;
 mod slots;
 
 pub use crate::entry::{Entry, Owners, Rests};
 pub use crate::listing::{Listed, Listing};
+pub use crate::room::hold;
 pub use crate::slot::VACANT;
 pub use crate::slots::Slots;

@@ -35,9 +35,9 @@ impl<I> Model for Listing<I> {
 
     ghost Value = { List (Listed I) };
 
-    ghost use Rattle.xm_slots.specs.Timeline.{listed};
+    ghost use Rattle.xm_slots.specs.Timeline.{listing_of};
 
-    ghost view = { λ l. listed l.last };
+    ghost view = { λ l. listing_of l.last };
 }
 
 impl<I: Copy> Listing<I> {

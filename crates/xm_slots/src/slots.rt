@@ -7,8 +7,9 @@ ghost use Rattle.xm_slots.specs.Slots.{ContainsKey, Updates, entries_of, get, is
 
 use crate::entry::{Entry, Owners, Rests};
 use crate::slot::Slot;
-use std::alloc::{AllocError, Allocator};
+use std::alloc::Allocator;
 use std::marker::Model;
+use xm_memory::OutOfMemory;
 
 /// Entries, each under a key below the capacity. A key that has come back is given again before a new one.
 #[derive(Drop)]
@@ -69,7 +70,7 @@ impl<I: Copy, A: Allocator> Slots<I, A> {
     }
 
     /// Makes room for so many entries in all.
-    pub fn grow_to(&mut self, capacity: usize) -> Result<(), AllocError>
+    pub fn grow_to(&mut self, capacity: usize) -> Result<(), OutOfMemory>
         requires more { self.old.capacity ≤ capacity }
         requires keys { capacity ≤ 4294967295 }
         ensures ok { OnOk result (self.new ≡ record self.old { capacity = capacity }) }
@@ -148,12 +149,12 @@ impl<I: Copy, A: Allocator> Slots<I, A> {
 }
 
 impl<I: Copy, A: Allocator + Copy> Slots<I, A> {
-    /// The entries of an owner, or all where no owner is named, by rising key, or `AllocError` where the answer can't be
+    /// The entries of an owner, or all where no owner is named, by rising key, or `OutOfMemory` where the answer can't be
     /// held.
     pub fn entries_of<O: Owners<I>>(
         &self,
         owner: Option<u32>,
-    ) -> Result<Vec<Entry<I>, A>, AllocError>
+    ) -> Result<Vec<Entry<I>, A>, OutOfMemory>
         ensures { IfOk result (λ entries. entries.items ≡ entries_of O.owner_of owner self.now) }
     {
         let mut entries = Vec::new(*self.entries.allocator());

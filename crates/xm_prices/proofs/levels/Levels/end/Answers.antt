@@ -1,12 +1,12 @@
 use Rattle.std.proofs.Common.{ap, ◌∙◌, arith}
 use Rattle.xm_prices.specs.Levels.{LevelsView}
-use Rattle.xm_prices.specs.Map.{lookup}
+use Rattle.xm_prices.specs.Map.{value_at}
 use Rattle.xm_prices.proofs.Leveled.{ended-level, ended-lies, price-kept, price-parts, room-from, room-is, there-at}
 use Rattle.xm_prices.proofs.levels.Levels.end.Goals as goal
 
 pub remove-requires : goal.remove-requires
 remove-requires g c =
-    let at = ap (λ (l : LevelsView g.row.L.Denot). lookup l.keys c.args.price) c.self.view_is ∙ c.requires.there in
+    let at = ap (λ (l : LevelsView g.row.L.Denot). value_at l.keys c.args.price) c.self.view_is ∙ c.requires.there in
     there-at c.self.inside.prices c.self.inside.keys c.self.inside.levels c.self.invariant c.args.price c.args.key at
 
 pub remove-requires-2-clause-room : goal.remove-requires-2-clause-room
@@ -17,12 +17,12 @@ remove-requires-3-clause-room g c = (price-parts c.self.inside.prices c.self.ins
 
 pub invariant_of-self : goal.invariant_of-self
 invariant_of-self g c =
-    let at = ap (λ (l : LevelsView g.row.L.Denot). lookup l.keys c.args.price) c.self.view_is ∙ c.requires.there in
+    let at = ap (λ (l : LevelsView g.row.L.Denot). value_at l.keys c.args.price) c.self.view_is ∙ c.requires.there in
     ended-lies c.self.inside.prices c.self.inside.keys c.self.inside.levels c.self.invariant c.args.price c.args.key at c.remove.new.self c.remove.ensures.updates c.remove-2.new.self c.remove-2.ensures.values c.remove-3.new.self c.remove-3.ensures.members
 
 pub returns-clause-levels : goal.returns-clause-levels
 returns-clause-levels g c =
-    let at = ap (λ (l : LevelsView g.row.L.Denot). lookup l.keys c.args.price) c.self.view_is ∙ c.requires.there in
+    let at = ap (λ (l : LevelsView g.row.L.Denot). value_at l.keys c.args.price) c.self.view_is ∙ c.requires.there in
     rw (← c.self.view_is) (ended-level c.self.inside.prices c.self.inside.keys c.self.inside.levels c.self.invariant c.args.price c.args.key at c.remove.new.self c.remove.ensures.updates c.remove-2.new.self c.remove-2.ensures.values c.remove-3.new.self c.remove-3.ensures.members)
 
 pub returns-clause-prices_kept : goal.returns-clause-prices_kept

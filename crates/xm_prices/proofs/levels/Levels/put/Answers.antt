@@ -1,15 +1,15 @@
 use Rattle.std.proofs.Common.{sym, ap, ◌∙◌}
 use Rattle.xm_prices.specs.Levels.{LevelsView}
-use Rattle.xm_prices.specs.Map.{lookup}
+use Rattle.xm_prices.specs.Map.{value_at}
 use Rattle.xm_prices.proofs.Callers.{room-less}
 use Rattle.xm_prices.proofs.Leveled.{absent-at, no-level}
 use Rattle.xm_prices.proofs.levels.Levels.put.Goals as goal
 
 pub overwrite-requires : goal.overwrite-requires
-overwrite-requires g c = ap (λ (l : LevelsView g.row.L.Denot). lookup l.keys c.args.price) (sym c.self.view_is) ∙ sym c.get.ensures ∙ c.in-Some.is
+overwrite-requires g c = ap (λ (l : LevelsView g.row.L.Denot). value_at l.keys c.args.price) (sym c.self.view_is) ∙ sym c.get.ensures ∙ c.in-Some.is
 
 pub begin-requires-clause-absent : goal.begin-requires-clause-absent
-begin-requires-clause-absent g c = ap (λ (l : LevelsView g.row.L.Denot). lookup l.keys c.args.price) (sym c.self.view_is) ∙ sym c.get.ensures ∙ c.in-None.is
+begin-requires-clause-absent g c = ap (λ (l : LevelsView g.row.L.Denot). value_at l.keys c.args.price) (sym c.self.view_is) ∙ sym c.get.ensures ∙ c.in-None.is
 
 pub begin-requires-clause-room : goal.begin-requires-clause-room
 begin-requires-clause-room g c = c.requires.room (rw (← c.self.view_is) (absent-at c.self.inside.prices c.self.inside.keys c.self.inside.levels c.args.price (sym c.get.ensures ∙ c.in-None.is)))

@@ -18,14 +18,14 @@ invariant_of-self g c =
           c.in_ok-pages.ensures.count (c.in_ok-pages.ensures.absent (c.args.price / 16384) (omega arith)) c.in_ok-pages.ensures.shaped (λ w. c.in_ok-pages.ensures.clear w ∙ sym (word_none c.self.inside.pages.items none w));
     }
 
-pub index_mut-requires-else-is_empty : goal.index_mut-requires-else-is_empty
-index_mut-requires-else-is_empty g c =
+pub index_mut-requires-2 : goal.index_mut-requires-2
+index_mut-requires-2 g c =
     let some = rw c.self.inside.pages.ok.0 at (some_if c.self.inside.pages.len c.is_empty.result c.is_empty.ensures c.if-is_empty.false) in
     let count = c.self.invariant.shaped.count some in
     rw (c.self.inside.pages.ok.0, count) (omega arith)
 
-pub invariant_of-self-else-is_empty : goal.invariant_of-self-else-is_empty
-invariant_of-self-else-is_empty g c =
+pub invariant_of-self-2 : goal.invariant_of-self-2
+invariant_of-self-2 g c =
     let some = rw c.self.inside.pages.ok.0 at (some_if c.self.inside.pages.len c.is_empty.result c.is_empty.ensures c.if-is_empty.false) in
     let count = c.self.invariant.shaped.count some in
     let absent = no_room (record { pages = c.self.inside.pages.items }) c.args.price c.requires.in_range c.self.invariant.shaped (rw (← c.self.view_is) at c.requires.none) in
@@ -36,41 +36,41 @@ invariant_of-self-else-is_empty g c =
           count absent c.self.invariant.shaped (λ w. refl);
     }
 
-pub returns-in_ok-pages-clause-room : goal.returns-in_ok-pages-clause-room
-returns-in_ok-pages-clause-room g c =
+pub returns-then-is_empty-clause-room : goal.returns-then-is_empty-clause-room
+returns-then-is_empty-clause-room g c =
     let none = sym c.self.inside.pages.ok.0 ∙ none_if c.self.inside.pages.len c.is_empty.result c.is_empty.ensures c.if-is_empty.true in
     made_room (record { pages = c.self.inside.pages.items }) c.in_ok-pages.pages.items c.args.price c.requires.in_range c.in_ok-page.page c.in_ok-page.ensures
     c.in_ok-pages.ensures.count (c.in_ok-pages.ensures.absent (c.args.price / 16384) (omega arith)) c.in_ok-pages.ensures.shaped (λ w. c.in_ok-pages.ensures.clear w ∙ sym (word_none c.self.inside.pages.items none w))
 
-pub returns-in_ok-pages-clause-kept : goal.returns-in_ok-pages-clause-kept
-returns-in_ok-pages-clause-kept g c =
+pub returns-then-is_empty-clause-kept : goal.returns-then-is_empty-clause-kept
+returns-then-is_empty-clause-kept g c =
     let none = sym c.self.inside.pages.ok.0 ∙ none_if c.self.inside.pages.len c.is_empty.result c.is_empty.ensures c.if-is_empty.true in
     λ p had. absurd (let there = room_inside (record { pages = c.self.inside.pages.items }) p (rw (← c.self.view_is) at had) in omega arith)
 
-pub returns-in_ok-pages-clause-same : goal.returns-in_ok-pages-clause-same
-returns-in_ok-pages-clause-same g c =
+pub returns-then-is_empty-clause-same : goal.returns-then-is_empty-clause-same
+returns-then-is_empty-clause-same g c =
     let none = sym c.self.inside.pages.ok.0 ∙ none_if c.self.inside.pages.len c.is_empty.result c.is_empty.ensures c.if-is_empty.true in
     λ p. made_same (record { pages = c.self.inside.pages.items }) c.in_ok-pages.pages.items c.args.price c.requires.in_range c.in_ok-page.page c.in_ok-page.ensures
     c.in_ok-pages.ensures.count (c.in_ok-pages.ensures.absent (c.args.price / 16384) (omega arith)) c.in_ok-pages.ensures.shaped (λ w. c.in_ok-pages.ensures.clear w ∙ sym (word_none c.self.inside.pages.items none w)) p ∙ ap (λ (s : Prices). has s p) c.self.view_is
 
-pub returns-else-is_empty-clause-room : goal.returns-else-is_empty-clause-room
-returns-else-is_empty-clause-room g c =
+pub returns-clause-room : goal.returns-clause-room
+returns-clause-room g c =
     let some = rw c.self.inside.pages.ok.0 at (some_if c.self.inside.pages.len c.is_empty.result c.is_empty.ensures c.if-is_empty.false) in
     let count = c.self.invariant.shaped.count some in
     let absent = no_room (record { pages = c.self.inside.pages.items }) c.args.price c.requires.in_range c.self.invariant.shaped (rw (← c.self.view_is) at c.requires.none) in
     made_room (record { pages = c.self.inside.pages.items }) c.self.inside.pages.items c.args.price c.requires.in_range c.in_ok-page.page c.in_ok-page.ensures
     count absent c.self.invariant.shaped (λ w. refl)
 
-pub returns-else-is_empty-clause-kept : goal.returns-else-is_empty-clause-kept
-returns-else-is_empty-clause-kept g c =
+pub returns-clause-kept : goal.returns-clause-kept
+returns-clause-kept g c =
     let some = rw c.self.inside.pages.ok.0 at (some_if c.self.inside.pages.len c.is_empty.result c.is_empty.ensures c.if-is_empty.false) in
     let count = c.self.invariant.shaped.count some in
     let absent = no_room (record { pages = c.self.inside.pages.items }) c.args.price c.requires.in_range c.self.invariant.shaped (rw (← c.self.view_is) at c.requires.none) in
     λ p had. made_kept (record { pages = c.self.inside.pages.items }) c.self.inside.pages.items c.args.price c.requires.in_range c.in_ok-page.page c.in_ok-page.ensures
     count absent c.self.invariant.shaped (λ w. refl) p (rw (← c.self.view_is) at had)
 
-pub returns-else-is_empty-clause-same : goal.returns-else-is_empty-clause-same
-returns-else-is_empty-clause-same g c =
+pub returns-clause-same : goal.returns-clause-same
+returns-clause-same g c =
     let some = rw c.self.inside.pages.ok.0 at (some_if c.self.inside.pages.len c.is_empty.result c.is_empty.ensures c.if-is_empty.false) in
     let count = c.self.invariant.shaped.count some in
     let absent = no_room (record { pages = c.self.inside.pages.items }) c.args.price c.requires.in_range c.self.invariant.shaped (rw (← c.self.view_is) at c.requires.none) in

@@ -1,6 +1,6 @@
 use Rattle.std.proofs.Common.{◌≡◌, ◌∙◌, ap, arith, sym, length}
 use Rattle.std.proofs.lemmas.List.{with_items_is}
-use Rattle.xm_prices.specs.Marks.{IsChanged, IsSound, bit_of}
+use Rattle.xm_prices.specs.Marks.{IsChanged, AreMarksSound, bit_of}
 use Rattle.xm_prices.specs.Set.{Prices}
 use Rattle.xm_prices.specs.Words.{IsShaped}
 use Rattle.xm_prices.proofs.Members.{has_changed, ready, room_changed}
@@ -11,7 +11,7 @@ pub put_mark-requires : goal.put_mark-requires
 put_mark-requires g c =
     let view = ap (λ (s : Prices). s.pages) c.self.view_is in
     let old : c.deref_mut.result.now ≡ c.args.self.now.pages = c.deref_mut.ensures.value ∙ view in
-    let sound : IsSound c.args.self.now.pages = rw view at c.self.invariant.sound in
+    let sound : AreMarksSound c.args.self.now.pages = rw view at c.self.invariant.sound in
     let shaped : IsShaped c.args.self.now.pages = rw view at c.self.invariant.shaped in
     record {
       ready = rw old (ready c.args.self.now c.args.price (bit_of c.args.mark) c.requires.in_range c.requires.room sound shaped);
