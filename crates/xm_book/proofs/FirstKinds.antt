@@ -9,8 +9,8 @@ use Rattle.xm_book.proofs.Heading.{limited-first, market-first, no-market}
 use Rattle.xm_book.proofs.Joining.{kind-is}
 use Rattle.xm_slots.proofs.Members.{Contains-filter, Contains-here, Contains-none, Passes-filter}
 use Rattle.xm_book.proofs.Standing.{earliest-head, rises-kept}
-use Rattle.xm_ladders.specs.Ladder.{same_kind}
 use Rattle.xm_rules.specs.Active.{is_active}
+use Rattle.xm_rules.specs.Orders.{same_kind}
 use Rattle.xm_rules.specs.Sides.{same_side}
 use Rattle.xm_rules.specs.declared.orders.Order.{Order}
 use Rattle.xm_rules.specs.declared.orders.OrderKind.{OrderKind}

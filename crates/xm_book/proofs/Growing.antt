@@ -1,9 +1,8 @@
 -- Queues that have more room.
 use Rattle.std.proofs.Common.{◌≡◌, ℕ, ◌+◌, ◌-◌, ◌<◌, ◌≤◌, Bool, true, false, ◌&&◌, List, length, get_or, count_by, Option, None, Some, refl, sym, subst, arith}
 use Rattle.std.proofs.lemmas.Bool.{and_parts}
-use Rattle.xm_book.specs.Levels.{same_restriction}
 use Rattle.xm_book.specs.Places.{same_place}
-use Rattle.xm_book.specs.Queued.{HasKindOf, HasPlaces, HoldsLevel, IsQueued, is_limit, is_limit_in, members}
+use Rattle.xm_book.specs.Queued.{HasKindOf, HasPlaces, HoldsLevel, AreOrdersQueued, is_limit, is_limit_in, orders_of_level}
 use Rattle.xm_book.specs.Reserved.{Gains}
 use Rattle.xm_slots.specs.Slots.{SlotsView}
 use Rattle.xm_slots.specs.declared.listing.Listed.{Listed}
@@ -19,6 +18,7 @@ use Rattle.xm_ladders.specs.declared.level.Level.{Level}
 use Rattle.xm_queues.specs.Queue.{IsQueue, key_limit}
 use Rattle.xm_queues.specs.declared.queues.Ends.{Ends}
 use Rattle.xm_queues.specs.declared.links.Link.{Link}
+use Rattle.xm_rules.specs.Orders.{same_restriction}
 use Rattle.xm_rules.specs.Sides.{same_side}
 use Rattle.xm_rules.specs.declared.orders.OrderKind.{OrderKind}
 use Rattle.xm_rules.specs.declared.orders.Restriction.{Restriction}
@@ -36,7 +36,7 @@ module _ {A : Type 0} (xs : List (Listed Order)) (entries : SlotsView Order) (li
   holds None ys h = h
   holds (Some l) ys h = record { queue = same l.ends _ h.queue; orders = h.orders; units = h.units }
 
-  pub grown-queued : IsQueued xs entries links ladders → IsQueued xs roomier links' ladders'
+  pub grown-queued : AreOrdersQueued xs entries links ladders → AreOrdersQueued xs roomier links' ladders'
   grown-queued h = record {
     lie = h.lie;
     distinct = h.distinct;
@@ -44,7 +44,7 @@ module _ {A : Type 0} (xs : List (Listed Order)) (entries : SlotsView Order) (li
     few = h.few;
     small = h.small;
     kinds = λ i d lt. (let x = get_or xs i d in kinds x.item.side x.item.restriction x.item.kind (h.kinds i d lt));
-    levels = λ s r k. subst (λ (l : Option Level). HoldsLevel links' l (members s r k xs)) (sym (levels s r k)) (holds (level_on (side_of s ladders) r k) (members s r k xs) (h.levels s r k));
+    levels = λ s r k. subst (λ (l : Option Level). HoldsLevel links' l (orders_of_level s r k xs)) (sym (levels s r k)) (holds (level_on (side_of s ladders) r k) (orders_of_level s r k xs) (h.levels s r k));
     fits = fits;
   }
 

@@ -9,9 +9,8 @@ use Rattle.xm_slots.specs.declared.entry.Entry.{Entry}
 use Rattle.xm_slots.specs.declared.listing.Listed.{Listed}
 use Rattle.xm_book.proofs.Joining.{kind-is}
 use Rattle.xm_book.proofs.Merging.{kinds_once}
-use Rattle.xm_ladders.specs.Ladder.{same_kind}
 use Rattle.xm_rules.specs.Active.{is_active}
-use Rattle.xm_rules.specs.Orders.{limit_of}
+use Rattle.xm_rules.specs.Orders.{limit_of, same_kind}
 use Rattle.xm_rules.specs.Priority.{is_better}
 use Rattle.xm_rules.specs.Sides.{same_side}
 use Rattle.xm_rules.specs.declared.orders.OrderKind.{OrderKind}

@@ -9,14 +9,14 @@ use Rattle.std.proofs.lemmas.List.{append-nil, map-append, length-append}
 use Rattle.std.proofs.lemmas.List.Elements.{All-contains, Contains-get_or, All-append, All-cons, All-nil, filter-append}
 use Rattle.std.proofs.lemmas.List.Sums.{sum_by-append, sum_by-cons}
 use Rattle.xm_slots.specs.Slots.{SlotsView, Updates, get, used}
-use Rattle.xm_book.specs.Levels.{IsFound, at_level, level_for, same_restriction}
+use Rattle.xm_book.specs.Levels.{IsLevelFound, at_level, level_for}
 use Rattle.xm_slots.specs.Listing.{keys_in}
 use Rattle.xm_slots.specs.Listing.{LiesAt}
-use Rattle.xm_book.specs.Queued.{HasItsKind, HoldsLevel, IsLevelOf, IsQueued, is_member, members, units_in}
+use Rattle.xm_book.specs.Queued.{HasItsKind, HoldsLevel, IsLevelOf, AreOrdersQueued, is_of_level, orders_of_level, units_in}
 use Rattle.xm_slots.specs.declared.entry.Entry.{Entry}
 use Rattle.xm_slots.specs.declared.listing.Listed.{Listed}
 use Rattle.xm_slots.proofs.Members.{IsMade-map, Passes-filter}
-use Rattle.xm_ladders.specs.Ladder.{HasKind, same_kind}
+use Rattle.xm_ladders.specs.Ladder.{HasKind}
 use Rattle.xm_ladders.specs.Ladders.{ladder_on, level_on, side_of}
 use Rattle.xm_ladders.specs.declared.ladders.Ladders.{Ladders}
 use Rattle.xm_ladders.specs.declared.level.Level.{Level}
@@ -24,6 +24,7 @@ use Rattle.xm_queues.specs.Keys.{AreApart, AreDistinct}
 use Rattle.xm_queues.specs.Queue.{IsQueue, LacksKey, key_limit}
 use Rattle.xm_queues.specs.declared.links.Link.{Link}
 use Rattle.xm_queues.specs.declared.queues.Ends.{Ends}
+use Rattle.xm_rules.specs.Orders.{same_kind, same_restriction}
 use Rattle.xm_rules.specs.Sides.{same_side}
 use Rattle.xm_rules.specs.declared.orders.Order.{Order}
 use Rattle.xm_rules.specs.declared.orders.OrderKind.{OrderKind}
@@ -101,7 +102,7 @@ at-itself s r k o h =
     (and_from (same_restriction o.restriction o.restriction) (same_kind o.kind o.kind) (restriction-itself o.restriction) (kind-itself o.kind))
 
 -- what a level that was looked for holds
-pub found-level : (links : List Link) (o : Option Level) (level : Level) (ms : List (Listed Order)) → IsFound o level → HoldsLevel links o ms → IsLevelOf links level ms
+pub found-level : (links : List Link) (o : Option Level) (level : Level) (ms : List (Listed Order)) → IsLevelFound o level → HoldsLevel links o ms → IsLevelOf links level ms
 found-level links None level ms f e = record {
   queue = subst (λ (ys : List (Listed Order)). IsQueue links level.ends (keys_in ys)) (sym e) (f.0 links);
   orders = f.1.0 ∙ sym (ap length e);
@@ -120,7 +121,7 @@ units-few (x ∷ xs) h =
 small-kept : (p : Listed Order → Bool) (xs : List (Listed Order)) → All (λ (x : Listed Order). x.item.rest ≤ 1000000) xs → All (λ (x : Listed Order). x.item.rest ≤ 1000000) (filter p xs)
 small-kept p xs h = λ i d lt. (let at = Passes-filter p xs (get_or (filter p xs) i d) (Contains-get_or (filter p xs) i d lt) in All-contains (λ (x : Listed Order). x.item.rest ≤ 1000000) xs (get_or (filter p xs) i d) h at.contains)
 
-module _ {A : Type 0} (xs : List (Listed Order)) (entries : SlotsView Order) (links : List Link) (ladders : Ladders A) (h : IsQueued xs entries links ladders) where
+module _ {A : Type 0} (xs : List (Listed Order)) (entries : SlotsView Order) (links : List Link) (ladders : Ladders A) (h : AreOrdersQueued xs entries links ladders) where
   -- each key of a level has an order
   pub has-order : (p : Listed Order → Bool) (key : ℕ) → Contains (keys_in (filter p xs)) key → (x : Listed Order) × (Contains xs x) × (p x ≡ true) × (x.key ≡ key) × LiesAt entries x
   has-order p key at =
@@ -131,23 +132,23 @@ module _ {A : Type 0} (xs : List (Listed Order)) (entries : SlotsView Order) (li
   pub vacant-key : (p : Listed Order → Bool) (key : ℕ) → get entries key ≡ None → Contains (keys_in (filter p xs)) key → ⊥
   vacant-key p key vacant at = let x = has-order p key at in some_none (sym x.4 ∙ ap (get entries) x.3 ∙ vacant)
 
-  module _ (o : Order) (level : Level) (f : IsFound (level_for o ladders) level) where
-    pub here : IsLevelOf links level (members o.side o.restriction o.kind xs)
-    here = found-level links (level_for o ladders) level (members o.side o.restriction o.kind xs) f (h.levels o.side o.restriction o.kind)
+  module _ (o : Order) (level : Level) (f : IsLevelFound (level_for o ladders) level) where
+    pub here : IsLevelOf links level (orders_of_level o.side o.restriction o.kind xs)
+    here = found-level links (level_for o ladders) level (orders_of_level o.side o.restriction o.kind xs) f (h.levels o.side o.restriction o.kind)
 
     pub lacks : (key : ℕ) → get entries key ≡ None → LacksKey links level.ends key
-    lacks key vacant = record { keys = keys_in (members o.side o.restriction o.kind xs); queue = here.queue; absent = vacant-key (is_member o.side o.restriction o.kind) key vacant }
+    lacks key vacant = record { keys = keys_in (orders_of_level o.side o.restriction o.kind xs); queue = here.queue; absent = vacant-key (is_of_level o.side o.restriction o.kind) key vacant }
 
     pub orders-fit : level.orders ≤ 2000000
-    orders-fit = omega (arith, here.orders, h.few, length-kept (is_member o.side o.restriction o.kind) xs)
+    orders-fit = omega (arith, here.orders, h.few, length-kept (is_of_level o.side o.restriction o.kind) xs)
 
     pub units-fit : level.units ≤ 1000000 * 2000000
-    units-fit = omega (arith, here.units, h.few, length-kept (is_member o.side o.restriction o.kind) xs, units-few (members o.side o.restriction o.kind xs) (small-kept (is_member o.side o.restriction o.kind) xs h.small))
+    units-fit = omega (arith, here.units, h.few, length-kept (is_of_level o.side o.restriction o.kind) xs, units-few (orders_of_level o.side o.restriction o.kind xs) (small-kept (is_of_level o.side o.restriction o.kind) xs h.small))
 
-    pub apart : (s : Side) (r : Restriction) (k : OrderKind) → at_level s r k o ≡ false → AreApart (keys_in (members o.side o.restriction o.kind xs)) (keys_in (members s r k xs))
+    pub apart : (s : Side) (r : Restriction) (k : OrderKind) → at_level s r k o ≡ false → AreApart (keys_in (orders_of_level o.side o.restriction o.kind xs)) (keys_in (orders_of_level s r k xs))
     apart s r k off n a b =
-        let y = has-order (is_member o.side o.restriction o.kind) n a in
-        let z = has-order (is_member s r k) n b in
+        let y = has-order (is_of_level o.side o.restriction o.kind) n a in
+        let z = has-order (is_of_level s r k) n b in
         let one : Some (record { item = y.0.item; time = y.0.time }) ≡ Some (record { item = z.0.item; time = z.0.time }) = sym y.4 ∙ ap (get entries) (y.3 ∙ sym z.3) ∙ z.4 in
         let same : y.0.item ≡ z.0.item = ap (λ (e : Entry Order). e.item) (same_some one) in
         let i = is-at o.side o.restriction o.kind y.0.item y.2 in
@@ -173,7 +174,7 @@ module _ {A : Type 0} (xs : List (Listed Order)) (entries : SlotsView Order) (li
       new_level = record { ends = ends'; orders = level.orders + 1; units = level.units + o.rest }
 
       abbrev ms : List (Listed Order)
-      ms = members o.side o.restriction o.kind xs
+      ms = orders_of_level o.side o.restriction o.kind xs
 
       longer : IsLevelOf links' new_level (ms ++ x ∷ [])
       longer = record {
@@ -183,28 +184,28 @@ module _ {A : Type 0} (xs : List (Listed Order)) (entries : SlotsView Order) (li
       }
 
       module _ (s : Side) (r : Restriction) (k : OrderKind) where
-        pushed : members s r k (xs ++ x ∷ []) ≡ members s r k xs ++ (if at_level s r k o then x ∷ [] else [])
-        pushed = filter-append (is_member s r k) xs (x ∷ [])
+        pushed : orders_of_level s r k (xs ++ x ∷ []) ≡ orders_of_level s r k xs ++ (if at_level s r k o then x ∷ [] else [])
+        pushed = filter-append (is_of_level s r k) xs (x ∷ [])
 
-        kept : at_level s r k o ≡ false → (l : Option Level) → HoldsLevel links l (members s r k xs) → HoldsLevel links' l (members s r k xs)
+        kept : at_level s r k o ≡ false → (l : Option Level) → HoldsLevel links l (orders_of_level s r k xs) → HoldsLevel links' l (orders_of_level s r k xs)
         kept off None e = e
-        kept off (Some l) e = record { queue = others l.ends (keys_in ms) (keys_in (members s r k xs)) here.queue e.queue (apart s r k off) (vacant-key (is_member s r k) key vacant); orders = e.orders; units = e.units }
+        kept off (Some l) e = record { queue = others l.ends (keys_in ms) (keys_in (orders_of_level s r k xs)) here.queue e.queue (apart s r k off) (vacant-key (is_of_level s r k) key vacant); orders = e.orders; units = e.units }
 
-        holds_if : (b : Bool) → at_level s r k o ≡ b → HoldsLevel links' (if b then Some new_level else level_on (side_of s ladders) r k) (members s r k xs ++ (if b then x ∷ [] else []))
+        holds_if : (b : Bool) → at_level s r k o ≡ b → HoldsLevel links' (if b then Some new_level else level_on (side_of s ladders) r k) (orders_of_level s r k xs ++ (if b then x ∷ [] else []))
         holds_if true t =
             let at = is-at s r k o t in
-            subst (λ (ys : List (Listed Order)). IsLevelOf links' new_level (ys ++ x ∷ [])) (λ i. members (sym at.side i) (sym at.restriction i) (sym at.kind i) xs) longer
+            subst (λ (ys : List (Listed Order)). IsLevelOf links' new_level (ys ++ x ∷ [])) (λ i. orders_of_level (sym at.side i) (sym at.restriction i) (sym at.kind i) xs) longer
         holds_if false t =
-            subst (λ (ys : List (Listed Order)). HoldsLevel links' (level_on (side_of s ladders) r k) ys) (sym (append-nil (members s r k xs))) (kept t (level_on (side_of s ladders) r k) (h.levels s r k))
+            subst (λ (ys : List (Listed Order)). HoldsLevel links' (level_on (side_of s ladders) r k) ys) (sym (append-nil (orders_of_level s r k xs))) (kept t (level_on (side_of s ladders) r k) (h.levels s r k))
 
-        holds : HoldsLevel links' (level_on (side_of s ladders') r k) (members s r k (xs ++ x ∷ []))
-        holds = subst (λ (l : Option Level). HoldsLevel links' l (members s r k (xs ++ x ∷ []))) (sym (puts s r k))
+        holds : HoldsLevel links' (level_on (side_of s ladders') r k) (orders_of_level s r k (xs ++ x ∷ []))
+        holds = subst (λ (l : Option Level). HoldsLevel links' l (orders_of_level s r k (xs ++ x ∷ []))) (sym (puts s r k))
             (subst (λ (ys : List (Listed Order)). HoldsLevel links' (if at_level s r k o then Some new_level else level_on (side_of s ladders) r k) ys) (sym pushed) (holds_if (at_level s r k o) refl))
 
       lie-old : All (LiesAt entries') xs
       lie-old = λ i d lt. (let y = get_or xs i d in let old = h.lie i d lt in u.others y.key (λ same. some_none (sym old ∙ ap (get entries) same ∙ vacant)) ∙ old)
 
-      pub joined : IsQueued (xs ++ x ∷ []) entries' links' ladders'
+      pub joined : AreOrdersQueued (xs ++ x ∷ []) entries' links' ladders'
       joined = record {
         lie = All-append (LiesAt entries') xs (x ∷ []) lie-old (All-cons (LiesAt entries') x [] u.changed (All-nil (LiesAt entries')));
         distinct = subst AreDistinct (sym (map-append (λ (y : Listed Order). y.key) xs (x ∷ []))) (distinct-push key (keys_in xs) h.distinct (λ c. (let made = IsMade-map (λ (y : Listed Order). y.key) xs key c in some_none (sym (All-contains (LiesAt entries) xs made.from h.lie made.contains) ∙ ap (get entries) made.made ∙ vacant))));

@@ -3,7 +3,7 @@ use Rattle.std.proofs.Common.{◌≡◌, ℕ, zero, suc, ◌+◌, ◌<◌, ◌�
 use Rattle.std.specs.Prelude.{nat_le}
 use Rattle.std.proofs.lemmas.Bool.{and_parts}
 use Rattle.std.proofs.lemmas.List.{length-append}
-use Rattle.xm_book.specs.Levels.{level_for, same_restriction}
+use Rattle.xm_book.specs.Levels.{level_for}
 use Rattle.xm_slots.specs.Listing.{rises}
 use Rattle.xm_book.specs.Listing.{reduced_at}
 use Rattle.xm_book.specs.Places.{place_of, same_place}
@@ -19,6 +19,7 @@ use Rattle.xm_book.proofs.Reserving.{same_place-self}
 use Rattle.xm_ladders.specs.Ladder.{HasKind, HasLevels, LadderView}
 use Rattle.xm_ladders.specs.Ladders.{ladder_on, level_on, side_of}
 use Rattle.xm_ladders.specs.declared.ladders.Ladders.{Ladders}
+use Rattle.xm_rules.specs.Orders.{same_restriction}
 use Rattle.xm_rules.specs.Sides.{same_side}
 use Rattle.xm_rules.specs.declared.orders.Order.{Order}
 use Rattle.xm_rules.specs.declared.orders.OrderKind.{OrderKind}

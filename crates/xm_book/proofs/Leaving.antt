@@ -5,10 +5,10 @@ use Rattle.std.proofs.lemmas.Bool.{eqb-true, false≢true}
 use Rattle.std.proofs.lemmas.List.Elements.{All-contains, Contains-get_or}
 use Rattle.std.proofs.lemmas.List.Sums.{sum_by-cons}
 use Rattle.xm_slots.specs.Slots.{SlotsView, Updates, get, used}
-use Rattle.xm_book.specs.Levels.{IsFound, IsSet, at_level, level_for}
+use Rattle.xm_book.specs.Levels.{IsLevelFound, IsLevelSet, at_level, level_for}
 use Rattle.xm_slots.specs.Listing.{is_other_key, keys_in}
 use Rattle.xm_slots.specs.Listing.{LiesAt}
-use Rattle.xm_book.specs.Queued.{HasItsKind, HoldsLevel, IsLevelOf, IsQueued, is_member, members, units_in}
+use Rattle.xm_book.specs.Queued.{HasItsKind, HoldsLevel, IsLevelOf, AreOrdersQueued, is_of_level, orders_of_level, units_in}
 use Rattle.xm_slots.specs.declared.entry.Entry.{Entry}
 use Rattle.xm_slots.specs.declared.listing.Listed.{Listed}
 use Rattle.xm_book.proofs.Joining.{apart, at-itself, here, is-at}
@@ -59,14 +59,14 @@ one-less x (y ∷ ys) d at = less_by (λ c. one-less x ys d.1 c) (Contains-cases
     less_by more (inl same) = gone (nat_eq y.key x.key) refl same
     less_by more (inr c) = later more (nat_eq y.key x.key) refl c
 
-module _ {A : Type 0} (xs : List (Listed Order)) (entries : SlotsView Order) (links : List Link) (ladders : Ladders A) (h : IsQueued xs entries links ladders) where
-  module _ (x : Listed Order) (at : Contains xs x) (level : Level) (f : IsFound (level_for x.item ladders) level) where
+module _ {A : Type 0} (xs : List (Listed Order)) (entries : SlotsView Order) (links : List Link) (ladders : Ladders A) (h : AreOrdersQueued xs entries links ladders) where
+  module _ (x : Listed Order) (at : Contains xs x) (level : Level) (f : IsLevelFound (level_for x.item ladders) level) where
     abbrev ms : List (Listed Order)
-    ms = members x.item.side x.item.restriction x.item.kind xs
+    ms = orders_of_level x.item.side x.item.restriction x.item.kind xs
 
     pub standing : Contains ms x
     standing =
-        Contains-filter (is_member x.item.side x.item.restriction x.item.kind) xs x
+        Contains-filter (is_of_level x.item.side x.item.restriction x.item.kind) xs x
         (at-itself x.item.side x.item.restriction x.item.kind x.item (record { side = refl; restriction = refl; kind = refl })) at
 
     pub held : IsLevelOf links level ms
@@ -85,15 +85,15 @@ module _ {A : Type 0} (xs : List (Listed Order)) (entries : SlotsView Order) (li
     enough-units = omega (arith, held.units, less.units)
 
   -- the order whose entry lies under a key that is listed
-  module _ (key : ℕ) (at : Contains (keys_in xs) key) (e : Entry Order) (v : get entries key ≡ Some e) (level : Level) (f : IsFound (level_for e.item ladders) level) where
+  module _ (key : ℕ) (at : Contains (keys_in xs) key) (e : Entry Order) (v : get entries key ≡ Some e) (level : Level) (f : IsLevelFound (level_for e.item ladders) level) where
     abbrev pub taken : Listed Order
     taken = (listed-at xs entries h.lie key at).0
 
     pub taken-order : taken.item ≡ e.item
     taken-order = let l = listed-at xs entries h.lie key at in ap (λ (y : Entry Order). y.item) (same_some (sym l.3 ∙ ap (get entries) l.2 ∙ v))
 
-    pub taken-level : IsFound (level_for taken.item ladders) level
-    taken-level = subst (λ (o : Order). IsFound (level_for o ladders) level) (sym taken-order) f
+    pub taken-level : IsLevelFound (level_for taken.item ladders) level
+    taken-level = subst (λ (o : Order). IsLevelFound (level_for o ladders) level) (sym taken-order) f
 
     pub key-there : HasKey links level.ends key
     key-there = let l = listed-at xs entries h.lie key at in subst (λ (k : ℕ). HasKey links level.ends k) l.2 (has-key taken l.1 level taken-level)
@@ -113,7 +113,7 @@ module _ {A : Type 0} (xs : List (Listed Order)) (entries : SlotsView Order) (li
     pub level-there : IsSome (level_for e.item ladders)
     level-there = subst (λ (o : Order). IsSome (level_for o ladders)) taken-order (some_at (level_for taken.item ladders) (h.levels taken.item.side taken.item.restriction taken.item.kind))
       where
-        some_at : (o : Option Level) → HoldsLevel links o (members taken.item.side taken.item.restriction taken.item.kind xs) → IsSome o
+        some_at : (o : Option Level) → HoldsLevel links o (orders_of_level taken.item.side taken.item.restriction taken.item.kind xs) → IsSome o
         some_at None none = absurd (Contains-none taken (subst (λ (ys : List (Listed Order)). Contains ys taken) none (standing taken (listed-at xs entries h.lie key at).1 level taken-level)))
         some_at (Some l) there = search rules
 
@@ -122,13 +122,13 @@ module _ {A : Type 0} (xs : List (Listed Order)) (entries : SlotsView Order) (li
 
     -- the orders of its level
     abbrev pub its : List (Listed Order)
-    its = members o.side o.restriction o.kind xs
+    its = orders_of_level o.side o.restriction o.kind xs
 
     base : IsLevelOf links level its
     base = here xs entries links ladders h o level f
 
     pub in-its : Contains its taken
-    in-its = subst (λ (w : Order). Contains (members w.side w.restriction w.kind xs) taken) taken-order (standing taken (listed-at xs entries h.lie key at).1 level taken-level)
+    in-its = subst (λ (w : Order). Contains (orders_of_level w.side w.restriction w.kind xs) taken) taken-order (standing taken (listed-at xs entries h.lie key at).1 level taken-level)
 
     pub key-in-its : Contains (keys_in its) key
     key-in-its = subst (λ (n : ℕ). Contains (keys_in its) n) (listed-at xs entries h.lie key at).2 (Contains-map (λ (y : Listed Order). y.key) its taken in-its)
@@ -137,7 +137,7 @@ module _ {A : Type 0} (xs : List (Listed Order)) (entries : SlotsView Order) (li
         (links' : List Link) (ends' : Ends) (left : (keys : List ℕ) → IsQueue links level.ends keys → IsQueue links' ends' (without key keys))
         (others : (other : Ends) (keys keys' : List ℕ) → IsQueue links level.ends keys → IsQueue links other keys' → AreApart keys keys' → IsQueue links' other keys')
         (limit : key_limit links' ≡ key_limit links) (ladders' : Ladders A)
-        (set : IsSet (level_for e.item ladders') (record { ends = ends'; orders = level.orders - 1; units = level.units - e.item.rest }))
+        (set : IsLevelSet (level_for e.item ladders') (record { ends = ends'; orders = level.orders - 1; units = level.units - e.item.rest }))
         (same : (s : Side) (r : Restriction) (k : OrderKind) → at_level s r k e.item ≡ false → level_on (side_of s ladders') r k ≡ level_on (side_of s ladders) r k)
         (kinds-kept : (s : Side) (r : Restriction) (k : OrderKind) → HasKind (ladder_on r (side_of s ladders)) k → HasKind (ladder_on r (side_of s ladders')) k) where
       abbrev new_level : Level
@@ -175,22 +175,22 @@ module _ {A : Type 0} (xs : List (Listed Order)) (entries : SlotsView Order) (li
       set-holds (suc n) z = subst (λ (l : Option Level). HoldsLevel links' l rest_of) (sym (set.0 (omega (arith, z)))) shorter
 
       module _ (s : Side) (r : Restriction) (k : OrderKind) where
-        kept : at_level s r k o ≡ false → (l : Option Level) → HoldsLevel links l (members s r k xs) → HoldsLevel links' l (members s r k xs)
+        kept : at_level s r k o ≡ false → (l : Option Level) → HoldsLevel links l (orders_of_level s r k xs) → HoldsLevel links' l (orders_of_level s r k xs)
         kept off None z = z
-        kept off (Some l) z = record { queue = others l.ends (keys_in its) (keys_in (members s r k xs)) base.queue z.queue (apart xs entries links ladders h o level f s r k off); orders = z.orders; units = z.units }
+        kept off (Some l) z = record { queue = others l.ends (keys_in its) (keys_in (orders_of_level s r k xs)) base.queue z.queue (apart xs entries links ladders h o level f s r k off); orders = z.orders; units = z.units }
 
-        holds_if : (b : Bool) → at_level s r k o ≡ b → HoldsLevel links' (level_on (side_of s ladders') r k) (filter (is_other_key key) (members s r k xs))
+        holds_if : (b : Bool) → at_level s r k o ≡ b → HoldsLevel links' (level_on (side_of s ladders') r k) (filter (is_other_key key) (orders_of_level s r k xs))
         holds_if true t =
             let w = is-at s r k o t in
-            subst (λ (l : Option Level). HoldsLevel links' l (filter (is_other_key key) (members s r k xs))) (λ i. level_on (side_of (sym w.side i) ladders') (sym w.restriction i) (sym w.kind i))
-            (subst (λ (ys : List (Listed Order)). HoldsLevel links' (level_for o ladders') (filter (is_other_key key) ys)) (λ i. members (sym w.side i) (sym w.restriction i) (sym w.kind i) xs) (set-holds new_level.orders refl))
+            subst (λ (l : Option Level). HoldsLevel links' l (filter (is_other_key key) (orders_of_level s r k xs))) (λ i. level_on (side_of (sym w.side i) ladders') (sym w.restriction i) (sym w.kind i))
+            (subst (λ (ys : List (Listed Order)). HoldsLevel links' (level_for o ladders') (filter (is_other_key key) ys)) (λ i. orders_of_level (sym w.side i) (sym w.restriction i) (sym w.kind i) xs) (set-holds new_level.orders refl))
         holds_if false t =
-            subst (λ (l : Option Level). HoldsLevel links' l (filter (is_other_key key) (members s r k xs))) (sym (same s r k t))
-            (subst (λ (ys : List (Listed Order)). HoldsLevel links' (level_on (side_of s ladders) r k) ys) (sym (all-stay key (members s r k xs) (λ c. apart xs entries links ladders h o level f s r k t key key-in-its c)))
+            subst (λ (l : Option Level). HoldsLevel links' l (filter (is_other_key key) (orders_of_level s r k xs))) (sym (same s r k t))
+            (subst (λ (ys : List (Listed Order)). HoldsLevel links' (level_on (side_of s ladders) r k) ys) (sym (all-stay key (orders_of_level s r k xs) (λ c. apart xs entries links ladders h o level f s r k t key key-in-its c)))
             (kept t (level_on (side_of s ladders) r k) (h.levels s r k)))
 
-        holds : HoldsLevel links' (level_on (side_of s ladders') r k) (members s r k (filter (is_other_key key) xs))
-        holds = subst (λ (ys : List (Listed Order)). HoldsLevel links' (level_on (side_of s ladders') r k) ys) (filters (is_other_key key) (is_member s r k) xs) (holds_if (at_level s r k o) refl)
+        holds : HoldsLevel links' (level_on (side_of s ladders') r k) (orders_of_level s r k (filter (is_other_key key) xs))
+        holds = subst (λ (ys : List (Listed Order)). HoldsLevel links' (level_on (side_of s ladders') r k) ys) (filters (is_other_key key) (is_of_level s r k) xs) (holds_if (at_level s r k o) refl)
 
       other-key : (y : Listed Order) → is_other_key key y ≡ true → y.key ≢ key
       other-key y t e = absurd (false≢true (sym (ap not (ap (λ (n : ℕ). nat_eq n key) e ∙ itself key)) ∙ t))
@@ -204,7 +204,7 @@ module _ {A : Type 0} (xs : List (Listed Order)) (entries : SlotsView Order) (li
       whole : IsLess taken xs
       whole = one-less taken xs h.distinct (listed-at xs entries h.lie key at).1
 
-      pub left-queued : IsQueued (filter (is_other_key key) xs) entries' links' ladders'
+      pub left-queued : AreOrdersQueued (filter (is_other_key key) xs) entries' links' ladders'
       left-queued = record {
         lie = kept-all (LiesAt entries') (λ y c t. u.others y.key (other-key y t) ∙ All-contains (LiesAt entries) xs y h.lie c);
         distinct = distinct-left key xs h.distinct;

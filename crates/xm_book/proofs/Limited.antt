@@ -1,10 +1,10 @@
 -- The best limit of the active orders of a side, as the rules say it.
+use Rattle.xm_slots.specs.Listing.{listed_item}
 use Rattle.std.proofs.Common.{◌≡◌, ℕ, ◌+◌, Bool, true, false, ◌&&◌, not, if◌then◌else◌, List, [], ◌∷◌, map, Contains, Option, Some, None, option_map, refl, sym, ap, ◌∙◌, subst, ◌⊎◌, inl, inr, arith}
 use Rattle.std.specs.Prelude.{nat_le}
 use Rattle.std.proofs.lemmas.Bool.{and_parts, and_from, both_ways, not-false}
 use Rattle.std.proofs.lemmas.Bool.Decides.{nat_tests}
 use Rattle.xm_book.specs.Fronts.{IsBestOf, has_worse, is_on, is_worse}
-use Rattle.xm_book.specs.Listing.{listed_order}
 use Rattle.xm_book.specs.Queues.{level_after, limits_after, units_at}
 use Rattle.xm_slots.specs.declared.listing.Listed.{Listed}
 use Rattle.xm_slots.proofs.Members.{Contains-cases, Contains-filter, Contains-filter_map, Contains-here, Contains-map, Contains-none, Contains-there, IsGiven-filter_map, IsMade-map, Passes-filter}
@@ -79,24 +79,24 @@ orders_placed n (o ∷ os) = ap (λ (l : List Order). o ∷ l) (orders_placed (n
 
 module _ (phase : Phase) (side : Side) (xs : List (Listed Order)) where
   abbrev pub queue : List Positioned
-  queue = active phase side (map listed_order xs)
+  queue = active phase side (map listed_item xs)
 
   -- an active order of the list is placed in the queue, and what is placed there is one
   pub placed : (x : Listed Order) → Contains xs x → (is_active phase x.item.restriction && same_side side x.item.side) ≡ true → (i : Positioned) × Contains queue i × (i.order ≡ x.item)
   placed x c t =
-      let made = IsMade-map (λ (i : Positioned). i.order) (positioned_from 0 (map listed_order xs)) x.item
-      (subst (λ (os : List Order). Contains os x.item) (sym (orders_placed 0 (map listed_order xs))) (Contains-map listed_order xs x c)) in (
+      let made = IsMade-map (λ (i : Positioned). i.order) (positioned_from 0 (map listed_item xs)) x.item
+      (subst (λ (os : List Order). Contains os x.item) (sym (orders_placed 0 (map listed_item xs))) (Contains-map listed_item xs x c)) in (
         made.from,
-        Contains-filter (is_active_on phase side) (positioned_from 0 (map listed_order xs)) made.from
+        Contains-filter (is_active_on phase side) (positioned_from 0 (map listed_item xs)) made.from
             (ap (λ (o : Order). is_active phase o.restriction && same_side side o.side) made.made ∙ t) made.contains,
         made.made,
       )
 
   pub listed-at : (i : Positioned) → Contains queue i → (x : Listed Order) × Contains xs x × (x.item ≡ i.order) × ((is_active phase x.item.restriction && same_side side x.item.side) ≡ true)
   listed-at i c =
-      let p = Passes-filter (is_active_on phase side) (positioned_from 0 (map listed_order xs)) i c in
-      let made = IsMade-map listed_order xs i.order
-      (subst (λ (os : List Order). Contains os i.order) (orders_placed 0 (map listed_order xs)) (Contains-map (λ (j : Positioned). j.order) (positioned_from 0 (map listed_order xs)) i p.contains)) in
+      let p = Passes-filter (is_active_on phase side) (positioned_from 0 (map listed_item xs)) i c in
+      let made = IsMade-map listed_item xs i.order
+      (subst (λ (os : List Order). Contains os i.order) (orders_placed 0 (map listed_item xs)) (Contains-map (λ (j : Positioned). j.order) (positioned_from 0 (map listed_item xs)) i p.contains)) in
       (made.from, made.contains, made.made, ap (λ (o : Order). is_active phase o.restriction && same_side side o.side) made.made ∙ p.passes)
 
   limit-in : (x : Listed Order) (p : ℕ) → Contains xs x → (is_active phase x.item.restriction && same_side side x.item.side) ≡ true → x.item.kind ≡ Limit p → Contains (limits queue) p
@@ -139,8 +139,8 @@ module _ (phase : Phase) (side : Side) (xs : List (Listed Order)) where
         not-false (reaches side p q) ((λ i. is_better side (sym y.3 i) (sym kind i)) ∙ is.none y.0 y.1 y.2)))
 
     -- the level after a limit
-    pub level-there : (p : ℕ) → Some p ≡ best side (limits_after side after queue) → (units : ℕ) → units ≡ units_at (Limit p) queue → Some (p, units) ≡ level_after phase side after (map listed_order xs)
+    pub level-there : (p : ℕ) → Some p ≡ best side (limits_after side after queue) → (units : ℕ) → units ≡ units_at (Limit p) queue → Some (p, units) ≡ level_after phase side after (map listed_item xs)
     level-there p e units u = ap (λ (n : ℕ). let pair : ℕ × ℕ = (p, n) in Some pair) u ∙ ap (option_map (λ (n : ℕ). let pair : ℕ × ℕ = (n, units_at (Limit n) queue) in pair)) e
 
-    pub level-none : None ≡ best side (limits_after side after queue) → None ≡ level_after phase side after (map listed_order xs)
+    pub level-none : None ≡ best side (limits_after side after queue) → None ≡ level_after phase side after (map listed_item xs)
     level-none e = ap (option_map (λ (n : ℕ). let pair : ℕ × ℕ = (n, units_at (Limit n) queue) in pair)) e

@@ -5,11 +5,11 @@ use Rattle.std.specs.Prelude.{nat_le, nat_lt}
 use Rattle.std.proofs.lemmas.Bool.{or_left, or_right, or_cases, or_from}
 use Rattle.std.proofs.lemmas.Bool.Decides.{nat_tests}
 use Rattle.xm_book.specs.Fronts.{IsBestOf, IsFirst, IsFirstOf, better_of_two, earlier_of_two, has_better, is_earlier, is_in, is_on}
-use Rattle.xm_book.specs.Levels.{same_restriction}
 use Rattle.xm_slots.specs.Listing.{listed_entry}
 use Rattle.xm_slots.specs.declared.entry.Entry.{Entry}
 use Rattle.xm_slots.specs.declared.listing.Listed.{Listed}
 use Rattle.xm_rules.specs.Active.{is_active}
+use Rattle.xm_rules.specs.Orders.{same_restriction}
 use Rattle.xm_rules.specs.Priority.{is_better}
 use Rattle.xm_rules.specs.Sides.{reaches, same_side}
 use Rattle.xm_rules.specs.declared.orders.OrderKind.{OrderKind}

@@ -2,7 +2,7 @@
 use Rattle.std.proofs.Common.{◌≤◌, List, [], Option, None, Some, refl, arith}
 use Rattle.std.proofs.lemmas.List.Elements.{All-nil}
 use Rattle.xm_slots.specs.Listing.{LiesAt}
-use Rattle.xm_book.specs.Queued.{HasItsKind, HoldsLevel, IsKept}
+use Rattle.xm_book.specs.Queued.{HasItsKind, HoldsLevel, AreOrdersKept}
 use Rattle.xm_slots.specs.declared.listing.Listed.{Listed}
 use Rattle.xm_ladders.specs.Ladder.{IsCleared}
 use Rattle.xm_ladders.specs.Ladders.{level_on, side_of}
@@ -19,7 +19,7 @@ cleared links None c = refl
 cleared links (Some l) c = record { queue = c.0 links; orders = c.1.0; units = c.1.1 }
 
 pub opened : {A : Type 0} (links : List Link) (ladders : Ladders A) → ((s : Side) (r : Restriction) (k : OrderKind) → IsCleared (level_on (side_of s ladders) r k))
-    → IsKept [] [] 0 (record { slots = []; capacity = 0 }) links ladders
+    → AreOrdersKept [] [] 0 (record { slots = []; capacity = 0 }) links ladders
 opened links ladders none = record {
   queued = record {
     lie = All-nil (LiesAt (record { slots = []; capacity = 0 }));

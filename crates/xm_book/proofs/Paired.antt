@@ -1,13 +1,13 @@
 -- The orders of a list with their times and their places, which rise together.
+use Rattle.xm_book.specs.Listing.{order_owner, order_reference}
+use Rattle.xm_slots.specs.Naming.{have_own_names}
 use Rattle.std.proofs.Common.{◌≡◌, ℕ, ◌+◌, ◌<◌, ◌≤◌, Bool, true, false, ◌&&◌, ◌||◌, not, ◌==◌, List, [], ◌∷◌, map, Contains, refl, sym, ap, subst, ◌∙◌, ◌⊎◌, inl, inr, arith}
 use Rattle.std.specs.List.{list_any}
 use Rattle.std.specs.Prelude.{nat_le, nat_lt}
 use Rattle.std.proofs.lemmas.Bool.{and_parts, leb-true, lt-ltb, le-ltb, not-true}
 use Rattle.std.proofs.lemmas.Bool.Decides.{nat_tests}
 use Rattle.xm_book.specs.Fronts.{goes_ahead}
-use Rattle.xm_slots.specs.Listing.{rises}
-use Rattle.xm_book.specs.Listing.{listed_order}
-use Rattle.xm_book.specs.TimeList.{have_own_names}
+use Rattle.xm_slots.specs.Listing.{listed_item, rises}
 use Rattle.xm_slots.specs.declared.listing.Listed.{Listed}
 use Rattle.xm_rules.specs.Active.{Positioned, positioned_from}
 use Rattle.xm_rules.specs.Orders.{is_named}
@@ -28,7 +28,7 @@ paired position (x ∷ xs) = record { position = position; listed = x } ∷ pair
 abbrev pub placed_of : Paired → Positioned
 placed_of z = record { position = z.position; order = z.listed.item }
 
-pub placed_paired : (position : ℕ) (xs : List (Listed Order)) → positioned_from position (map listed_order xs) ≡ map placed_of (paired position xs)
+pub placed_paired : (position : ℕ) (xs : List (Listed Order)) → positioned_from position (map listed_item xs) ≡ map placed_of (paired position xs)
 placed_paired position [] = refl
 placed_paired position (x ∷ xs) = ap (λ (l : List Positioned). record { position = position; order = x.item } ∷ l) (placed_paired (position + 1) xs)
 
@@ -135,13 +135,13 @@ is_paired position xs x at =
 named_back : (m r n s : ℕ) → (m == n && r == s) ≡ true → (n == m && s == r) ≡ true
 named_back m r n s h = grind (arith, nat_tests)
 
-not_named : (position : ℕ) (x : Listed Order) (xs : List (Listed Order)) (z : Paired) → not (list_any (is_named x.item.member x.item.reference) (map listed_order xs)) ≡ true
+not_named : (position : ℕ) (x : Listed Order) (xs : List (Listed Order)) (z : Paired) → not (list_any (is_named x.item.member x.item.reference) (map listed_item xs)) ≡ true
     → Contains (paired position xs) z → is_named x.item.member x.item.reference z.listed.item ≡ false
 not_named position x xs z h at =
-    list_any-false (is_named x.item.member x.item.reference) (map listed_order xs) z.listed.item
-    (not-true (list_any (is_named x.item.member x.item.reference) (map listed_order xs)) h) (Contains-map listed_order xs z.listed (contains_listed position xs z at))
+    list_any-false (is_named x.item.member x.item.reference) (map listed_item xs) z.listed.item
+    (not-true (list_any (is_named x.item.member x.item.reference) (map listed_item xs)) h) (Contains-map listed_item xs z.listed (contains_listed position xs z at))
 
-one_name_by : (position : ℕ) (x : Listed Order) (xs : List (Listed Order)) (z w : Paired) → not (list_any (is_named x.item.member x.item.reference) (map listed_order xs)) ≡ true
+one_name_by : (position : ℕ) (x : Listed Order) (xs : List (Listed Order)) (z w : Paired) → not (list_any (is_named x.item.member x.item.reference) (map listed_item xs)) ≡ true
     → (Contains (paired (position + 1) xs) z → Contains (paired (position + 1) xs) w → w ≡ z)
     → (record { position = position; listed = x } ≡ z) ⊎ Contains (paired (position + 1) xs) z → (record { position = position; listed = x } ≡ w) ⊎ Contains (paired (position + 1) xs) w
     → is_named z.listed.item.member z.listed.item.reference w.listed.item ≡ true → w ≡ z
@@ -156,10 +156,10 @@ one_name_by position x xs z w h rest (inr i) (inl b) named =
 one_name_by position x xs z w h rest (inr i) (inr j) named = rest i j
 
 -- where orders have names of their own, one of the same name is the same
-pub one_name : (position : ℕ) (xs : List (Listed Order)) (z w : Paired) → have_own_names (map listed_order xs) ≡ true → Contains (paired position xs) z → Contains (paired position xs) w
+pub one_name : (position : ℕ) (xs : List (Listed Order)) (z w : Paired) → have_own_names order_owner order_reference (map listed_item xs) ≡ true → Contains (paired position xs) z → Contains (paired position xs) w
     → is_named z.listed.item.member z.listed.item.reference w.listed.item ≡ true → w ≡ z
 one_name position [] z w h i j named = absurd (Contains-none z i)
 one_name position (x ∷ xs) z w h i j named =
-    let parts = and_parts (not (list_any (is_named x.item.member x.item.reference) (map listed_order xs))) (have_own_names (map listed_order xs)) h in
+    let parts = and_parts (not (list_any (is_named x.item.member x.item.reference) (map listed_item xs))) (have_own_names order_owner order_reference (map listed_item xs)) h in
     one_name_by position x xs z w parts.0 (λ a b. one_name (position + 1) xs z w parts.1 a b named)
     (Contains-cases (record { position = position; listed = x }) (paired (position + 1) xs) z i) (Contains-cases (record { position = position; listed = x }) (paired (position + 1) xs) w j) named

@@ -1,12 +1,12 @@
 -- The first of the listed orders is the best order of the time list, and the next one the next.
+use Rattle.xm_book.specs.Listing.{order_owner, order_reference}
+use Rattle.xm_slots.specs.Naming.{has_name, have_own_names, key_by_name}
 use Rattle.std.proofs.Common.{◌≡◌, ℕ, Bool, true, false, ◌&&◌, ◌==◌, not, List, map, filter, find, Contains, Option, Some, None, option_map, refl, sym, ap, subst, ◌∙◌}
 use Rattle.std.specs.List.{list_any}
 use Rattle.std.proofs.lemmas.Bool.{and_parts, and_from, both_ways, eq-eqb, eqb-true, false_from_ne_true, not-true, not_from_false}
 use Rattle.xm_book.specs.Fronts.{IsFirstOf, goes_ahead, is_any, is_on}
-use Rattle.xm_slots.specs.Listing.{rises}
-use Rattle.xm_book.specs.Listing.{has_name, key_of, listed_order}
+use Rattle.xm_slots.specs.Listing.{listed_item, rises}
 use Rattle.xm_book.specs.Queues.{best_order, first, first_behind, next_order, order_at}
-use Rattle.xm_book.specs.TimeList.{have_own_names}
 use Rattle.xm_slots.specs.declared.entry.Entry.{Entry}
 use Rattle.xm_slots.specs.declared.listing.Listed.{Listed}
 use Rattle.xm_slots.proofs.Tests.{same_some, some_none}
@@ -27,14 +27,14 @@ pub record StandFor (passes : Listed Order → Bool) (xs : List (Listed Order)) 
   pub at : (z : Paired) → Contains (paired 0 xs) z → passes z.listed ≡ true → Contains queue (placed_of z)
 
 -- the active orders of a side
-queue_stands : (phase : Phase) (side : Side) (xs : List (Listed Order)) → StandFor (is_on phase side is_any) xs (active phase side (map listed_order xs))
+queue_stands : (phase : Phase) (side : Side) (xs : List (Listed Order)) → StandFor (is_on phase side is_any) xs (active phase side (map listed_item xs))
 queue_stands phase side xs = record {
   of = λ i c.
-      let p = Passes-filter (is_active_on phase side) (positioned_from 0 (map listed_order xs)) i c in
+      let p = Passes-filter (is_active_on phase side) (positioned_from 0 (map listed_item xs)) i c in
       let m = IsMade-map placed_of (paired 0 xs) i (subst (λ (l : List Positioned). Contains l i) (placed_paired 0 xs) p.contains) in
       (m.from, m.contains, and_from (is_active phase m.from.listed.item.restriction && same_side side m.from.listed.item.side) true (ap (is_active_on phase side) m.made ∙ p.passes) refl, m.made);
   at = λ z c t.
-      Contains-filter (is_active_on phase side) (positioned_from 0 (map listed_order xs)) (placed_of z)
+      Contains-filter (is_active_on phase side) (positioned_from 0 (map listed_item xs)) (placed_of z)
       (left-true (is_active phase z.listed.item.restriction && same_side side z.listed.item.side) true t)
       (subst (λ (l : List Positioned). Contains l (placed_of z)) (sym (placed_paired 0 xs)) (Contains-map placed_of (paired 0 xs) z c));
 }
@@ -72,9 +72,9 @@ module _ (side : Side) (passes : Listed Order → Bool) (xs : List (Listed Order
 
 -- the first is the best order
 pub best-is : (phase : Phase) (side : Side) (xs : List (Listed Order)) (high : ℕ) → rises 0 xs high ≡ true → (o : Option (Entry Order)) → IsFirstOf (goes_ahead side) (is_on phase side is_any) xs o
-    → option_map (λ (e : Entry Order). e.item) o ≡ best_order phase side (map listed_order xs)
+    → option_map (λ (e : Entry Order). e.item) o ≡ best_order phase side (map listed_item xs)
 best-is phase side xs high rise o first =
-    first-is side (is_on phase side is_any) xs high rise (active phase side (map listed_order xs)) (queue_stands phase side xs) o first
+    first-is side (is_on phase side is_any) xs high rise (active phase side (map listed_item xs)) (queue_stands phase side xs) o first
 
 -- ---- the next one
 abbrev on : Phase → Side → Listed Order → Bool
@@ -85,14 +85,14 @@ none_behind side queue i e = ap (λ (j : Option Positioned). order_at (first_beh
 
 module _ (phase : Phase) (side : Side) (xs : List (Listed Order)) where
   -- a name that no order of the list has has no next
-  pub next-unknown : (member reference : ℕ) → ((x : Listed Order) → Contains xs x → has_name member reference x ≡ false) → next_order phase side member reference (map listed_order xs) ≡ None
+  pub next-unknown : (member reference : ℕ) → ((x : Listed Order) → Contains xs x → has_name order_owner order_reference member reference x ≡ false) → next_order phase side member reference (map listed_item xs) ≡ None
   next-unknown member reference none =
-      none_behind side (active phase side (map listed_order xs)) (find (λ (i : Positioned). is_named member reference i.order) (active phase side (map listed_order xs)))
-      (find-none (λ (i : Positioned). is_named member reference i.order) (active phase side (map listed_order xs))
+      none_behind side (active phase side (map listed_item xs)) (find (λ (i : Positioned). is_named member reference i.order) (active phase side (map listed_item xs)))
+      (find-none (λ (i : Positioned). is_named member reference i.order) (active phase side (map listed_item xs))
       (λ i c. let w = (queue_stands phase side xs).of i c in
       ap (λ (j : Positioned). is_named member reference j.order) (sym w.3) ∙ none w.0.listed (contains_listed 0 xs w.0 w.1)))
 
-  module _ (high : ℕ) (rise : rises 0 xs high ≡ true) (names : have_own_names (map listed_order xs) ≡ true) (x : Listed Order) (c : Contains xs x) where
+  module _ (high : ℕ) (rise : rises 0 xs high ≡ true) (names : have_own_names order_owner order_reference (map listed_item xs) ≡ true) (x : Listed Order) (c : Contains xs x) where
     abbrev p : IsPaired 0 xs x
     p = is_paired 0 xs x c
 
@@ -104,18 +104,18 @@ module _ (phase : Phase) (side : Side) (xs : List (Listed Order)) where
     own-place w d named =
         one_name 0 xs p.pair w names p.contains d (ap (λ (y : Listed Order). is_named y.item.member y.item.reference w.listed.item) p.listed ∙ named)
 
-    no-next : is_on phase side is_any x ≡ false → next_order phase side x.item.member x.item.reference (map listed_order xs) ≡ None
+    no-next : is_on phase side is_any x ≡ false → next_order phase side x.item.member x.item.reference (map listed_item xs) ≡ None
     no-next off =
-        none_behind side (active phase side (map listed_order xs)) (find name (active phase side (map listed_order xs)))
-        (find-none name (active phase side (map listed_order xs))
+        none_behind side (active phase side (map listed_item xs)) (find name (active phase side (map listed_item xs)))
+        (find-none name (active phase side (map listed_item xs))
         (λ i d. let w = (queue_stands phase side xs).of i d in
         false_from_ne_true (name i)
         (λ h. let same = own-place w.0 w.1 (ap name w.3 ∙ h) in
         both_ways (is_on phase side is_any x) off (ap (is_on phase side is_any) (sym (ap (λ (v : Paired). v.listed) same ∙ p.listed)) ∙ w.2))))
 
-    found-own : is_on phase side is_any x ≡ true → find name (active phase side (map listed_order xs)) ≡ Some (placed_of p.pair)
+    found-own : is_on phase side is_any x ≡ true → find name (active phase side (map listed_item xs)) ≡ Some (placed_of p.pair)
     found-own here =
-        find-only name (active phase side (map listed_order xs)) (placed_of p.pair)
+        find-only name (active phase side (map listed_item xs)) (placed_of p.pair)
         (record {
           contains = (queue_stands phase side xs).at p.pair p.contains (ap (is_on phase side is_any) p.listed ∙ here);
           passes = ap (λ (y : Listed Order). is_named x.item.member x.item.reference y.item) p.listed
@@ -127,10 +127,10 @@ module _ (phase : Phase) (side : Side) (xs : List (Listed Order)) where
     ahead-same w d = ap (λ (y : Listed Order). goes_ahead side y w.listed) (sym p.listed) ∙ same_priority side p.pair w (apart 0 0 xs high p.pair w rise p.contains d)
 
     behind_stand : is_on phase side is_any x ≡ true
-        → StandFor (λ y. is_on phase side is_any x && is_on phase side (goes_ahead side x) y) xs (filter (is_ahead side (placed_of p.pair)) (active phase side (map listed_order xs)))
+        → StandFor (λ y. is_on phase side is_any x && is_on phase side (goes_ahead side x) y) xs (filter (is_ahead side (placed_of p.pair)) (active phase side (map listed_item xs)))
     behind_stand here = record {
       of = λ i d.
-          let at = Passes-filter (is_ahead side (placed_of p.pair)) (active phase side (map listed_order xs)) i d in
+          let at = Passes-filter (is_ahead side (placed_of p.pair)) (active phase side (map listed_item xs)) i d in
           let w = (queue_stands phase side xs).of i at.contains in (
             w.0,
             w.1,
@@ -141,45 +141,45 @@ module _ (phase : Phase) (side : Side) (xs : List (Listed Order)) where
           );
       at = λ z d t.
           let parts = and_parts (on phase side z.listed) (goes_ahead side x z.listed) (right-true (is_on phase side is_any x) (is_on phase side (goes_ahead side x) z.listed) t) in
-          Contains-filter (is_ahead side (placed_of p.pair)) (active phase side (map listed_order xs)) (placed_of z) (sym (ahead-same z d) ∙ parts.1)
+          Contains-filter (is_ahead side (placed_of p.pair)) (active phase side (map listed_item xs)) (placed_of z) (sym (ahead-same z d) ∙ parts.1)
           ((queue_stands phase side xs).at z d (and_from (on phase side z.listed) true parts.0 refl));
     }
 
     next-by : (b : Bool) → is_on phase side is_any x ≡ b → (o : Option (Entry Order)) → IsFirstOf (goes_ahead side) (λ y. is_on phase side is_any x && is_on phase side (goes_ahead side x) y) xs o
-        → option_map (λ (e : Entry Order). e.item) o ≡ next_order phase side x.item.member x.item.reference (map listed_order xs)
+        → option_map (λ (e : Entry Order). e.item) o ≡ next_order phase side x.item.member x.item.reference (map listed_item xs)
     next-by true e o first =
-        first-is side (λ y. is_on phase side is_any x && is_on phase side (goes_ahead side x) y) xs high rise (filter (is_ahead side (placed_of p.pair)) (active phase side (map listed_order xs)))
+        first-is side (λ y. is_on phase side is_any x && is_on phase side (goes_ahead side x) y) xs high rise (filter (is_ahead side (placed_of p.pair)) (active phase side (map listed_item xs)))
         (behind_stand e) o first
-        ∙ ap (λ (i : Option Positioned). order_at (first_behind side (active phase side (map listed_order xs)) i)) (sym (found-own e))
+        ∙ ap (λ (i : Option Positioned). order_at (first_behind side (active phase side (map listed_item xs)) i)) (sym (found-own e))
     next-by false e None first = sym (no-next e)
     next-by false e (Some y) first =
         let is = first.2 in
         absurd (both_ways (is_on phase side is_any x) e (left-true (is_on phase side is_any x) (is_on phase side (goes_ahead side x) first.0) is.passing))
 
-    named-same : (member reference : ℕ) → has_name member reference x ≡ true
-        → next_order phase side x.item.member x.item.reference (map listed_order xs) ≡ next_order phase side member reference (map listed_order xs)
+    named-same : (member reference : ℕ) → has_name order_owner order_reference member reference x ≡ true
+        → next_order phase side x.item.member x.item.reference (map listed_item xs) ≡ next_order phase side member reference (map listed_item xs)
     named-same member reference h =
         let parts = and_parts (x.item.member == member) (x.item.reference == reference) h in
-        (λ i. next_order phase side (eqb-true x.item.member member parts.0 i) (eqb-true x.item.reference reference parts.1 i) (map listed_order xs))
+        (λ i. next_order phase side (eqb-true x.item.member member parts.0 i) (eqb-true x.item.reference reference parts.1 i) (map listed_item xs))
 
     -- the first behind an order of a name is the next order
-    pub next-is : (member reference : ℕ) → has_name member reference x ≡ true → (o : Option (Entry Order))
+    pub next-is : (member reference : ℕ) → has_name order_owner order_reference member reference x ≡ true → (o : Option (Entry Order))
         → IsFirstOf (goes_ahead side) (λ y. is_on phase side is_any x && is_on phase side (goes_ahead side x) y) xs o
-        → option_map (λ (e : Entry Order). e.item) o ≡ next_order phase side member reference (map listed_order xs)
+        → option_map (λ (e : Entry Order). e.item) o ≡ next_order phase side member reference (map listed_item xs)
     next-is member reference h o first = next-by (is_on phase side is_any x) refl o first ∙ named-same member reference h
 
 -- ---- the order of a name
-pub key-none : (member reference : ℕ) (xs : List (Listed Order)) → None ≡ key_of member reference xs → (x : Listed Order) → Contains xs x → has_name member reference x ≡ false
-key-none member reference xs e x c = find-None (has_name member reference) xs x (none_by (find (has_name member reference) xs) e) c
+pub key-none : (member reference : ℕ) (xs : List (Listed Order)) → None ≡ key_by_name order_owner order_reference member reference xs → (x : Listed Order) → Contains xs x → has_name order_owner order_reference member reference x ≡ false
+key-none member reference xs e x c = find-None (has_name order_owner order_reference member reference) xs x (none_by (find (has_name order_owner order_reference member reference) xs) e) c
   where
     none_by : (o : Option (Listed Order)) → None ≡ option_map (λ (y : Listed Order). y.key) o → o ≡ None
     none_by None e = refl
     none_by (Some y) e = absurd (some_none (sym e))
 
-pub key-some : (member reference key : ℕ) (xs : List (Listed Order)) → Some key ≡ key_of member reference xs → (x : Listed Order) × Contains xs x × (has_name member reference x ≡ true) × (x.key ≡ key)
-key-some member reference key xs e = some_by (find (has_name member reference) xs) refl e
+pub key-some : (member reference key : ℕ) (xs : List (Listed Order)) → Some key ≡ key_by_name order_owner order_reference member reference xs → (x : Listed Order) × Contains xs x × (has_name order_owner order_reference member reference x ≡ true) × (x.key ≡ key)
+key-some member reference key xs e = some_by (find (has_name order_owner order_reference member reference) xs) refl e
   where
-    some_by : (o : Option (Listed Order)) → find (has_name member reference) xs ≡ o → Some key ≡ option_map (λ (y : Listed Order). y.key) o
-        → (x : Listed Order) × Contains xs x × (has_name member reference x ≡ true) × (x.key ≡ key)
+    some_by : (o : Option (Listed Order)) → find (has_name order_owner order_reference member reference) xs ≡ o → Some key ≡ option_map (λ (y : Listed Order). y.key) o
+        → (x : Listed Order) × Contains xs x × (has_name order_owner order_reference member reference x ≡ true) × (x.key ≡ key)
     some_by None f e = absurd (some_none e)
-    some_by (Some y) f e = let found = find-Some (has_name member reference) xs y f in (y, found.contains, found.passes, sym (same_some e))
+    some_by (Some y) f e = let found = find-Some (has_name order_owner order_reference member reference) xs y f in (y, found.contains, found.passes, sym (same_some e))

@@ -4,12 +4,12 @@ use Rattle.std.proofs.lemmas.Bool.{eqb-true}
 use Rattle.std.proofs.lemmas.List.{length-map}
 use Rattle.std.proofs.lemmas.List.Elements.{All-head, All-map, All-tail}
 use Rattle.std.proofs.lemmas.List.Sums.{sum_by-cons}
-use Rattle.xm_book.specs.Levels.{IsFound, at_level, level_for}
+use Rattle.xm_book.specs.Levels.{IsLevelFound, at_level, level_for}
 use Rattle.std.specs.List.{All}
 use Rattle.xm_slots.specs.Listing.{keys_in, listed_entry, replaced_by}
 use Rattle.xm_book.specs.Listing.{reduced_at}
 use Rattle.xm_slots.specs.Listing.{LiesAt}
-use Rattle.xm_book.specs.Queued.{HasItsKind, HoldsLevel, IsLevelOf, IsQueued, is_member, members, units_in}
+use Rattle.xm_book.specs.Queued.{HasItsKind, HoldsLevel, IsLevelOf, AreOrdersQueued, is_of_level, orders_of_level, units_in}
 use Rattle.xm_slots.specs.Slots.{SlotsView, Updates, get, used}
 use Rattle.xm_slots.specs.declared.entry.Entry.{Entry}
 use Rattle.xm_slots.specs.declared.listing.Listed.{Listed}
@@ -47,18 +47,18 @@ module _ (key rest : ℕ) where
   keys-reduced [] = refl
   keys-reduced (x ∷ xs) = (λ i. same-key (nat_eq x.key key) x i ∷ keys-reduced xs i)
 
-  same-member : (s : Side) (r : Restriction) (k : OrderKind) (b : Bool) (x : Listed Order) → is_member s r k (lowered b x) ≡ is_member s r k x
+  same-member : (s : Side) (r : Restriction) (k : OrderKind) (b : Bool) (x : Listed Order) → is_of_level s r k (lowered b x) ≡ is_of_level s r k x
   same-member s r k true x = refl
   same-member s r k false x = refl
 
-  members-reduced : (s : Side) (r : Restriction) (k : OrderKind) (xs : List (Listed Order)) → members s r k (map (reduced_at key rest) xs) ≡ map (reduced_at key rest) (members s r k xs)
+  members-reduced : (s : Side) (r : Restriction) (k : OrderKind) (xs : List (Listed Order)) → orders_of_level s r k (map (reduced_at key rest) xs) ≡ map (reduced_at key rest) (orders_of_level s r k xs)
   members-reduced s r k [] = refl
   members-reduced s r k (x ∷ xs) =
       (λ i. if same-member s r k (nat_eq x.key key) x i then reduced_at key rest x ∷ members-reduced s r k xs i else members-reduced s r k xs i)
-      ∙ kept_if (is_member s r k x)
+      ∙ kept_if (is_of_level s r k x)
     where
-      kept_if : (b : Bool) → (if b then reduced_at key rest x ∷ map (reduced_at key rest) (members s r k xs) else map (reduced_at key rest) (members s r k xs))
-          ≡ map (reduced_at key rest) (if b then x ∷ members s r k xs else members s r k xs)
+      kept_if : (b : Bool) → (if b then reduced_at key rest x ∷ map (reduced_at key rest) (orders_of_level s r k xs) else map (reduced_at key rest) (orders_of_level s r k xs))
+          ≡ map (reduced_at key rest) (if b then x ∷ orders_of_level s r k xs else orders_of_level s r k xs)
       kept_if true = refl
       kept_if false = refl
 
@@ -101,10 +101,10 @@ units-reduced rest x (y ∷ ys) d at = by (λ c. units-reduced rest x ys d.1 c) 
     by more (inl same) = here' (nat_eq y.key x.key) refl same
     by more (inr c) = later more (nat_eq y.key x.key) refl c
 
-module _ {A : Type 0} (xs : List (Listed Order)) (entries : SlotsView Order) (links : List Link) (ladders : Ladders A) (h : IsQueued xs entries links ladders) (key : ℕ) (at : Contains (keys_in xs) key)
-    (e : Entry Order) (v : get entries key ≡ Some e) (level : Level) (f : IsFound (level_for e.item ladders) level) (rest : ℕ) (le : rest ≤ e.item.rest) where
+module _ {A : Type 0} (xs : List (Listed Order)) (entries : SlotsView Order) (links : List Link) (ladders : Ladders A) (h : AreOrdersQueued xs entries links ladders) (key : ℕ) (at : Contains (keys_in xs) key)
+    (e : Entry Order) (v : get entries key ≡ Some e) (level : Level) (f : IsLevelFound (level_for e.item ladders) level) (rest : ℕ) (le : rest ≤ e.item.rest) where
   abbrev its : List (Listed Order)
-  its = members e.item.side e.item.restriction e.item.kind xs
+  its = orders_of_level e.item.side e.item.restriction e.item.kind xs
 
   base : IsLevelOf links level its
   base = here xs entries links ladders h e.item level f
@@ -129,17 +129,17 @@ module _ {A : Type 0} (xs : List (Listed Order)) (entries : SlotsView Order) (li
     }
 
     module _ (s : Side) (r : Restriction) (k : OrderKind) where
-      holds_if : (b : Bool) → at_level s r k e.item ≡ b → HoldsLevel links (if b then Some new_level else level_on (side_of s ladders) r k) (map (reduced_at key rest) (members s r k xs))
+      holds_if : (b : Bool) → at_level s r k e.item ≡ b → HoldsLevel links (if b then Some new_level else level_on (side_of s ladders) r k) (map (reduced_at key rest) (orders_of_level s r k xs))
       holds_if true t =
           let w = is-at s r k e.item t in
-          subst (λ (ys : List (Listed Order)). IsLevelOf links new_level (map (reduced_at key rest) ys)) (λ i. members (sym w.side i) (sym w.restriction i) (sym w.kind i) xs) lower
+          subst (λ (ys : List (Listed Order)). IsLevelOf links new_level (map (reduced_at key rest) ys)) (λ i. orders_of_level (sym w.side i) (sym w.restriction i) (sym w.kind i) xs) lower
       holds_if false t =
           subst (λ (ys : List (Listed Order)). HoldsLevel links (level_on (side_of s ladders) r k) ys)
-          (sym (none-reduced key rest (members s r k xs) (λ c. apart xs entries links ladders h e.item level f s r k t key (key-in-its xs entries links ladders h key at e v level f) c)))
+          (sym (none-reduced key rest (orders_of_level s r k xs) (λ c. apart xs entries links ladders h e.item level f s r k t key (key-in-its xs entries links ladders h key at e v level f) c)))
           (h.levels s r k)
 
-      holds : HoldsLevel links (level_on (side_of s ladders') r k) (members s r k (map (reduced_at key rest) xs))
-      holds = subst (λ (l : Option Level). HoldsLevel links l (members s r k (map (reduced_at key rest) xs))) (sym (puts s r k))
+      holds : HoldsLevel links (level_on (side_of s ladders') r k) (orders_of_level s r k (map (reduced_at key rest) xs))
+      holds = subst (λ (l : Option Level). HoldsLevel links l (orders_of_level s r k (map (reduced_at key rest) xs))) (sym (puts s r k))
           (subst (λ (ys : List (Listed Order)). HoldsLevel links (if at_level s r k e.item then Some new_level else level_on (side_of s ladders) r k) ys) (sym (members-reduced key rest s r k xs))
           (holds_if (at_level s r k e.item) refl))
 
@@ -158,7 +158,7 @@ module _ {A : Type 0} (xs : List (Listed Order)) (entries : SlotsView Order) (li
     kind_if z true k = kinds-kept z.item.side z.item.restriction z.item.kind k
     kind_if z false k = kinds-kept z.item.side z.item.restriction z.item.kind k
 
-    pub reduced-queued : rest ≤ 1000000 → IsQueued (map (reduced_at key rest) xs) entries' links ladders'
+    pub reduced-queued : rest ≤ 1000000 → AreOrdersQueued (map (reduced_at key rest) xs) entries' links ladders'
     reduced-queued few = record {
       lie = All-map (LiesAt entries') (reduced_at key rest) xs (λ i d lt. (let z = get_or xs i d in lies_if z (nat_eq z.key key) refl (h.lie i d lt)));
       distinct = subst AreDistinct (sym (keys-reduced key rest xs)) h.distinct;

@@ -5,29 +5,29 @@ use Rattle.std.specs.declared.snapshot.Snapshot.{Snapshot}
 use Rattle.std.proofs.lemmas.List.Sums.{count_by-le-length, sum_by-cons}
 use Rattle.xm_book.specs.Places.{SamePlaces, same_place}
 use Rattle.xm_book.specs.Reserved.{Gains, after, held, without_one}
-use Rattle.xm_book.specs.declared.places.Change.{Change, fold-Change, fold-roll-Change}
-use Rattle.xm_book.specs.declared.places.Change.TheOpen as open'
-use Rattle.xm_book.specs.declared.places.Change.TheVariants.{Nothing, Reserved, Released, rolls-Nothing, rolls-Reserved, rolls-Released}
+use Rattle.xm_book.specs.declared.places.PlaceChange.{PlaceChange, fold-PlaceChange, fold-roll-PlaceChange}
+use Rattle.xm_book.specs.declared.places.PlaceChange.TheOpen as open'
+use Rattle.xm_book.specs.declared.places.PlaceChange.TheVariants.{Nothing, Reserved, Released, rolls-Nothing, rolls-Reserved, rolls-Released}
 use Rattle.xm_book.specs.declared.places.Place.{Place}
 use Rattle.xm_book.proofs.Sameness.{same_place-is}
 
 pub held-nothing : held Nothing ≡ []
 unfolding held
-held-nothing = ap (fold-Change (List Place) after) (sym rolls-Nothing) ∙ fold-roll-Change (List Place) after open'.Nothing
+held-nothing = ap (fold-PlaceChange (List Place) after) (sym rolls-Nothing) ∙ fold-roll-PlaceChange (List Place) after open'.Nothing
 
-pub held-reserved : (place : Snapshot Place) (before : Snapshot Change) → held (Reserved place before) ≡ place.value ∷ held before.value
+pub held-reserved : (place : Snapshot Place) (before : Snapshot PlaceChange) → held (Reserved place before) ≡ place.value ∷ held before.value
 unfolding held
-held-reserved place before = ap (fold-Change (List Place) after) (sym (rolls-Reserved place before)) ∙ fold-roll-Change (List Place) after (open'.Reserved place before)
+held-reserved place before = ap (fold-PlaceChange (List Place) after) (sym (rolls-Reserved place before)) ∙ fold-roll-PlaceChange (List Place) after (open'.Reserved place before)
 
-pub held-released : (place : Snapshot Place) (before : Snapshot Change) → held (Released place before) ≡ without_one place.value (held before.value)
+pub held-released : (place : Snapshot Place) (before : Snapshot PlaceChange) → held (Released place before) ≡ without_one place.value (held before.value)
 unfolding held
-held-released place before = ap (fold-Change (List Place) after) (sym (rolls-Released place before)) ∙ fold-roll-Change (List Place) after (open'.Released place before)
+held-released place before = ap (fold-PlaceChange (List Place) after) (sym (rolls-Released place before)) ∙ fold-roll-PlaceChange (List Place) after (open'.Released place before)
 
 -- where the snapshots show a place and what was before
-pub held-more : (shown : Snapshot Place) (before : Snapshot Change) (place : Place) (change : Change) → shown.value ≡ place → before.value ≡ change → held (Reserved shown before) ≡ place ∷ held change
+pub held-more : (shown : Snapshot Place) (before : Snapshot PlaceChange) (place : Place) (change : PlaceChange) → shown.value ≡ place → before.value ≡ change → held (Reserved shown before) ≡ place ∷ held change
 held-more shown before place change e f = held-reserved shown before ∙ (λ i. e i ∷ held (f i))
 
-pub held-less : (shown : Snapshot Place) (before : Snapshot Change) (place : Place) (change : Change) → shown.value ≡ place → before.value ≡ change
+pub held-less : (shown : Snapshot Place) (before : Snapshot PlaceChange) (place : Place) (change : PlaceChange) → shown.value ≡ place → before.value ≡ change
     → held (Released shown before) ≡ without_one place (held change)
 held-less shown before place change e f = held-released shown before ∙ (λ i. without_one (e i) (held (f i)))
 

@@ -7,7 +7,7 @@ use Rattle.std.proofs.lemmas.Bool.Decides.{nat_tests}
 use Rattle.xm_book.specs.Places.{SamePlaces, same_place}
 use Rattle.xm_book.specs.declared.places.Place.{Place}
 use Rattle.xm_book.proofs.Joining.{restriction-itself}
-use Rattle.xm_ladders.specs.Ladder.{same_kind}
+use Rattle.xm_rules.specs.Orders.{same_kind}
 use Rattle.xm_rules.specs.Sides.{same_side}
 use Rattle.xm_rules.specs.declared.orders.OrderKind.{OrderKind}
 use Rattle.xm_rules.specs.declared.orders.OrderKind.TheVariants.{Market, Limit}

@@ -1,11 +1,10 @@
 -- What the tests of names, sides and places say.
 use Rattle.std.proofs.Common.{◌≡◌, Bool, true, false, ◌&&◌, ◌==◌, refl}
 use Rattle.std.proofs.lemmas.Bool.{eqb-true}
-use Rattle.xm_book.specs.Levels.{same_restriction}
 use Rattle.xm_book.specs.Places.{same_place}
 use Rattle.xm_book.specs.declared.places.Place.{Place}
 use Rattle.xm_book.proofs.Joining.{restriction-is, side-is}
-use Rattle.xm_ladders.specs.Ladder.{same_kind}
+use Rattle.xm_rules.specs.Orders.{same_kind, same_restriction}
 use Rattle.xm_rules.specs.declared.orders.OrderKind.{OrderKind}
 use Rattle.xm_rules.specs.declared.orders.OrderKind.TheVariants.{Market, Limit}
 use Rattle.xm_rules.specs.Sides.{same_side}

@@ -7,10 +7,9 @@ use Rattle.std.proofs.lemmas.Bool.{and_parts, and_from, false≢true, false_from
 use Rattle.std.proofs.lemmas.Bool.Decides.{nat_tests}
 use Rattle.std.proofs.lemmas.List.Elements.{All-contains, Contains-get_or}
 use Rattle.xm_book.specs.Fronts.{IsBestOf, IsFirst, IsFirstOf, has_kind, has_worse, is_earlier, is_in, is_worse}
-use Rattle.xm_book.specs.Levels.{same_restriction}
 use Rattle.xm_slots.specs.Listing.{keys_in, listed_entry, rises}
 use Rattle.xm_slots.specs.Listing.{LiesAt}
-use Rattle.xm_book.specs.Queued.{HoldsLevel, IsLevelOf, IsQueued, is_member, members, units_in}
+use Rattle.xm_book.specs.Queued.{HoldsLevel, IsLevelOf, AreOrdersQueued, is_of_level, orders_of_level, units_in}
 use Rattle.xm_slots.specs.Slots.{SlotsView, get}
 use Rattle.xm_slots.specs.declared.entry.Entry.{Entry}
 use Rattle.xm_slots.specs.declared.listing.Listed.{Listed}
@@ -18,13 +17,14 @@ use Rattle.xm_book.proofs.Joining.{kind-is, units-few}
 use Rattle.xm_slots.proofs.Tests.{length-kept, same_some}
 use Rattle.xm_slots.proofs.Members.{Contains-cases, Contains-filter, Contains-here, Contains-none, IsMade-map, Passes-filter, filter_none}
 use Rattle.xm_book.proofs.Sameness.{left-true, right-true}
-use Rattle.xm_ladders.specs.Ladder.{HasOrder, IsBestLimit, IsNextLimit, limit_level, same_kind}
+use Rattle.xm_ladders.specs.Ladder.{HasOrder, IsBestLimit, IsNextLimit, limit_level}
 use Rattle.xm_ladders.specs.Ladders.{ladder_on, level_on, side_of}
 use Rattle.xm_ladders.specs.declared.ladders.Ladders.{Ladders}
 use Rattle.xm_ladders.specs.declared.level.Level.{Level}
 use Rattle.xm_queues.specs.Queue.{IsQueue}
 use Rattle.xm_queues.specs.declared.links.Link.{Link}
 use Rattle.xm_rules.specs.Active.{is_active}
+use Rattle.xm_rules.specs.Orders.{same_kind, same_restriction}
 use Rattle.xm_rules.specs.Priority.{is_better}
 use Rattle.xm_rules.specs.Sides.{reaches, same_side}
 use Rattle.xm_rules.specs.declared.orders.OrderKind.{OrderKind}
@@ -63,8 +63,8 @@ pub none-active : (phase : Phase) (side : Side) (r : Restriction) (test : Listed
 none-active phase side r test e x = (λ i. e i && (same_side side x.item.side && (same_restriction r x.item.restriction && test x)))
 
 -- and where it is, they are those of its level
-pub all-active : (phase : Phase) (side : Side) (r : Restriction) (k : OrderKind) (xs : List (Listed Order)) → is_active phase r ≡ true → filter (is_in phase side r (has_kind k)) xs ≡ members side r k xs
-all-active phase side r k xs e = (λ i. filter (λ x. e i && is_member side r k x) xs)
+pub all-active : (phase : Phase) (side : Side) (r : Restriction) (k : OrderKind) (xs : List (Listed Order)) → is_active phase r ≡ true → filter (is_in phase side r (has_kind k)) xs ≡ orders_of_level side r k xs
+all-active phase side r k xs e = (λ i. filter (λ x. e i && is_of_level side r k x) xs)
 
 -- ---- units
 pub units-inactive : (phase : Phase) (side : Side) (r : Restriction) (test : Listed Order → Bool) (xs : List (Listed Order)) → is_active phase r ≡ false → units_in (filter (is_in phase side r test) xs) ≡ 0
@@ -118,35 +118,35 @@ earliest-head low m ms high y h c = le-ltb y.time m.time (late_by (Contains-case
     late_by (inl same) = subst (λ (z : Listed Order). m.time ≤ z.time) same (omega arith)
     late_by (inr later) = let l = rises-low (m.time + 1) ms high y (right-true (nat_le low m.time) (rises (m.time + 1) ms high) h) later in omega arith
 
-module _ {A : Type 0} (xs : List (Listed Order)) (entries : SlotsView Order) (links : List Link) (ladders : Ladders A) (h : IsQueued xs entries links ladders)
+module _ {A : Type 0} (xs : List (Listed Order)) (entries : SlotsView Order) (links : List Link) (ladders : Ladders A) (h : AreOrdersQueued xs entries links ladders)
     (phase : Phase) (side : Side) (r : Restriction) where
   -- an order of a level is one of the list
-  pub in-list : (k : OrderKind) (x : Listed Order) → Contains (members side r k xs) x → Contains xs x × (is_member side r k x ≡ true)
-  in-list k x c = let p = Passes-filter (is_member side r k) xs x c in (p.contains, p.passes)
+  pub in-list : (k : OrderKind) (x : Listed Order) → Contains (orders_of_level side r k xs) x → Contains xs x × (is_of_level side r k x ≡ true)
+  in-list k x c = let p = Passes-filter (is_of_level side r k) xs x c in (p.contains, p.passes)
 
   -- ---- the front of a level
   module _ (k : OrderKind) (adds : ℕ) (rise : rises 0 xs adds ≡ true) (active : is_active phase r ≡ true) where
-    none-stands : members side r k xs ≡ [] → (x : Listed Order) → Contains xs x → is_in phase side r (has_kind k) x ≡ false
+    none-stands : orders_of_level side r k xs ≡ [] → (x : Listed Order) → Contains xs x → is_in phase side r (has_kind k) x ≡ false
     none-stands e x c =
         false_from_ne_true (is_in phase side r (has_kind k) x)
         (λ t. Contains-none x (subst (λ (ys : List (Listed Order)). Contains ys x) e
-        (Contains-filter (is_member side r k) xs x (right-true (is_active phase r) (is_member side r k x) t) c)))
+        (Contains-filter (is_of_level side r k) xs x (right-true (is_active phase r) (is_of_level side r k x) t) c)))
 
     pub front-none : level_on (side_of side ladders) r k ≡ None → (x : Listed Order) → Contains xs x → is_in phase side r (has_kind k) x ≡ false
-    front-none e = none-stands (none-of links (level_on (side_of side ladders) r k) (members side r k xs) (h.levels side r k) e)
+    front-none e = none-stands (none-of links (level_on (side_of side ladders) r k) (orders_of_level side r k xs) (h.levels side r k) e)
 
-    front-by : (ms : List (Listed Order)) → members side r k xs ≡ ms → (o : Option (Entry Order)) (key : Option ℕ) → key ≡ slice_get (keys_in ms) 0
+    front-by : (ms : List (Listed Order)) → orders_of_level side r k xs ≡ ms → (o : Option (Entry Order)) (key : Option ℕ) → key ≡ slice_get (keys_in ms) 0
         → ((n : ℕ) → key ≡ Some n → o ≡ get entries n) → (key ≡ None → o ≡ None) → IsFirstOf is_earlier (is_in phase side r (has_kind k)) xs o
     front-by [] e o key first some none = subst (λ (p : Option (Entry Order)). IsFirstOf is_earlier (is_in phase side r (has_kind k)) xs p) (sym (none first)) (none-stands e)
     front-by (m ∷ ms) e o key first some none =
         let at = in-list k m (subst (λ (ys : List (Listed Order)). Contains ys m) (sym e) (Contains-here m ms)) in
         let lies = All-contains (LiesAt entries) xs m h.lie at.0 in
-        let rising : rises 0 (m ∷ ms) adds ≡ true = ap (λ (ys : List (Listed Order)). rises 0 ys adds) (sym e) ∙ rises-kept (is_member side r k) 0 xs adds rise in
+        let rising : rises 0 (m ∷ ms) adds ≡ true = ap (λ (ys : List (Listed Order)). rises 0 ys adds) (sym e) ∙ rises-kept (is_of_level side r k) 0 xs adds rise in
         let earliest : IsFirst is_earlier (is_in phase side r (has_kind k)) xs m = record {
           contained = at.0;
-          passing = and_from (is_active phase r) (is_member side r k m) active at.1;
+          passing = and_from (is_active phase r) (is_of_level side r k m) active at.1;
           none = λ y c t. earliest-head 0 m ms adds y rising
-              (subst (λ (ys : List (Listed Order)). Contains ys y) e (Contains-filter (is_member side r k) xs y (right-true (is_active phase r) (is_member side r k y) t) c));
+              (subst (λ (ys : List (Listed Order)). Contains ys y) e (Contains-filter (is_of_level side r k) xs y (right-true (is_active phase r) (is_of_level side r k y) t) c));
         } in
         subst (λ (p : Option (Entry Order)). IsFirstOf is_earlier (is_in phase side r (has_kind k)) xs p) (sym (some m.key first ∙ lies)) (m, refl, earliest)
 
@@ -155,15 +155,15 @@ module _ {A : Type 0} (xs : List (Listed Order)) (entries : SlotsView Order) (li
         → ((links : List Link) (keys : List ℕ) → IsQueue links level.ends keys → key ≡ slice_get keys 0)
         → ((n : ℕ) → key ≡ Some n → o ≡ get entries n) → (key ≡ None → o ≡ None) → IsFirstOf is_earlier (is_in phase side r (has_kind k)) xs o
     front-some level e o key first some none =
-        let is = level-of links (level_on (side_of side ladders) r k) level (members side r k xs) (h.levels side r k) e in
-        front-by (members side r k xs) refl o key (first links (keys_in (members side r k xs)) is.queue) some none
+        let is = level-of links (level_on (side_of side ladders) r k) level (orders_of_level side r k xs) (h.levels side r k) e in
+        front-by (orders_of_level side r k xs) refl o key (first links (keys_in (orders_of_level side r k xs)) is.queue) some none
 
   -- ---- the limits that have a level
   module _ (after : Option ℕ) where
     abbrev stands : Listed Order → Bool
     stands = is_in phase side r (has_worse side after)
 
-    at-limit : (y : Listed Order) (k : OrderKind) → y.item.kind ≡ k → stands y ≡ true → (q : ℕ) × (y.item.kind ≡ Limit q) × (is_worse side after (Limit q) ≡ true) × (is_member side r (Limit q) y ≡ true)
+    at-limit : (y : Listed Order) (k : OrderKind) → y.item.kind ≡ k → stands y ≡ true → (q : ℕ) × (y.item.kind ≡ Limit q) × (is_worse side after (Limit q) ≡ true) × (is_of_level side r (Limit q) y ≡ true)
     at-limit y k e t =
         let rest = right-true (is_active phase r) (same_side side y.item.side && (same_restriction r y.item.restriction && is_worse side after y.item.kind)) t in
         let own = left-true (same_side side y.item.side) (same_restriction r y.item.restriction && is_worse side after y.item.kind) rest in
@@ -173,7 +173,7 @@ module _ {A : Type 0} (xs : List (Listed Order)) (entries : SlotsView Order) (li
         limit_by k e own of (sym (ap (is_worse side after) e) ∙ worse)
       where
         limit_by : (k : OrderKind) → y.item.kind ≡ k → same_side side y.item.side ≡ true → same_restriction r y.item.restriction ≡ true → is_worse side after k ≡ true
-            → (q : ℕ) × (y.item.kind ≡ Limit q) × (is_worse side after (Limit q) ≡ true) × (is_member side r (Limit q) y ≡ true)
+            → (q : ℕ) × (y.item.kind ≡ Limit q) × (is_worse side after (Limit q) ≡ true) × (is_of_level side r (Limit q) y ≡ true)
         limit_by Market e own of worse = absurd (cc)
         limit_by (Limit q) e own of worse = (
           q,
@@ -183,11 +183,11 @@ module _ {A : Type 0} (xs : List (Listed Order)) (entries : SlotsView Order) (li
               (and_from (same_restriction r y.item.restriction) (same_kind (Limit q) y.item.kind) of (ap (same_kind (Limit q)) e ∙ limit-itself q)),
         )
 
-    no-level : (q : ℕ) (y : Listed Order) → Contains xs y → is_member side r (Limit q) y ≡ true → limit_level (ladder_on r (side_of side ladders)) q ≡ None → ⊥
+    no-level : (q : ℕ) (y : Listed Order) → Contains xs y → is_of_level side r (Limit q) y ≡ true → limit_level (ladder_on r (side_of side ladders)) q ≡ None → ⊥
     no-level q y c t e =
         Contains-none y (subst (λ (ys : List (Listed Order)). Contains ys y)
-        (none-of links (level_on (side_of side ladders) r (Limit q)) (members side r (Limit q) xs) (h.levels side r (Limit q)) e)
-        (Contains-filter (is_member side r (Limit q)) xs y t c))
+        (none-of links (level_on (side_of side ladders) r (Limit q)) (orders_of_level side r (Limit q) xs) (h.levels side r (Limit q)) e)
+        (Contains-filter (is_of_level side r (Limit q)) xs y t c))
 
     pub limit-none : ((q : ℕ) → is_worse side after (Limit q) ≡ true → limit_level (ladder_on r (side_of side ladders)) q ≡ None) → (y : Listed Order) → Contains xs y → stands y ≡ false
     limit-none none y c =
@@ -197,7 +197,7 @@ module _ {A : Type 0} (xs : List (Listed Order)) (entries : SlotsView Order) (li
         → ((q : ℕ) → is_worse side after (Limit q) ≡ true → reaches side p q ≡ false → limit_level (ladder_on r (side_of side ladders)) q ≡ None)
         → IsBestOf side stands xs (Some p)
     limit-some active p there worse best =
-        let found = order-of links (level_on (side_of side ladders) r (Limit p)) (members side r (Limit p) xs) (h.levels side r (Limit p)) there in
+        let found = order-of links (level_on (side_of side ladders) r (Limit p)) (orders_of_level side r (Limit p) xs) (h.levels side r (Limit p)) there in
         let x = found.0 in
         let at = in-list (Limit p) x found.1 in
         let parts = and_parts (same_side side x.item.side) (same_restriction r x.item.restriction && same_kind (Limit p) x.item.kind) at.1 in
@@ -228,7 +228,7 @@ module _ {A : Type 0} (xs : List (Listed Order)) (entries : SlotsView Order) (li
   limit-next active a (Some p) some none = limit-some (Some a) active p some.there (ap not some.worse) (λ q w. some.best q (not-true (reaches side q a) w))
 
 -- ---- the order of a key
-module _ {A : Type 0} (xs : List (Listed Order)) (entries : SlotsView Order) (links : List Link) (ladders : Ladders A) (h : IsQueued xs entries links ladders) (key : ℕ) where
+module _ {A : Type 0} (xs : List (Listed Order)) (entries : SlotsView Order) (links : List Link) (ladders : Ladders A) (h : AreOrdersQueued xs entries links ladders) (key : ℕ) where
   pub entry-at : (e : Entry Order) → Some e ≡ get entries key → (x : Listed Order) → Contains xs x → x.key ≡ key → e ≡ listed_entry x
   entry-at e lies x c same = same_some (lies ∙ ap (get entries) (sym same) ∙ All-contains (LiesAt entries) xs x h.lie c)
 

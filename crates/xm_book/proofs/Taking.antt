@@ -1,4 +1,6 @@
 -- Units that are taken from one order of what is left of a time list.
+use Rattle.xm_book.specs.Listing.{order_owner, order_reference}
+use Rattle.xm_slots.specs.Naming.{have_own_names}
 use Rattle.std.proofs.Common.{◌≡◌, ℕ, ◌+◌, ◌-◌, ◌<◌, ◌≤◌, Bool, true, false, ◌==◌, if◌then◌else◌, IfSome, List, [], ◌∷◌, map, filter, Contains, Some, refl, sym, ap, subst, ◌∙◌, arith}
 use Rattle.std.specs.Prelude.{nat_lt}
 use Rattle.std.proofs.lemmas.Bool.{lt-ltb}
@@ -6,7 +8,7 @@ use Rattle.std.proofs.lemmas.Bool.Decides.{nat_tests}
 use Rattle.xm_book.specs.Queues.{best_order, taken_from}
 use Rattle.xm_book.proofs.Naming.{named_itself, one_of_name, order_in, own_positioned}
 use Rattle.xm_book.proofs.Remaining.{has_rest, lessened}
-use Rattle.xm_book.specs.TimeList.{TimeList, have_own_names}
+use Rattle.xm_book.specs.TimeList.{TimeList}
 use Rattle.xm_slots.proofs.Members.{Contains-here, Contains-there}
 use Rattle.xm_rules.specs.Active.{Positioned, positioned_from}
 use Rattle.xm_rules.specs.Orders.{is_named, removed, with_rest}
@@ -71,7 +73,7 @@ rest_left rest old new units l f = omega arith
 
 -- units are taken from one order, and from no other
 pub record TakesFrom (orders : List Order) (taken more : Positioned → ℕ) (units_taken : ℕ) (x : Positioned) : Type 0 where
-  pub own : have_own_names orders ≡ true
+  pub own : have_own_names order_owner order_reference orders ≡ true
   pub contained : Contains (positioned_from 0 orders) x
   pub some : 0 < units_taken
   pub within : units_taken ≤ units x - taken x

@@ -5,10 +5,9 @@ use Rattle.std.proofs.lemmas.Bool.{and_from, and_parts, both_ways, false_from_ne
 use Rattle.std.proofs.lemmas.List.{append-nil, append_assoc, length-append, map-append}
 use Rattle.std.proofs.lemmas.List.Elements.{All-contains, Contains-append_cases, Contains-append_right, Contains-push, Contains-push_cases}
 use Rattle.xm_book.specs.Fronts.{IsFirst, IsFirstOf, has_kind_later, is_earlier, is_in}
-use Rattle.xm_book.specs.Levels.{same_restriction}
 use Rattle.xm_slots.specs.Listing.{keys_in, listed_entry, rises}
 use Rattle.xm_slots.specs.Listing.{LiesAt}
-use Rattle.xm_book.specs.Queued.{HoldsLevel, IsLevelOf, IsQueued, is_member, members}
+use Rattle.xm_book.specs.Queued.{HoldsLevel, IsLevelOf, AreOrdersQueued, is_of_level, orders_of_level}
 use Rattle.xm_slots.specs.Slots.{SlotsView, get}
 use Rattle.xm_slots.specs.declared.entry.Entry.{Entry}
 use Rattle.xm_slots.specs.declared.listing.Listed.{Listed}
@@ -17,7 +16,6 @@ use Rattle.xm_slots.proofs.Tests.{same_some, some_none}
 use Rattle.xm_slots.proofs.Members.{Contains-cases, Contains-filter, Contains-here, Contains-map, Contains-none}
 use Rattle.xm_book.proofs.Sameness.{left-true, right-true}
 use Rattle.xm_book.proofs.Standing.{in-list, level-of, none-of, rises-kept, rises-low, rises-lower}
-use Rattle.xm_ladders.specs.Ladder.{same_kind}
 use Rattle.xm_ladders.specs.Ladders.{level_on, side_of}
 use Rattle.xm_ladders.specs.declared.ladders.Ladders.{Ladders}
 use Rattle.xm_ladders.specs.declared.level.Level.{Level}
@@ -26,6 +24,7 @@ use Rattle.xm_queues.proofs.Changes.{key_within}
 use Rattle.xm_queues.specs.declared.links.Link.{Link}
 use Rattle.xm_queues.specs.declared.queues.Ends.{Ends}
 use Rattle.xm_rules.specs.Active.{is_active}
+use Rattle.xm_rules.specs.Orders.{same_kind, same_restriction}
 use Rattle.xm_rules.specs.Sides.{same_side}
 use Rattle.xm_rules.specs.declared.orders.Order.{Order}
 use Rattle.xm_rules.specs.declared.orders.OrderKind.{OrderKind}
@@ -64,10 +63,10 @@ cut-at (y ∷ ys) x c = cut_by (λ d. cut-at ys x d) (Contains-cases y ys x c)
     cut_by more (inr later) = let m = more later in (y ∷ m.0, m.1, ap (λ (zs : List (Listed Order)). y ∷ zs) m.2)
 
 -- an order stands in the level of its side, restriction and kind
-pub own-member : (e : Entry Order) (r : Restriction) (xs : List (Listed Order)) (x : Listed Order) → Contains xs x → e ≡ listed_entry x → r ≡ e.item.restriction → Contains (members e.item.side r e.item.kind xs) x
+pub own-member : (e : Entry Order) (r : Restriction) (xs : List (Listed Order)) (x : Listed Order) → Contains xs x → e ≡ listed_entry x → r ≡ e.item.restriction → Contains (orders_of_level e.item.side r e.item.kind xs) x
 own-member e r xs x c is same =
     let order = ap (λ (y : Entry Order). y.item) is in
-    Contains-filter (is_member e.item.side r e.item.kind) xs x
+    Contains-filter (is_of_level e.item.side r e.item.kind) xs x
     (at-itself e.item.side r e.item.kind x.item
     (record { side = ap (λ (o : Order). o.side) order; restriction = same ∙ ap (λ (o : Order). o.restriction) order; kind = ap (λ (o : Order). o.kind) order })) c
 
@@ -83,10 +82,10 @@ pub record IsPassed (ms : List (Listed Order)) (time count : ℕ) (key : Option 
 pub none-passed : (ms : List (Listed Order)) (time : ℕ) (key : Option ℕ) → key ≡ slice_get (keys_in ms) 0 → IsPassed ms time 0 key
 none-passed ms time key e = record { ahead = []; behind = ms; whole = refl; long = refl; next = e; none = λ x c. absurd (Contains-none x c) }
 
-module _ {A : Type 0} (xs : List (Listed Order)) (entries : SlotsView Order) (links : List Link) (ladders : Ladders A) (h : IsQueued xs entries links ladders)
+module _ {A : Type 0} (xs : List (Listed Order)) (entries : SlotsView Order) (links : List Link) (ladders : Ladders A) (h : AreOrdersQueued xs entries links ladders)
     (phase : Phase) (side : Side) (r : Restriction) (k : OrderKind) (adds : ℕ) (rise : rises 0 xs adds ≡ true) (active : is_active phase r ≡ true) (time : ℕ) where
   abbrev pub ms : List (Listed Order)
-  ms = members side r k xs
+  ms = orders_of_level side r k xs
 
   abbrev pub later : Listed Order → Bool
   later = is_in phase side r (has_kind_later k time)
@@ -98,13 +97,13 @@ module _ {A : Type 0} (xs : List (Listed Order)) (entries : SlotsView Order) (li
       let a = and_parts (same_side side y.item.side) (same_restriction r y.item.restriction && has_kind_later k time y) rest in
       let b = and_parts (same_restriction r y.item.restriction) (has_kind_later k time y) a.1 in
       let d = and_parts (same_kind k y.item.kind) (nat_lt time y.time) b.1 in (
-        Contains-filter (is_member side r k) xs y
+        Contains-filter (is_of_level side r k) xs y
             (and_from (same_side side y.item.side) (same_restriction r y.item.restriction && same_kind k y.item.kind) a.0
             (and_from (same_restriction r y.item.restriction) (same_kind k y.item.kind) b.0 d.0)) c,
         d.1,
       )
 
-  passes : (y : Listed Order) → is_member side r k y ≡ true → nat_lt time y.time ≡ true → later y ≡ true
+  passes : (y : Listed Order) → is_of_level side r k y ≡ true → nat_lt time y.time ≡ true → later y ≡ true
   passes y m t =
       let a = and_parts (same_side side y.item.side) (same_restriction r y.item.restriction && same_kind k y.item.kind) m in
       let b = and_parts (same_restriction r y.item.restriction) (same_kind k y.item.kind) a.1 in
@@ -122,7 +121,7 @@ module _ {A : Type 0} (xs : List (Listed Order)) (entries : SlotsView Order) (li
   front-behind : (ahead : List (Listed Order)) (m : Listed Order) (bs : List (Listed Order)) → ms ≡ ahead ++ m ∷ bs → ((x : Listed Order) → Contains ahead x → nat_lt time x.time ≡ false) → nat_lt time m.time ≡ true
       → IsFirst is_earlier later xs m
   front-behind ahead m bs e none t =
-      let rising : rises 0 (ahead ++ m ∷ bs) adds ≡ true = ap (λ (ys : List (Listed Order)). rises 0 ys adds) (sym e) ∙ rises-kept (is_member side r k) 0 xs adds rise in
+      let rising : rises 0 (ahead ++ m ∷ bs) adds ≡ true = ap (λ (ys : List (Listed Order)). rises 0 ys adds) (sym e) ∙ rises-kept (is_of_level side r k) 0 xs adds rise in
       let at = in-list xs entries links ladders h phase side r k m (subst (λ (ys : List (Listed Order)). Contains ys m) (sym e) (Contains-append_right ahead (m ∷ bs) m (Contains-here m bs))) in
       let late : (y : Listed Order) → Contains (m ∷ bs) y → m.time ≤ y.time = λ y c. not_before y c (rises-behind 0 ahead (m ∷ bs) adds rising) (Contains-cases m bs y c) in
       record {
@@ -180,7 +179,7 @@ module _ {A : Type 0} (xs : List (Listed Order)) (entries : SlotsView Order) (li
         let cut = cut-at ms x at in
         let whole : ms ≡ (cut.0 ++ x ∷ []) ++ cut.1 = cut.2 ∙ sym (append_assoc cut.0 (x ∷ []) cut.1) in
         let keys : keys_in ms ≡ keys_in cut.0 ++ x.key ∷ keys_in cut.1 = ap keys_in cut.2 ∙ map-append (λ (y : Listed Order). y.key) cut.0 (x ∷ cut.1) in
-        let first = rises-kept (is_member side r k) 0 xs adds rise in
+        let first = rises-kept (is_of_level side r k) 0 xs adds rise in
         let rising : rises 0 (cut.0 ++ x ∷ cut.1) adds ≡ true = ap (λ (ys : List (Listed Order)). rises 0 ys adds) (sym cut.2) ∙ first in
         let parted : rises 0 ((cut.0 ++ x ∷ []) ++ cut.1) adds ≡ true = ap (λ (ys : List (Listed Order)). rises 0 ys adds) (sym whole) ∙ first in
         own-by (cut.0 ++ x ∷ []) cut.1 whole (λ y c. passed-by cut.0 cut.1 rising y (Contains-push_cases cut.0 x y c))

@@ -1,12 +1,11 @@
 -- What the queues answer of the active orders: which is the first of some in time or in priority, and which limit is the best.
-use Rattle.std.specs.Prelude.{◌≡◌, ℕ, Bool, true, false, ◌&&◌, ◌||◌, not, if◌then◌else◌, nat_lt, List, Contains, Option, Some, None, option_map}
-use Rattle.xm_book.specs.Levels.{same_restriction}
+use Rattle.std.specs.Prelude.{◌≡◌, ℕ, Bool, true, false, ◌&&◌, if◌then◌else◌, nat_lt, List, Contains, Option, Some, None, option_map}
 use Rattle.xm_slots.specs.Listing.{listed_entry}
 use Rattle.xm_slots.specs.declared.entry.Entry.{Entry}
 use Rattle.xm_slots.specs.declared.listing.Listed.{Listed}
-use Rattle.xm_ladders.specs.Ladder.{same_kind}
 use Rattle.xm_rules.specs.Active.{is_active}
-use Rattle.xm_rules.specs.Priority.{is_better}
+use Rattle.xm_rules.specs.Orders.{same_kind, same_restriction}
+use Rattle.xm_rules.specs.Priority.{is_better, is_prior, is_worse_limit}
 use Rattle.xm_rules.specs.Sides.{reaches, same_side}
 use Rattle.xm_rules.specs.declared.orders.OrderKind.{OrderKind}
 use Rattle.xm_rules.specs.declared.orders.OrderKind.TheVariants.{Market, Limit}
@@ -31,7 +30,7 @@ has_kind_later kind time x = same_kind kind x.item.kind && nat_lt time x.time
 abbrev pub is_worse : Side → Option ℕ → OrderKind → Bool
 is_worse side after Market = false
 is_worse side None (Limit q) = true
-is_worse side (Some p) (Limit q) = not (reaches side q p)
+is_worse side (Some p) (Limit q) = is_worse_limit side p q
 
 -- with a limit that is worse
 abbrev pub has_worse : Side → Option ℕ → Listed Order → Bool
@@ -56,7 +55,7 @@ has_better side x y = is_better side x.item.kind y.item.kind
 
 -- ahead in priority, and then in time
 abbrev pub goes_ahead : Side → Listed Order → Listed Order → Bool
-goes_ahead side x y = is_better side x.item.kind y.item.kind || (not (is_better side y.item.kind x.item.kind) && nat_lt x.time y.time)
+goes_ahead side x y = is_prior side x.item.kind y.item.kind (nat_lt x.time y.time)
 
 -- an order of a list that passes a test, and that none that passes it is ahead of
 pub record IsFirst (ahead : Listed Order → Listed Order → Bool) (passes : Listed Order → Bool) (xs : List (Listed Order)) (first : Listed Order) : Type 0 where

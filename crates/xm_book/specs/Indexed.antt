@@ -1,7 +1,9 @@
 -- How the names of a book's orders lead to their keys.
+use Rattle.xm_book.specs.Listing.{order_owner, order_reference}
+use Rattle.xm_slots.specs.Listing.{listed_item}
+use Rattle.xm_slots.specs.Naming.{key_by_name}
 use Rattle.std.specs.Prelude.{◌≡◌, ◌≤◌, ◌==◌, ℕ, Bool, List, map, count_by}
-use Rattle.xm_book.specs.Listing.{key_of, listed_order}
-use Rattle.xm_book.specs.Queued.{QueuedView}
+use Rattle.xm_book.specs.Queued.{QueuedOrders}
 use Rattle.xm_book.specs.TimeList.{IsBook}
 use Rattle.xm_book.specs.declared.places.Place.{Place}
 use Rattle.xm_names.specs.Names.{NamesOfMember, lookup, room}
@@ -10,7 +12,7 @@ abbrev pub is_for : ℕ → Place → Bool
 is_for member p = p.member == member
 
 -- each order's name leads to its key, and there is room for the name of each reserved place
-pub record IsIndexed (q : QueuedView) (names : List (ℕ × NamesOfMember)) : Type 0 where
-  pub named : (member reference : ℕ) → lookup names member reference ≡ key_of member reference q.orders
+pub record AreOrdersIndexed (q : QueuedOrders) (names : List (ℕ × NamesOfMember)) : Type 0 where
+  pub named : (member reference : ℕ) → lookup names member reference ≡ key_by_name order_owner order_reference member reference q.orders
   pub names_room : (member : ℕ) → count_by (is_for member) q.reserved ≤ room names member
-  pub sound : IsBook (record { orders = map listed_order q.orders; reserved = q.reserved; adds = q.adds })
+  pub sound : IsBook (record { orders = map listed_item q.orders; reserved = q.reserved; adds = q.adds })

@@ -1,24 +1,17 @@
 -- Which level an order stands in.
-use Rattle.std.specs.Prelude.{◌≡◌, ◌<◌, Bool, true, false, ◌&&◌, List, [], Option, None, Some}
-use Rattle.xm_ladders.specs.Ladder.{IsCleared, same_kind}
+use Rattle.std.specs.Prelude.{◌≡◌, ◌<◌, Bool, ◌&&◌, List, [], Option, None, Some}
+use Rattle.xm_ladders.specs.Ladder.{IsCleared}
 use Rattle.xm_ladders.specs.Ladders.{level_on, side_of}
 use Rattle.xm_ladders.specs.declared.ladders.Ladders.{Ladders}
 use Rattle.xm_ladders.specs.declared.level.Level.{Level}
 use Rattle.xm_queues.specs.Queue.{IsQueue}
 use Rattle.xm_queues.specs.declared.links.Link.{Link}
+use Rattle.xm_rules.specs.Orders.{same_kind, same_restriction}
 use Rattle.xm_rules.specs.Sides.{same_side}
 use Rattle.xm_rules.specs.declared.orders.Order.{Order}
 use Rattle.xm_rules.specs.declared.orders.OrderKind.{OrderKind}
 use Rattle.xm_rules.specs.declared.orders.Restriction.{Restriction}
-use Rattle.xm_rules.specs.declared.orders.Restriction.TheVariants.{Free, OpeningOnly, AuctionsOnly, ClosingOnly}
 use Rattle.xm_rules.specs.declared.orders.Side.{Side}
-
-abbrev pub same_restriction : Restriction → Restriction → Bool
-same_restriction Free Free = true
-same_restriction OpeningOnly OpeningOnly = true
-same_restriction AuctionsOnly AuctionsOnly = true
-same_restriction ClosingOnly ClosingOnly = true
-same_restriction _ _ = false
 
 -- the order stands in the level of this side, restriction and kind
 abbrev pub at_level : Side → Restriction → OrderKind → Order → Bool
@@ -29,10 +22,10 @@ module _ {A : Type 0} where
   level_for o l = level_on (side_of o.side l) o.restriction o.kind
 
 -- the level that is there, or else an empty one
-abbrev pub IsFound : Option Level → Level → Type 0
-IsFound None l = ((links : List Link) → IsQueue links l.ends []) × ((l.orders ≡ 0) × (l.units ≡ 0))
-IsFound (Some x) l = l ≡ x
+abbrev pub IsLevelFound : Option Level → Level → Type 0
+IsLevelFound None l = ((links : List Link) → IsQueue links l.ends []) × ((l.orders ≡ 0) × (l.units ≡ 0))
+IsLevelFound (Some x) l = l ≡ x
 
 -- the level that was put, or none where it has no order
-abbrev pub IsSet : Option Level → Level → Type 0
-IsSet o l = (0 < l.orders → o ≡ Some l) × (l.orders ≡ 0 → IsCleared o)
+abbrev pub IsLevelSet : Option Level → Level → Type 0
+IsLevelSet o l = (0 < l.orders → o ≡ Some l) × (l.orders ≡ 0 → IsCleared o)

@@ -1,8 +1,7 @@
 -- Places that are reserved in a book, and lists of them in which the order doesn't count.
 use Rattle.std.specs.Prelude.{◌≡◌, Bool, ◌&&◌, ◌==◌, List, length, count_by}
-use Rattle.xm_book.specs.Levels.{same_restriction}
 use Rattle.xm_book.specs.declared.places.Place.{Place}
-use Rattle.xm_ladders.specs.Ladder.{same_kind}
+use Rattle.xm_rules.specs.Orders.{same_kind, same_restriction}
 use Rattle.xm_rules.specs.Sides.{same_side}
 use Rattle.xm_rules.specs.declared.orders.Order.{Order}
 

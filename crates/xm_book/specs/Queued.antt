@@ -1,12 +1,13 @@
 -- How the orders of a book stand in their queues.
 use Rattle.std.specs.Prelude.{◌≡◌, ◌<◌, ◌≤◌, ℕ, ◌+◌, Bool, true, false, ◌&&◌, List, [], length, filter, sum_by, count_by, Option, None, Some}
 use Rattle.std.specs.List.{All}
-use Rattle.xm_book.specs.Levels.{at_level, same_restriction}
+use Rattle.xm_book.specs.Levels.{at_level}
 use Rattle.xm_slots.specs.Listing.{LiesAt, keys_in, rises}
 use Rattle.xm_book.specs.Places.{same_place}
 use Rattle.xm_slots.specs.Slots.{SlotsView, used}
 use Rattle.xm_slots.specs.declared.listing.Listed.{Listed}
 use Rattle.xm_book.specs.declared.places.Place.{Place}
+use Rattle.xm_book.specs.declared.places.TheConstants.{MAX_PLACES}
 use Rattle.xm_ladders.specs.Ladder.{HasKind, HasLevels}
 use Rattle.xm_ladders.specs.Ladders.{ladder_on, level_on, side_of}
 use Rattle.xm_ladders.specs.declared.ladders.Ladders.{Ladders}
@@ -14,6 +15,7 @@ use Rattle.xm_ladders.specs.declared.level.Level.{Level}
 use Rattle.xm_queues.specs.Keys.{AreDistinct}
 use Rattle.xm_queues.specs.Queue.{IsQueue, key_limit}
 use Rattle.xm_queues.specs.declared.links.Link.{Link}
+use Rattle.xm_rules.specs.Orders.{same_restriction}
 use Rattle.xm_rules.specs.Sides.{same_side}
 use Rattle.xm_rules.specs.declared.orders.OrderKind.{OrderKind}
 use Rattle.xm_rules.specs.declared.orders.OrderKind.TheVariants.{Market, Limit}
@@ -22,7 +24,7 @@ use Rattle.xm_rules.specs.declared.orders.Side.{Side}
 use Rattle.xm_rules.specs.declared.orders.Order.{Order}
 
 -- what a caller sees of the queues
-pub record QueuedView : Type 0 where
+pub record QueuedOrders : Type 0 where
   -- the orders in time order
   pub orders : List (Listed Order)
   -- the places that are reserved, in no order
@@ -30,12 +32,12 @@ pub record QueuedView : Type 0 where
   -- how many orders have joined so far
   pub adds : ℕ
 
-abbrev pub is_member : Side → Restriction → OrderKind → Listed Order → Bool
-is_member s r k x = at_level s r k x.item
+abbrev pub is_of_level : Side → Restriction → OrderKind → Listed Order → Bool
+is_of_level s r k x = at_level s r k x.item
 
 -- the orders of one level, in time order
-abbrev pub members : Side → Restriction → OrderKind → List (Listed Order) → List (Listed Order)
-members s r k xs = filter (is_member s r k) xs
+abbrev pub orders_of_level : Side → Restriction → OrderKind → List (Listed Order) → List (Listed Order)
+orders_of_level s r k xs = filter (is_of_level s r k) xs
 
 abbrev pub units_in : List (Listed Order) → ℕ
 units_in xs = sum_by (λ (x : Listed Order). x.item.rest) xs
@@ -55,14 +57,14 @@ HoldsLevel links (Some level) xs = IsLevelOf links level xs
 abbrev pub HasItsKind : {A : Type 0} → Ladders A → Listed Order → Type 0
 HasItsKind ladders x = HasKind (ladder_on x.item.restriction (side_of x.item.side ladders)) x.item.kind
 
-pub record IsQueued {A : Type 0} (xs : List (Listed Order)) (entries : SlotsView Order) (links : List Link) (ladders : Ladders A) : Type 0 where
+pub record AreOrdersQueued {A : Type 0} (xs : List (Listed Order)) (entries : SlotsView Order) (links : List Link) (ladders : Ladders A) : Type 0 where
   pub lie : All (LiesAt entries) xs
   pub distinct : AreDistinct (keys_in xs)
   pub count : used entries ≡ length xs
-  pub few : length xs ≤ 2000000
+  pub few : length xs ≤ MAX_PLACES
   pub small : All (λ (x : Listed Order). x.item.rest ≤ 1000000) xs
   pub kinds : All (HasItsKind ladders) xs
-  pub levels : (s : Side) (r : Restriction) (k : OrderKind) → HoldsLevel links (level_on (side_of s ladders) r k) (members s r k xs)
+  pub levels : (s : Side) (r : Restriction) (k : OrderKind) → HoldsLevel links (level_on (side_of s ladders) r k) (orders_of_level s r k xs)
   pub fits : entries.capacity ≤ key_limit links
 
 abbrev pub is_limit : OrderKind → Bool
@@ -79,12 +81,12 @@ HasKindOf ladders p = HasKind (ladder_on p.restriction (side_of p.side ladders))
 
 -- there is room for an order of each of these places
 pub record HasPlaces {A : Type 0} (xs : List (Listed Order)) (ps : List Place) (entries : SlotsView Order) (ladders : Ladders A) : Type 0 where
-  pub within : length xs + length ps ≤ 2000000
+  pub within : length xs + length ps ≤ MAX_PLACES
   pub entries_room : length xs + length ps ≤ entries.capacity
   pub kinds_room : (p : Place) → 0 < count_by (same_place p) ps → HasKindOf ladders p
   pub levels_room : (s : Side) (r : Restriction) (k : OrderKind) (n : ℕ) → n < count_by (is_limit_in s r) ps → HasLevels (ladder_on r (side_of s ladders)) k (n + 1)
 
-pub record IsKept {A : Type 0} (xs : List (Listed Order)) (ps : List Place) (adds : ℕ) (entries : SlotsView Order) (links : List Link) (ladders : Ladders A) : Type 0 where
-  pub queued : IsQueued xs entries links ladders
+pub record AreOrdersKept {A : Type 0} (xs : List (Listed Order)) (ps : List Place) (adds : ℕ) (entries : SlotsView Order) (links : List Link) (ladders : Ladders A) : Type 0 where
+  pub queued : AreOrdersQueued xs entries links ladders
   pub places : HasPlaces xs ps entries ladders
   pub rise : rises 0 xs adds ≡ true

@@ -1,11 +1,10 @@
 -- The active orders of a side in order of priority.
 use Rattle.std.specs.Prelude.{ℕ, ◌-◌, ◌==◌, if◌then◌else◌, not, List, filter, find, sum_by, Option, Some, None, option_map}
 use Rattle.std.specs.List.{list_any}
-use Rattle.xm_ladders.specs.Ladder.{same_kind}
 use Rattle.xm_rules.specs.Active.{Positioned, active, limits}
-use Rattle.xm_rules.specs.Orders.{is_named, removed, with_rest}
-use Rattle.xm_rules.specs.Priority.{is_ahead}
-use Rattle.xm_rules.specs.Sides.{best, reaches}
+use Rattle.xm_rules.specs.Orders.{is_named, removed, same_kind, with_rest}
+use Rattle.xm_rules.specs.Priority.{is_ahead, is_worse_limit}
+use Rattle.xm_rules.specs.Sides.{best}
 use Rattle.xm_rules.specs.declared.orders.Order.{Order}
 use Rattle.xm_rules.specs.declared.orders.OrderKind.{OrderKind}
 use Rattle.xm_rules.specs.declared.orders.OrderKind.TheVariants.{Market, Limit}
@@ -58,7 +57,7 @@ market_sum phase side orders = units_at Market (active phase side orders)
 -- the limits that are worse than this one; all of them where there is none
 abbrev pub limits_after : Side → Option ℕ → List Positioned → List ℕ
 limits_after side None queue = limits queue
-limits_after side (Some p) queue = filter (λ q. not (reaches side q p)) (limits queue)
+limits_after side (Some p) queue = filter (is_worse_limit side p) (limits queue)
 
 -- the best limit of the active orders of a side that is worse than this one, or the best of all where there is none, with
 -- the units that rest at it

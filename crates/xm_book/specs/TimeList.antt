@@ -1,11 +1,14 @@
 -- What a caller sees of a book.
-use Rattle.std.specs.Prelude.{◌≡◌, ◌≤◌, ℕ, ◌+◌, Bool, true, ◌&&◌, ◌==◌, not, IsTrue, List, [], ◌∷◌, length, filter, map}
+use Rattle.std.specs.Prelude.{◌≡◌, ◌≤◌, ℕ, ◌+◌, Bool, ◌==◌, IsTrue, List, ◌∷◌, length, filter, map}
 use Rattle.std.specs.List.{list_any, list_all}
+use Rattle.xm_book.specs.Listing.{order_owner, order_reference}
 use Rattle.xm_book.specs.Places.{SamePlaces, same_place}
 use Rattle.xm_book.specs.declared.places.Place.{Place}
+use Rattle.xm_book.specs.declared.places.TheConstants.{MAX_PLACES}
 use Rattle.xm_rules.specs.Commands.{is_in_range}
 use Rattle.xm_rules.specs.Orders.{is_named}
 use Rattle.xm_rules.specs.declared.orders.Order.{Order}
+use Rattle.xm_slots.specs.Naming.{have_own_names}
 
 pub record TimeList : Type 0 where
   -- the live orders in time order
@@ -15,17 +18,12 @@ pub record TimeList : Type 0 where
   -- how many orders were added so far
   pub adds : ℕ
 
--- no two orders have one name
-abbrev pub have_own_names : List Order → Bool
-have_own_names [] = true
-have_own_names (o ∷ os) = not (list_any (is_named o.member o.reference) os) && have_own_names os
-
--- what every book keeps: each order has a name of its own and a rest in range, and there are no more than 2,000,000 orders
+-- what every book keeps: each order has a name of its own and a rest in range, and there are no more than `MAX_PLACES` orders
 -- and reserved places together
 pub record IsBook (l : TimeList) : Type 0 where
-  pub names : IsTrue (have_own_names l.orders)
+  pub names : IsTrue (have_own_names order_owner order_reference l.orders)
   pub rests : IsTrue (list_all (λ (o : Order). is_in_range o.rest) l.orders)
-  pub within : length l.orders + length l.reserved ≤ 2000000
+  pub within : length l.orders + length l.reserved ≤ MAX_PLACES
 
 abbrev pub is_reserved : Place → TimeList → Bool
 is_reserved place l = list_any (same_place place) l.reserved

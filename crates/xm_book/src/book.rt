@@ -1,6 +1,7 @@
 //! The book of one security.
 ghost use Rattle.std.specs.Prelude.{◌≡◌, ◌+◌, ◌++◌, ◌∷◌, ◌<◌, ◌≤◌, ◌^◌, [], Contains, IsTrue, filter, length, find, false, option_copied, IfOk, IfSome, OnErr, OnOk};
 ghost use Rattle.std.specs.Option.{option_map};
+ghost use Rattle.xm_book.specs.declared.places.TheConstants.{MAX_PLACES};
 ghost use Rattle.xm_book.specs.Places.{SamePlaces, place_of};
 ghost use Rattle.xm_book.specs.Queues.{best_order, level_after, market_sum, next_order, taken_from, taken_from_best};
 ghost use Rattle.xm_book.specs.TimeList.{IsBook, Reserves, is_known, is_reserved, references_of};
@@ -15,8 +16,9 @@ use crate::order_queues::OrderQueues;
 use crate::places::Place;
 use std::alloc::Allocator;
 use std::marker::Model;
+use xm_memory::OutOfMemory;
 use xm_names::{Names, Seed};
-use xm_rules::{Order, OrderKind, OutOfMemory, Phase, Side};
+use xm_rules::{Order, OrderKind, Phase, Side};
 use xm_slots::Entry;
 use xm_ticks::Price;
 
@@ -39,15 +41,15 @@ impl<A: Allocator + Copy> Drop for Book<A> {
 
 impl<A: Allocator + Copy> Model for Book<A> {
     ghost use Rattle.std.specs.Prelude.{map};
-    ghost use Rattle.xm_book.specs.Indexed.{IsIndexed};
-    ghost use Rattle.xm_book.specs.Listing.{listed_order};
+    ghost use Rattle.xm_book.specs.Indexed.{AreOrdersIndexed};
     ghost use Rattle.xm_book.specs.TimeList.{TimeList};
+    ghost use Rattle.xm_slots.specs.Listing.{listed_item};
 
     ghost Value = { TimeList };
 
-    ghost view = { λ b. record { orders = map listed_order b.queues.orders; reserved = b.queues.reserved; adds = b.queues.adds } };
+    ghost view = { λ b. record { orders = map listed_item b.queues.orders; reserved = b.queues.reserved; adds = b.queues.adds } };
 
-    ghost invariant = { λ b. IsIndexed b.queues b.names };
+    ghost invariant = { λ b. AreOrdersIndexed b.queues b.names };
 }
 
 /// The order of an entry.
@@ -103,19 +105,21 @@ impl<A: Allocator + Copy> Book<A> {
     }
 
     /// Reserves what an order of this place takes, so that its `add` can't fail. Before it, orders and reserved places
-    /// together are below 2,000,000. Where a growth is refused, the answer is `OutOfMemory` and nothing changes.
+    /// together are below `MAX_PLACES`. Where a growth is refused, the answer is `OutOfMemory` and nothing changes.
     #[inline(always)]
     pub fn reserve_for(&mut self, place: &Place) -> Result<(), OutOfMemory>
-        requires { length self.old.orders + length self.old.reserved < 2000000 }
+        requires { length self.old.orders + length self.old.reserved < MAX_PLACES }
         ensures ok { OnOk result (Reserves place.now self.old self.new) }
         ensures err { OnErr result (self.new ≡ self.old) }
     {
         self.names.reserve(place.member)?;
-        if self.queues.reserve(place).is_err() {
-            self.names.release(place.member);
-            return Err(OutOfMemory);
+        match self.queues.reserve(place) {
+            Ok(()) => Ok(()),
+            Err(refused) => {
+                self.names.release(place.member);
+                Err(refused)
+            }
         }
-        Ok(())
     }
 
     /// Gives up a reserved place.

@@ -1,9 +1,10 @@
 //! The end of a day.
+ghost use Rattle.xm_book.specs.Listing.{order_owner, order_reference};
+ghost use Rattle.xm_slots.specs.Naming.{key_by_name};
 ghost use Rattle.std.specs.Prelude.{◌≡◌, ◌+◌, ℕ, Bool, Contains, true, filter};
 ghost use Rattle.std.specs.List.{list_all};
 ghost use Rattle.xm_book.specs.Expiry.{outlives};
-ghost use Rattle.xm_book.specs.Indexed.{IsIndexed};
-ghost use Rattle.xm_book.specs.Listing.{key_of};
+ghost use Rattle.xm_book.specs.Indexed.{AreOrdersIndexed};
 ghost use Rattle.xm_slots.specs.Listing.{is_done};
 ghost use Rattle.xm_slots.specs.declared.listing.Listed.{Listed};
 ghost use Rattle.xm_names.specs.Names.{lookup, room};
@@ -20,8 +21,8 @@ pub fn drop_expired<A: Allocator + Copy>(
     names: &mut Names<A>,
     today: u32,
 )
-    requires { IsIndexed queues.old names.old }
-    ensures indexed { IsIndexed queues.new names.new }
+    requires { AreOrdersIndexed queues.old names.old }
+    ensures indexed { AreOrdersIndexed queues.new names.new }
     ensures left { queues.new ≡ record queues.old { orders = filter (outlives today) queues.old.orders } }
 {
     drop_names(queues, names, today);
@@ -30,8 +31,8 @@ pub fn drop_expired<A: Allocator + Copy>(
 
 /// Keeps the names of the orders that are valid beyond a day.
 fn drop_names<A: Allocator + Copy>(queues: &OrderQueues<A>, names: &mut Names<A>, today: u32)
-    requires { IsIndexed queues.now names.old }
-    ensures names { (m r : ℕ) → lookup names.new m r ≡ key_of m r (filter (outlives today) queues.now.orders) }
+    requires { AreOrdersIndexed queues.now names.old }
+    ensures names { (m r : ℕ) → lookup names.new m r ≡ key_by_name order_owner order_reference m r (filter (outlives today) queues.now.orders) }
     ensures room { (m : ℕ) → room names.new m ≡ room names.old m }
 {
     names.retain(

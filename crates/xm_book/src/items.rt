@@ -1,5 +1,5 @@
 //! Orders, as what lies under keys.
-ghost use Rattle.xm_book.specs.Listing.{owner_of, reduced_to};
+ghost use Rattle.xm_book.specs.Listing.{order_owner, reduced_to};
 
 use xm_rules::Order;
 use xm_slots::{Owners, Rests};
@@ -8,7 +8,7 @@ use xm_slots::{Owners, Rests};
 pub struct OrderItems;
 
 impl Owners<Order> for OrderItems {
-    ghost owner_of = { owner_of };
+    ghost owner_of = { order_owner };
 
     fn owner(item: &Order) -> u32 {
         item.member

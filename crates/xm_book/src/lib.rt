@@ -10,5 +10,5 @@ mod places;
 mod trades;
 
 pub use crate::book::Book;
-pub use crate::places::Place;
+pub use crate::places::{MAX_PLACES, Place};
 pub use crate::trades::Trades;

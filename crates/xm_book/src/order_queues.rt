@@ -1,19 +1,18 @@
 //! The orders of a book in their queues.
-ghost use Rattle.std.specs.Prelude.{ℕ, List, ◌≡◌, ◌+◌, ◌++◌, ◌∷◌, [], ◌<◌, ◌≤◌, ◌^◌, ◌&&◌, Contains, IfOk, IfSome, IsSome, IsTrue, OnErr, OnOk, Some, filter, length, map, option_copied, sum_by, true};
+ghost use Rattle.std.specs.Prelude.{◌≡◌, ◌+◌, ◌++◌, ◌∷◌, [], ◌<◌, ◌≤◌, ◌^◌, ◌&&◌, Contains, IfOk, IfSome, IsSome, IsTrue, OnErr, OnOk, Some, filter, length, map, option_copied, sum_by, true};
 ghost use Rattle.std.specs.List.{list_all, list_any};
 ghost use Rattle.std.specs.Option.{option_map};
-ghost use Rattle.xm_slots.specs.Listing.{is_below};
+ghost use Rattle.xm_slots.specs.Listing.{is_below, listed_item};
+ghost use Rattle.xm_book.specs.declared.places.TheConstants.{MAX_PLACES};
 ghost use Rattle.xm_book.specs.Fronts.{IsBestOf, IsFirstOf, IsKindOfFirst, better_of_two, earlier_of_two, goes_ahead, has_kind, has_kind_later, has_worse, is_any, is_earlier, is_in, is_on};
 ghost use Rattle.xm_slots.specs.Listing.{is_other_key, keys_in, listed_entry, rises};
-ghost use Rattle.xm_book.specs.Listing.{listed_order, owner_of, reduced_at};
+ghost use Rattle.xm_book.specs.Listing.{order_owner, reduced_at};
 ghost use Rattle.xm_book.specs.Places.{place_of, same_place};
 ghost use Rattle.xm_book.specs.Queues.{units_at};
 ghost use Rattle.xm_book.specs.Reserved.{Gains};
 ghost use Rattle.xm_slots.specs.Slots.{is_of};
 ghost use Rattle.xm_slots.specs.declared.listing.Listed.{Listed};
 ghost use Rattle.xm_queues.specs.Keys.{AreDistinct};
-ghost use Rattle.xm_queues.specs.Queue.{IsQueue, key_limit};
-ghost use Rattle.xm_queues.specs.declared.queues.Ends.{Ends};
 ghost use Rattle.xm_rules.specs.Active.{active, is_active};
 ghost use Rattle.xm_rules.specs.Commands.{is_in_range};
 ghost use Rattle.xm_rules.specs.declared.orders.OrderKind.TheVariants.{Limit};
@@ -21,12 +20,13 @@ ghost use Rattle.xm_rules.specs.declared.orders.OrderKind.TheVariants.{Limit};
 use crate::items::OrderItems;
 use crate::levels::{level_for, put_level, reserve_level, set_level};
 use crate::places::{Place, Places};
-use std::alloc::{AllocError, Allocator};
+use std::alloc::Allocator;
 use std::marker::Model;
 use xm_ladders::Ladders;
+use xm_memory::OutOfMemory;
 use xm_queues::Queues;
-use xm_rules::{Order, OrderKind, OutOfMemory, Phase, Restriction, Side};
-use xm_slots::{Entry, Listed, Listing, Slots};
+use xm_rules::{Order, OrderKind, Phase, Restriction, Side};
+use xm_slots::{Entry, Listed, Listing, Slots, hold};
 use xm_ticks::Price;
 
 /// The orders of a book under their keys, each in the queue of its side, restriction and limit.
@@ -44,13 +44,13 @@ pub struct OrderQueues<A: Allocator + Copy> {
 }
 
 impl<A: Allocator + Copy> Model for OrderQueues<A> {
-    ghost use Rattle.xm_book.specs.Queued.{IsKept, QueuedView};
+    ghost use Rattle.xm_book.specs.Queued.{AreOrdersKept, QueuedOrders};
 
-    ghost Value = { QueuedView };
+    ghost Value = { QueuedOrders };
 
     ghost view = { λ q. record { orders = q.listing; reserved = q.places; adds = q.adds } };
 
-    ghost invariant = { λ q. IsKept q.listing q.places q.adds q.entries q.links q.ladders };
+    ghost invariant = { λ q. AreOrdersKept q.listing q.places q.adds q.entries q.links q.ladders };
 }
 
 impl<A: Allocator + Copy> OrderQueues<A> {
@@ -94,8 +94,8 @@ impl<A: Allocator + Copy> OrderQueues<A> {
 
     /// Reserves a place.
     #[inline(always)]
-    pub fn reserve(&mut self, place: &Place) -> Result<(), AllocError>
-        requires { length self.old.orders + length self.old.reserved < 2000000 }
+    pub fn reserve(&mut self, place: &Place) -> Result<(), OutOfMemory>
+        requires { length self.old.orders + length self.old.reserved < MAX_PLACES }
         ensures place { OnOk result (Gains place.now self.old.reserved self.new.reserved) }
         ensures rest { self.new ≡ record self.old { reserved = self.new.reserved } }
         ensures err { OnErr result (self.new ≡ self.old) }
@@ -180,53 +180,11 @@ impl<A: Allocator + Copy> OrderQueues<A> {
     }
 }
 
-/// Makes room for so many orders among entries and links, where it isn't there.
-#[inline(always)]
-fn hold<A: Allocator + Copy>(
-    links: &mut Queues<A>,
-    entries: &mut Slots<Order, A>,
-    orders: usize,
-) -> Result<(), AllocError>
-    requires few { orders ≤ 2000000 }
-    requires fits { entries.old.capacity ≤ key_limit links.old }
-    ensures queues { (ends : Ends) (keys : List ℕ) → IsQueue links.old ends keys → IsQueue links.new ends keys }
-    ensures entries { entries.new ≡ record entries.old { capacity = entries.new.capacity } }
-    ensures grows { entries.old.capacity ≤ entries.new.capacity }
-    ensures fits { entries.new.capacity ≤ key_limit links.new }
-    ensures holds { OnOk result (orders ≤ entries.new.capacity) }
-{
-    if orders <= entries.capacity() {
-        return Ok(());
-    }
-    grow(links, entries, orders)
-}
-
-/// The same where it isn't there: room for at least twice as many as before.
-#[inline(never)]
-fn grow<A: Allocator + Copy>(
-    links: &mut Queues<A>,
-    entries: &mut Slots<Order, A>,
-    orders: usize,
-) -> Result<(), AllocError>
-    requires few { orders ≤ 2000000 }
-    requires more { entries.old.capacity < orders }
-    requires fits { entries.old.capacity ≤ key_limit links.old }
-    ensures queues { (ends : Ends) (keys : List ℕ) → IsQueue links.old ends keys → IsQueue links.new ends keys }
-    ensures entries { entries.new ≡ record entries.old { capacity = entries.new.capacity } }
-    ensures grows { entries.old.capacity ≤ entries.new.capacity }
-    ensures fits { entries.new.capacity ≤ key_limit links.new }
-    ensures holds { OnOk result (orders ≤ entries.new.capacity) }
-{
-    let capacity = orders.max(2 * entries.capacity()).max(4);
-    links.reserve_key(capacity - 1)?;
-    entries.grow_to(capacity)
-}
-
 impl<A: Allocator + Copy> OrderQueues<A> {
     /// The orders in time order, each with the number of its add: those of a member, or all where no member is named, or
     /// `OutOfMemory` where the answer can't be held.
     pub fn in_time(&self, member: Option<u32>) -> Result<Vec<Entry<Order>, A>, OutOfMemory>
-        ensures { IfOk result (λ entries. entries.items ≡ filter (is_of owner_of member) (map listed_entry self.now.orders)) }
+        ensures { IfOk result (λ entries. entries.items ≡ filter (is_of order_owner member) (map listed_entry self.now.orders)) }
     {
         let mut entries = self.entries.entries_of::<OrderItems>(member)?;
         entries.sort_unstable_by_key(|entry| entry.time);
@@ -286,7 +244,7 @@ fn limited(limit: Option<Price>) -> Option<OrderKind>
 impl<A: Allocator + Copy> OrderQueues<A> {
     /// The units that rest in the active orders of a side and kind.
     pub fn units_at(&self, side: Side, phase: Phase, kind: &OrderKind) -> u64
-        ensures { result ≡ units_at kind.now (active phase side (map listed_order self.now.orders)) }
+        ensures { result ≡ units_at kind.now (active phase side (map listed_item self.now.orders)) }
     {
         if phase.is_continuous() {
             return self.units_in(side, phase, Restriction::Free, kind);
@@ -296,7 +254,7 @@ impl<A: Allocator + Copy> OrderQueues<A> {
 
     /// The same, put together from the answers of all restrictions.
     fn units_of_all(&self, side: Side, phase: Phase, kind: &OrderKind) -> u64
-        ensures { result ≡ units_at kind.now (active phase side (map listed_order self.now.orders)) }
+        ensures { result ≡ units_at kind.now (active phase side (map listed_item self.now.orders)) }
     {
         let free = self.units_in(side, phase, Restriction::Free, kind);
         let opening = self.units_in(side, phase, Restriction::OpeningOnly, kind);

@@ -9,6 +9,9 @@ use std::mem;
 use std::snapshot::Snapshot;
 use xm_rules::{Order, OrderKind, Restriction, Side};
 
+/// The most orders and reserved places that a book has together.
+pub const MAX_PLACES: usize = 2_000_000;
+
 /// What is reserved for an order that is to come: room for it among the levels of its side and restriction, and in the
 /// index of names.
 #[derive(Clone, Copy, PartialEq, Eq, Hash, Debug)]
@@ -38,17 +41,17 @@ impl Place {
 
 /// What was done last to the reserved places, and what before. A snapshot has no bytes.
 #[derive(Drop)]
-enum Change {
+enum PlaceChange {
     Nothing,
-    Reserved(Snapshot<Place>, Snapshot<Change>),
-    Released(Snapshot<Place>, Snapshot<Change>),
+    Reserved(Snapshot<Place>, Snapshot<PlaceChange>),
+    Released(Snapshot<Place>, Snapshot<PlaceChange>),
 }
 
 /// Places, each as often as it is reserved. How many there are is kept; which they are, a clause alone sees, and so it
 /// costs neither memory nor a search.
 #[derive(Drop)]
 pub struct Places {
-    last: Change,
+    last: PlaceChange,
     total: usize,
 }
 
@@ -71,7 +74,7 @@ impl Places {
         ensures { result ≡ [] }
     {
         Places {
-            last: Change::Nothing,
+            last: PlaceChange::Nothing,
             total: 0,
         }
     }
@@ -88,8 +91,8 @@ impl Places {
         requires { length self.old < 2 ^ 63 }
         ensures { Gains place.now self.old self.new }
     {
-        let before = mem::replace(&mut self.last, Change::Nothing);
-        self.last = Change::Reserved(Snapshot::of(place), Snapshot::of(&before));
+        let before = mem::replace(&mut self.last, PlaceChange::Nothing);
+        self.last = PlaceChange::Reserved(Snapshot::of(place), Snapshot::of(&before));
         self.total += 1;
     }
 
@@ -98,8 +101,8 @@ impl Places {
         requires { IsTrue (list_any (same_place place.now) self.old) }
         ensures { Gains place.now self.new self.old }
     {
-        let before = mem::replace(&mut self.last, Change::Nothing);
-        self.last = Change::Released(Snapshot::of(place), Snapshot::of(&before));
+        let before = mem::replace(&mut self.last, PlaceChange::Nothing);
+        self.last = PlaceChange::Released(Snapshot::of(place), Snapshot::of(&before));
         self.total -= 1;
     }
 }

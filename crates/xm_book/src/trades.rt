@@ -4,7 +4,8 @@ ghost use Rattle.xm_ticks.specs.declared.numbers.TheConstants.{MAX_PRICE};
 
 use std::alloc::Allocator;
 use std::marker::Model;
-use xm_rules::{OutOfMemory, Trade};
+use xm_memory::OutOfMemory;
+use xm_rules::Trade;
 
 /// A list of trades. A clause sees the trades in their order, and for how many more there is room.
 #[derive(Drop)]

@@ -1,4 +1,5 @@
 -- The reached stops are taken one after another, and then stand behind the pending ones in order of entry.
+use Rattle.xm_slots.proofs.Naming.{items-kept, keeps}
 use Rattle.xm_slots.proofs.Leaving.{distinct-kept, others-pass}
 use Rattle.std.proofs.Common.{◌≡◌, ℕ, suc, ◌+◌, ◌-◌, ◌<◌, ◌≤◌, Bool, true, false, not, ◌==◌, if◌then◌else◌, List, [], ◌∷◌, ◌++◌, length, map, filter, take, drop, Contains, refl, sym, ap, ◌∙◌, subst, ◌⊎◌, inl, inr, arith}
 use Rattle.std.specs.List.Sorted.{IsPermutation}
@@ -11,10 +12,9 @@ use Rattle.xm_queues.specs.Keys.{AreDistinct}
 use Rattle.xm_rules.specs.declared.orders.Stop.{Stop}
 use Rattle.xm_stops.specs.Drained.{IsDrained}
 use Rattle.xm_stops.specs.HeldStops.{PendingStops}
-use Rattle.xm_slots.specs.Listing.{is_other_key, keys_in, listed_entry, rises, stays, time_of}
-use Rattle.xm_stops.specs.Listing.{listed_stop}
+use Rattle.xm_slots.specs.Listing.{is_other_key, keys_in, listed_entry, listed_item, rises, stays, time_of}
 use Rattle.xm_stops.specs.Pending.{EntriesView, IsSortedBehind, entries_that, stop_of_entry}
-use Rattle.xm_stops.specs.Queued.{IsPassedAt, QueuedView}
+use Rattle.xm_stops.specs.Queued.{IsPassedAt, QueuedStops}
 use Rattle.xm_slots.specs.declared.entry.Entry.{Entry}
 use Rattle.xm_slots.specs.declared.listing.Listed.{Listed}
 use Rattle.xm_slots.proofs.Rising.{IsRising, sorted-same}
@@ -22,11 +22,10 @@ use Rattle.xm_slots.proofs.InTime.{times-rise}
 use Rattle.xm_slots.proofs.Keeping.{rises-kept}
 use Rattle.xm_slots.proofs.Leaving.{filters, one-less, key-once}
 use Rattle.xm_slots.proofs.Tests.{length-kept}
-use Rattle.xm_stops.proofs.Named.{keeps, stops-kept}
 use Rattle.xm_slots.proofs.Members.{Contains-filter, Contains-map, Contains-none, IsMade, IsMade-map, Passes-filter}
 
 -- at first none is taken
-pub none-drained : (leaves : Listed Stop → Bool) (q : QueuedView) (pending : EntriesView) → IsDrained leaves q q pending pending
+pub none-drained : (leaves : Listed Stop → Bool) (q : QueuedStops) (pending : EntriesView) → IsDrained leaves q q pending pending
 none-drained leaves q pending = record {
   rest = refl;
   held = refl;
@@ -42,7 +41,7 @@ pub key-passed : (test : Listed Stop → Bool) (xs : List (Listed Stop)) (key : 
 key-passed test xs key at = subst (λ (n : ℕ). Contains (keys_in xs) n) at.key_is (Contains-map (λ (x : Listed Stop). x.key) xs at.listed at.contains)
 
 -- one more is taken
-module _ (leaves : Listed Stop → Bool) (old q q' : QueuedView) (pending p p' : EntriesView) (x : Listed Stop) (at : Contains q.stops x) (reached : leaves x ≡ true) (distinct : AreDistinct (keys_in q.stops))
+module _ (leaves : Listed Stop → Bool) (old q q' : QueuedStops) (pending p p' : EntriesView) (x : Listed Stop) (at : Contains q.stops x) (reached : leaves x ≡ true) (distinct : AreDistinct (keys_in q.stops))
     (left : q' ≡ record q { stops = filter (is_other_key x.key) q.stops }) (some : 0 < p.room) (push : p' ≡ record { entries = p.entries ++ listed_entry x ∷ []; room = p.room - 1 }) (h : IsDrained leaves old q pending p) where
   abbrev stops : List (Listed Stop)
   stops = filter (is_other_key x.key) q.stops
@@ -51,7 +50,7 @@ module _ (leaves : Listed Stop → Bool) (old q q' : QueuedView) (pending p p' :
   hits = filter leaves q.stops
 
   stops-are : q'.stops ≡ stops
-  stops-are = ap (λ (v : QueuedView). v.stops) left
+  stops-are = ap (λ (v : QueuedStops). v.stops) left
 
   same-held : filter (stays leaves) stops ≡ filter (stays leaves) q.stops
   same-held = others-pass (stays leaves) q.stops x distinct at (ap not reached)
@@ -104,15 +103,15 @@ module _ (leaves : Listed Stop → Bool) (old q q' : QueuedView) (pending p p' :
   }
 
 -- there is room for a reached stop
-module _ (leaves : Listed Stop → Bool) (old q : QueuedView) (pending p : EntriesView) (h : IsDrained leaves old q pending p) (key : ℕ) (at : IsPassedAt leaves q.stops key) where
+module _ (leaves : Listed Stop → Bool) (old q : QueuedStops) (pending p : EntriesView) (h : IsDrained leaves old q pending p) (key : ℕ) (at : IsPassedAt leaves q.stops key) where
   pub some-room : length old.stops ≤ pending.room → 0 < p.room
   some-room enough =
       let hits = Contains-filter leaves q.stops at.listed at.passes at.contains in
       omega (arith, enough, h.room, h.counted, hits.1, length-kept leaves old.stops)
 
-pub one-fewer : (leaves : Listed Stop → Bool) (q q' : QueuedView) (key : ℕ) → IsPassedAt leaves q.stops key → AreDistinct (keys_in q.stops) → q' ≡ record q { stops = filter (is_other_key key) q.stops } → suc (length q'.stops) ≤ length q.stops
+pub one-fewer : (leaves : Listed Stop → Bool) (q q' : QueuedStops) (key : ℕ) → IsPassedAt leaves q.stops key → AreDistinct (keys_in q.stops) → q' ≡ record q { stops = filter (is_other_key key) q.stops } → suc (length q'.stops) ≤ length q.stops
 one-fewer leaves q q' key at distinct left =
-    omega (arith, ap (λ (v : QueuedView). length v.stops) left, ap (λ (n : ℕ). length (filter (is_other_key n) q.stops)) at.key_is, one-less at.listed q.stops distinct at.contains)
+    omega (arith, ap (λ (v : QueuedStops). length v.stops) left, ap (λ (n : ℕ). length (filter (is_other_key n) q.stops)) at.key_is, one-less at.listed q.stops distinct at.contains)
 
 all-left : (p : Listed Stop → Bool) (xs : List (Listed Stop)) → filter p xs ≡ [] → filter (λ (x : Listed Stop). not (p x)) xs ≡ xs
 all-left p [] h = refl
@@ -124,7 +123,7 @@ all-left p (x ∷ xs) h = left_if (p x) h (all-left p xs)
     left_if false e rest = ap (λ (ys : List (Listed Stop)). x ∷ ys) (rest e)
 
 -- where none leaves, all are held, and those that are pending stay as they are
-module _ (leaves : Listed Stop → Bool) (q : QueuedView) (none : filter leaves q.stops ≡ []) where
+module _ (leaves : Listed Stop → Bool) (q : QueuedStops) (none : filter leaves q.stops ≡ []) where
   pub held-all : q ≡ record q { stops = filter (stays leaves) q.stops }
   held-all = (λ i. record q { stops = sym (all-left leaves q.stops none) i })
 
@@ -134,7 +133,7 @@ module _ (leaves : Listed Stop → Bool) (q : QueuedView) (none : filter leaves 
       (sym (append-nil p.entries) ∙ ap (λ (es : List (Entry Stop)). p.entries ++ es) (sym empty), omega (arith, ap length empty))
 
 -- none is left that is reached
-module _ (leaves : Listed Stop → Bool) (old q : QueuedView) (pending p : EntriesView) (h : IsDrained leaves old q pending p) (all : filter leaves q.stops ≡ []) where
+module _ (leaves : Listed Stop → Bool) (old q : QueuedStops) (pending p : EntriesView) (h : IsDrained leaves old q pending p) (all : filter leaves q.stops ≡ []) where
   pub held-left : q ≡ record old { stops = filter (stays leaves) old.stops }
   held-left = h.rest ∙ (λ i. record old { stops = (sym (all-left leaves q.stops all) ∙ h.held) i })
 
@@ -164,10 +163,10 @@ module _ (leaves : Listed Stop → Bool) (old q : QueuedView) (pending p : Entri
         take-kept : take (length pending.entries) p.entries ≡ pending.entries
         take-kept = ap (take (length pending.entries)) h.behind ∙ take-append_seam pending.entries h.taken
 
-stops-that : (test : Stop → Bool) (xs : List (Listed Stop)) → map stop_of_entry (entries_that (keeps test) xs) ≡ filter test (map listed_stop xs)
-stops-that test xs = same (filter (keeps test) xs) ∙ stops-kept test xs
+stops-that : (test : Stop → Bool) (xs : List (Listed Stop)) → map stop_of_entry (entries_that (keeps test) xs) ≡ filter test (map listed_item xs)
+stops-that test xs = same (filter (keeps test) xs) ∙ items-kept test xs
   where
-    same : (ys : List (Listed Stop)) → map stop_of_entry (map listed_entry ys) ≡ map listed_stop ys
+    same : (ys : List (Listed Stop)) → map stop_of_entry (map listed_entry ys) ≡ map listed_item ys
     same [] = refl
     same (y ∷ ys) = ap (λ (ss : List Stop). y.item ∷ ss) (same ys)
 
@@ -175,18 +174,18 @@ stops-that test xs = same (filter (keeps test) xs) ∙ stops-kept test xs
 abbrev pub seen_of : EntriesView → PendingStops
 seen_of p = record { stops = map stop_of_entry p.entries; room = p.room }
 
-pub seen-pending : (test : Stop → Bool) (q : QueuedView) (p p' : EntriesView) → p'.entries ≡ p.entries ++ entries_that (keeps test) q.stops → p'.room ≡ p.room - length (entries_that (keeps test) q.stops)
-    → seen_of p' ≡ record { stops = map stop_of_entry p.entries ++ filter test (map listed_stop q.stops); room = p.room - length (filter test (map listed_stop q.stops)) }
+pub seen-pending : (test : Stop → Bool) (q : QueuedStops) (p p' : EntriesView) → p'.entries ≡ p.entries ++ entries_that (keeps test) q.stops → p'.room ≡ p.room - length (entries_that (keeps test) q.stops)
+    → seen_of p' ≡ record { stops = map stop_of_entry p.entries ++ filter test (map listed_item q.stops); room = p.room - length (filter test (map listed_item q.stops)) }
 seen-pending test q p p' entries room = (λ i. record { stops = stops i; room = rooms i })
   where
-    stops : map stop_of_entry p'.entries ≡ map stop_of_entry p.entries ++ filter test (map listed_stop q.stops)
+    stops : map stop_of_entry p'.entries ≡ map stop_of_entry p.entries ++ filter test (map listed_item q.stops)
     stops = ap (map stop_of_entry) entries ∙ map-append stop_of_entry p.entries (entries_that (keeps test) q.stops) ∙ ap (λ (ss : List Stop). map stop_of_entry p.entries ++ ss) (stops-that test q.stops)
 
-    rooms : p'.room ≡ p.room - length (filter test (map listed_stop q.stops))
+    rooms : p'.room ≡ p.room - length (filter test (map listed_item q.stops))
     rooms = room ∙ ap (λ (n : ℕ). p.room - n) (sym (length-map (entries_that (keeps test) q.stops) stop_of_entry) ∙ ap length (stops-that test q.stops))
 
 -- the stop of a key leaves, and its entry becomes pending
-pub drained-more : (leaves : Listed Stop → Bool) (old q q' : QueuedView) (pending p p' : EntriesView) (key : ℕ) (at : IsPassedAt leaves q.stops key) → AreDistinct (keys_in q.stops)
+pub drained-more : (leaves : Listed Stop → Bool) (old q q' : QueuedStops) (pending p p' : EntriesView) (key : ℕ) (at : IsPassedAt leaves q.stops key) → AreDistinct (keys_in q.stops)
     → q' ≡ record q { stops = filter (is_other_key key) q.stops } → 0 < p.room
     → ((x : Listed Stop) → Contains q.stops x → x.key ≡ key → p' ≡ record { entries = p.entries ++ listed_entry x ∷ []; room = p.room - 1 }) → IsDrained leaves old q pending p → IsDrained leaves old q' pending p'
 drained-more leaves old q q' pending p p' key at distinct left some push h =

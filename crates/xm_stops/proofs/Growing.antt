@@ -7,7 +7,7 @@ use Rattle.xm_queues.specs.declared.queues.Ends.{Ends}
 use Rattle.xm_rules.specs.declared.orders.Side.{Side}
 use Rattle.xm_rules.specs.declared.orders.Stop.{Stop}
 use Rattle.xm_slots.specs.Listing.{keys_in, LiesAt}
-use Rattle.xm_stops.specs.Queued.{HasItsTrigger, HasRoomFor, HoldsQueue, IsKept, IsQueued, IsReady, members}
+use Rattle.xm_stops.specs.Queued.{HasItsTrigger, HasRoomFor, HoldsQueue, AreStopsKept, AreStopsQueued, IsStopReady, stops_of_trigger}
 use Rattle.xm_slots.specs.Slots.{SlotsView, used}
 use Rattle.xm_stops.specs.Triggers.{HasQueueRoom, HasTrigger, queue_of}
 use Rattle.xm_slots.specs.declared.listing.Listed.{Listed}
@@ -15,7 +15,7 @@ use Rattle.xm_stops.specs.declared.trigger_queues.TriggerQueues.{TriggerQueues}
 use Rattle.xm_stops.proofs.Joining.{placed-kept}
 
 pub opened : {A : Type 0} (links : List Link) (triggers : TriggerQueues A) → ((s : Side) (p : ℕ) → queue_of triggers s p ≡ None)
-    → IsKept [] None 0 (record { slots = []; capacity = 0 }) links triggers
+    → AreStopsKept [] None 0 (record { slots = []; capacity = 0 }) links triggers
 opened links triggers none = record {
   queued = record {
     lie = All-nil (LiesAt (record { slots = []; capacity = 0 }));
@@ -32,7 +32,7 @@ opened links triggers none = record {
 -- the room for a stop stays where no room was used
 pub ready-kept : {A : Type 0} (ready : Option Stop) (adds : ℕ) (entries entries' : SlotsView Stop) (triggers triggers' : TriggerQueues A) → used entries' ≤ used entries → entries.capacity ≤ entries'.capacity
     → ((s : Side) (p : ℕ) → HasTrigger triggers s p → HasTrigger triggers' s p) → ((s : Side) → HasQueueRoom triggers s → HasQueueRoom triggers' s)
-    → IsReady ready adds entries triggers → IsReady ready adds entries' triggers'
+    → IsStopReady ready adds entries triggers → IsStopReady ready adds entries' triggers'
 ready-kept None adds entries entries' triggers triggers' less more kept rooms h = tt
 ready-kept (Some stop) adds entries entries' triggers triggers' less more kept rooms h = record {
   entry = omega (arith, h.entry, less, more);
@@ -51,16 +51,16 @@ module _ {A : Type 0} (xs : List (Listed Stop)) (entries : SlotsView Stop) (link
   holds None ys h = h
   holds (Some l) ys h = record { queue = same l (keys_in ys) h.queue; some = h.some }
 
-  pub grown-queued : IsQueued xs entries links triggers → IsQueued xs roomier links' triggers'
+  pub grown-queued : AreStopsQueued xs entries links triggers → AreStopsQueued xs roomier links' triggers'
   grown-queued h = record {
     lie = h.lie;
     distinct = h.distinct;
     count = h.count;
     placed = λ i d lt. placed-kept triggers triggers' kept (get_or xs i d).item (h.placed i d lt);
-    queues = λ s p. subst (λ (l : Option Ends). HoldsQueue links' l (members s p xs)) (sym (queues s p)) (holds (queue_of triggers s p) (members s p xs) (h.queues s p));
+    queues = λ s p. subst (λ (l : Option Ends). HoldsQueue links' l (stops_of_trigger s p xs)) (sym (queues s p)) (holds (queue_of triggers s p) (stops_of_trigger s p xs) (h.queues s p));
     fits = fits;
   }
 
 -- what there is for the stop that is ready
-pub room-for : {A : Type 0} (ready : Option Stop) (stop : Stop) (adds : ℕ) (entries : SlotsView Stop) (triggers : TriggerQueues A) → ready ≡ Some stop → IsReady ready adds entries triggers → HasRoomFor stop adds entries triggers
-room-for ready stop adds entries triggers e h = subst (λ (r : Option Stop). IsReady r adds entries triggers) e h
+pub room-for : {A : Type 0} (ready : Option Stop) (stop : Stop) (adds : ℕ) (entries : SlotsView Stop) (triggers : TriggerQueues A) → ready ≡ Some stop → IsStopReady ready adds entries triggers → HasRoomFor stop adds entries triggers
+room-for ready stop adds entries triggers e h = subst (λ (r : Option Stop). IsStopReady r adds entries triggers) e h

@@ -15,9 +15,9 @@ use Rattle.xm_rules.specs.declared.orders.Side.{Side}
 use Rattle.xm_rules.specs.declared.orders.Side.TheVariants.{Buy, Sell}
 use Rattle.xm_rules.specs.declared.orders.Stop.{Stop}
 use Rattle.xm_slots.specs.Listing.{keys_in, listed_entry, LiesAt}
-use Rattle.xm_stops.specs.Queued.{HasItsTrigger, HoldsQueue, IsQueueOf, IsQueued, is_member, members}
+use Rattle.xm_stops.specs.Queued.{HasItsTrigger, HoldsQueue, IsQueueOf, AreStopsQueued, is_of_trigger, stops_of_trigger}
 use Rattle.xm_slots.specs.Slots.{SlotsView, Updates, get, used}
-use Rattle.xm_stops.specs.Triggers.{HasTrigger, IsFound, is_same_place, queue_of}
+use Rattle.xm_stops.specs.Triggers.{HasTrigger, IsQueueFound, is_same_place, queue_of}
 use Rattle.xm_slots.specs.declared.entry.Entry.{Entry}
 use Rattle.xm_slots.specs.declared.listing.Listed.{Listed}
 use Rattle.xm_stops.specs.declared.trigger_queues.TriggerQueues.{TriggerQueues}
@@ -53,7 +53,7 @@ at-itself s p o h =
     ∙ and_from (same_side o.side o.side) (o.trigger == o.trigger) (side-itself o.side) (price-itself o.trigger)
 
 -- the keys of a queue that was looked for
-pub found-queue : (links : List Link) (there : Option Ends) (ends : Ends) (ms : List (Listed Stop)) → IsFound there ends → HoldsQueue links there ms → IsQueue links ends (keys_in ms)
+pub found-queue : (links : List Link) (there : Option Ends) (ends : Ends) (ms : List (Listed Stop)) → IsQueueFound there ends → HoldsQueue links there ms → IsQueue links ends (keys_in ms)
 found-queue links None ends ms f e = subst (λ (ys : List (Listed Stop)). IsQueue links ends (keys_in ys)) (sym e) (f links)
 found-queue links (Some x) ends ms f e = subst (λ (l : Ends). IsQueue links l (keys_in ms)) (sym f) e.queue
 
@@ -61,7 +61,7 @@ pub placed-kept : {A : Type 0} (triggers triggers' : TriggerQueues A) → ((s : 
     → (o : Stop) → HasItsTrigger triggers o → HasItsTrigger triggers' o
 placed-kept triggers triggers' kept o h = record { in_range = h.in_range; room = kept o.side o.trigger h.room }
 
-module _ {A : Type 0} (xs : List (Listed Stop)) (entries : SlotsView Stop) (links : List Link) (triggers : TriggerQueues A) (h : IsQueued xs entries links triggers) where
+module _ {A : Type 0} (xs : List (Listed Stop)) (entries : SlotsView Stop) (links : List Link) (triggers : TriggerQueues A) (h : AreStopsQueued xs entries links triggers) where
   -- each key of a queue has a stop
   pub has-stop : (p : Listed Stop → Bool) (key : ℕ) → Contains (keys_in (filter p xs)) key → (x : Listed Stop) × (Contains xs x) × (p x ≡ true) × (x.key ≡ key) × LiesAt entries x
   has-stop p key at =
@@ -72,17 +72,17 @@ module _ {A : Type 0} (xs : List (Listed Stop)) (entries : SlotsView Stop) (link
   pub vacant-key : (p : Listed Stop → Bool) (key : ℕ) → get entries key ≡ None → Contains (keys_in (filter p xs)) key → ⊥
   vacant-key p key vacant at = let x = has-stop p key at in some_none (sym x.4 ∙ ap (get entries) x.3 ∙ vacant)
 
-  module _ (o : Stop) (ends : Ends) (f : IsFound (queue_of triggers o.side o.trigger) ends) where
-    pub here : IsQueue links ends (keys_in (members o.side o.trigger xs))
-    here = found-queue links (queue_of triggers o.side o.trigger) ends (members o.side o.trigger xs) f (h.queues o.side o.trigger)
+  module _ (o : Stop) (ends : Ends) (f : IsQueueFound (queue_of triggers o.side o.trigger) ends) where
+    pub here : IsQueue links ends (keys_in (stops_of_trigger o.side o.trigger xs))
+    here = found-queue links (queue_of triggers o.side o.trigger) ends (stops_of_trigger o.side o.trigger xs) f (h.queues o.side o.trigger)
 
     pub lacks : (key : ℕ) → get entries key ≡ None → LacksKey links ends key
-    lacks key vacant = record { keys = keys_in (members o.side o.trigger xs); queue = here; absent = vacant-key (is_member o.side o.trigger) key vacant }
+    lacks key vacant = record { keys = keys_in (stops_of_trigger o.side o.trigger xs); queue = here; absent = vacant-key (is_of_trigger o.side o.trigger) key vacant }
 
-    pub apart : (s : Side) (p : ℕ) → is_same_place s p o.side o.trigger ≡ false → AreApart (keys_in (members o.side o.trigger xs)) (keys_in (members s p xs))
+    pub apart : (s : Side) (p : ℕ) → is_same_place s p o.side o.trigger ≡ false → AreApart (keys_in (stops_of_trigger o.side o.trigger xs)) (keys_in (stops_of_trigger s p xs))
     apart s p off n a b =
-        let y = has-stop (is_member o.side o.trigger) n a in
-        let z = has-stop (is_member s p) n b in
+        let y = has-stop (is_of_trigger o.side o.trigger) n a in
+        let z = has-stop (is_of_trigger s p) n b in
         let one : Some (listed_entry y.0) ≡ Some (listed_entry z.0) = sym y.4 ∙ ap (get entries) (y.3 ∙ sym z.3) ∙ z.4 in
         let same : y.0.item ≡ z.0.item = ap (λ (e : Entry Stop). e.item) (same_some one) in
         let i = is-at o.side o.trigger y.0.item y.2 in
@@ -103,7 +103,7 @@ module _ {A : Type 0} (xs : List (Listed Stop)) (entries : SlotsView Stop) (link
       x = record { key = key; time = time; item = o }
 
       abbrev ms : List (Listed Stop)
-      ms = members o.side o.trigger xs
+      ms = stops_of_trigger o.side o.trigger xs
 
       longer : IsQueueOf links' ends' (ms ++ x ∷ [])
       longer = record {
@@ -112,22 +112,22 @@ module _ {A : Type 0} (xs : List (Listed Stop)) (entries : SlotsView Stop) (link
       }
 
       module _ (s : Side) (p : ℕ) where
-        pushed : members s p (xs ++ x ∷ []) ≡ members s p xs ++ (if is_same_place s p o.side o.trigger then x ∷ [] else [])
-        pushed = filter-append (is_member s p) xs (x ∷ [])
+        pushed : stops_of_trigger s p (xs ++ x ∷ []) ≡ stops_of_trigger s p xs ++ (if is_same_place s p o.side o.trigger then x ∷ [] else [])
+        pushed = filter-append (is_of_trigger s p) xs (x ∷ [])
 
-        kept : is_same_place s p o.side o.trigger ≡ false → (l : Option Ends) → HoldsQueue links l (members s p xs) → HoldsQueue links' l (members s p xs)
+        kept : is_same_place s p o.side o.trigger ≡ false → (l : Option Ends) → HoldsQueue links l (stops_of_trigger s p xs) → HoldsQueue links' l (stops_of_trigger s p xs)
         kept off None e = e
-        kept off (Some l) e = record { queue = others l (keys_in ms) (keys_in (members s p xs)) here e.queue (apart s p off) (vacant-key (is_member s p) key vacant); some = e.some }
+        kept off (Some l) e = record { queue = others l (keys_in ms) (keys_in (stops_of_trigger s p xs)) here e.queue (apart s p off) (vacant-key (is_of_trigger s p) key vacant); some = e.some }
 
-        holds_if : (b : Bool) → is_same_place s p o.side o.trigger ≡ b → HoldsQueue links' (if b then Some ends' else queue_of triggers s p) (members s p xs ++ (if b then x ∷ [] else []))
+        holds_if : (b : Bool) → is_same_place s p o.side o.trigger ≡ b → HoldsQueue links' (if b then Some ends' else queue_of triggers s p) (stops_of_trigger s p xs ++ (if b then x ∷ [] else []))
         holds_if true t =
             let at = is-at s p o t in
-            subst (λ (ys : List (Listed Stop)). IsQueueOf links' ends' (ys ++ x ∷ [])) (λ i. members (sym at.side i) (sym at.trigger i) xs) longer
+            subst (λ (ys : List (Listed Stop)). IsQueueOf links' ends' (ys ++ x ∷ [])) (λ i. stops_of_trigger (sym at.side i) (sym at.trigger i) xs) longer
         holds_if false t =
-            subst (λ (ys : List (Listed Stop)). HoldsQueue links' (queue_of triggers s p) ys) (sym (append-nil (members s p xs))) (kept t (queue_of triggers s p) (h.queues s p))
+            subst (λ (ys : List (Listed Stop)). HoldsQueue links' (queue_of triggers s p) ys) (sym (append-nil (stops_of_trigger s p xs))) (kept t (queue_of triggers s p) (h.queues s p))
 
-        holds : HoldsQueue links' (queue_of triggers' s p) (members s p (xs ++ x ∷ []))
-        holds = subst (λ (l : Option Ends). HoldsQueue links' l (members s p (xs ++ x ∷ []))) (sym (puts s p))
+        holds : HoldsQueue links' (queue_of triggers' s p) (stops_of_trigger s p (xs ++ x ∷ []))
+        holds = subst (λ (l : Option Ends). HoldsQueue links' l (stops_of_trigger s p (xs ++ x ∷ []))) (sym (puts s p))
             (subst (λ (ys : List (Listed Stop)). HoldsQueue links' (if is_same_place s p o.side o.trigger then Some ends' else queue_of triggers s p) ys) (sym pushed) (holds_if (is_same_place s p o.side o.trigger) refl))
 
       lie-old : All (LiesAt entries') xs
@@ -136,7 +136,7 @@ module _ {A : Type 0} (xs : List (Listed Stop)) (entries : SlotsView Stop) (link
       abbrev Placed : Listed Stop → Type 0
       Placed y = HasItsTrigger triggers' y.item
 
-      pub joined : IsQueued (xs ++ x ∷ []) entries' links' triggers'
+      pub joined : AreStopsQueued (xs ++ x ∷ []) entries' links' triggers'
       joined = record {
         lie = All-append (LiesAt entries') xs (x ∷ []) lie-old (All-cons (LiesAt entries') x [] u.changed (All-nil (LiesAt entries')));
         distinct = subst AreDistinct (sym (map-append (λ (y : Listed Stop). y.key) xs (x ∷ []))) (distinct-push key (keys_in xs) h.distinct (λ c. (let made = IsMade-map (λ (y : Listed Stop). y.key) xs key c in some_none (sym (All-contains (LiesAt entries) xs made.from h.lie made.contains) ∙ ap (get entries) made.made ∙ vacant))));

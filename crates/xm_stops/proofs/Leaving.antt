@@ -12,9 +12,9 @@ use Rattle.xm_queues.specs.declared.queues.Ends.{Ends}
 use Rattle.xm_rules.specs.declared.orders.Side.{Side}
 use Rattle.xm_rules.specs.declared.orders.Stop.{Stop}
 use Rattle.xm_slots.specs.Listing.{is_other_key, keys_in, LiesAt}
-use Rattle.xm_stops.specs.Queued.{HasItsTrigger, HoldsQueue, IsQueued, is_member, members}
+use Rattle.xm_stops.specs.Queued.{HasItsTrigger, HoldsQueue, AreStopsQueued, is_of_trigger, stops_of_trigger}
 use Rattle.xm_slots.specs.Slots.{SlotsView, Updates, get, used}
-use Rattle.xm_stops.specs.Triggers.{HasTrigger, IsFound, IsSet, is_same_place, queue_of}
+use Rattle.xm_stops.specs.Triggers.{HasTrigger, IsQueueFound, IsQueueSet, is_same_place, queue_of}
 use Rattle.xm_slots.specs.declared.entry.Entry.{Entry}
 use Rattle.xm_slots.specs.declared.listing.Listed.{Listed}
 use Rattle.xm_stops.specs.declared.trigger_queues.TriggerQueues.{TriggerQueues}
@@ -22,7 +22,7 @@ use Rattle.xm_slots.proofs.Tests.{same_some}
 use Rattle.xm_stops.proofs.Joining.{apart, at-itself, here, is-at, placed-kept}
 use Rattle.xm_slots.proofs.Members.{Contains-filter, Contains-map, Contains-none, Passes-filter}
 
-module _ {A : Type 0} (xs : List (Listed Stop)) (entries : SlotsView Stop) (links : List Link) (triggers : TriggerQueues A) (h : IsQueued xs entries links triggers) where
+module _ {A : Type 0} (xs : List (Listed Stop)) (entries : SlotsView Stop) (links : List Link) (triggers : TriggerQueues A) (h : AreStopsQueued xs entries links triggers) where
   -- the stop whose entry lies under a key that is listed
   module _ (key : ℕ) (at : Contains (keys_in xs) key) (e : Entry Stop) (v : get entries key ≡ Some e) where
     abbrev pub taken : Listed Stop
@@ -33,7 +33,7 @@ module _ {A : Type 0} (xs : List (Listed Stop)) (entries : SlotsView Stop) (link
 
     -- the stops of its queue
     abbrev pub its : List (Listed Stop)
-    its = members o.side o.trigger xs
+    its = stops_of_trigger o.side o.trigger xs
 
     taken-stop : taken.item ≡ o
     taken-stop = let l = listed-at xs entries h.lie key at in ap (λ (y : Entry Stop). y.item) (same_some (sym l.3 ∙ ap (get entries) l.2 ∙ v))
@@ -42,7 +42,7 @@ module _ {A : Type 0} (xs : List (Listed Stop)) (entries : SlotsView Stop) (link
     placed-there = subst (λ (w : Stop). HasItsTrigger triggers w) taken-stop (All-contains (λ (x : Listed Stop). HasItsTrigger triggers x.item) xs taken h.placed (listed-at xs entries h.lie key at).1)
 
     in-its : Contains its taken
-    in-its = Contains-filter (is_member o.side o.trigger) xs taken
+    in-its = Contains-filter (is_of_trigger o.side o.trigger) xs taken
         (at-itself o.side o.trigger taken.item (record { side = ap (λ (w : Stop). w.side) (sym taken-stop); trigger = ap (λ (w : Stop). w.trigger) (sym taken-stop) })) (listed-at xs entries h.lie key at).1
 
     key-in-its : Contains (keys_in its) key
@@ -55,7 +55,7 @@ module _ {A : Type 0} (xs : List (Listed Stop)) (entries : SlotsView Stop) (link
         some_at None none = absurd (Contains-none taken (subst (λ (ys : List (Listed Stop)). Contains ys taken) none in-its))
         some_at (Some l) there = search rules
 
-    module _ (ends : Ends) (f : IsFound (queue_of triggers o.side o.trigger) ends) where
+    module _ (ends : Ends) (f : IsQueueFound (queue_of triggers o.side o.trigger) ends) where
       base : IsQueue links ends (keys_in its)
       base = here xs entries links triggers h o ends f
 
@@ -65,7 +65,7 @@ module _ {A : Type 0} (xs : List (Listed Stop)) (entries : SlotsView Stop) (link
       module _ (entries' : SlotsView Stop) (u : Updates entries entries' key None) (len : used entries' + 1 ≡ used entries) (cap : entries'.capacity ≡ entries.capacity)
           (links' : List Link) (ends' : Ends) (left : (keys : List ℕ) → IsQueue links ends keys → IsQueue links' ends' (without key keys))
           (others : (other : Ends) (keys keys' : List ℕ) → IsQueue links ends keys → IsQueue links other keys' → AreApart keys keys' → IsQueue links' other keys')
-          (limit : key_limit links' ≡ key_limit links) (triggers' : TriggerQueues A) (set : IsSet (queue_of triggers' o.side o.trigger) ends')
+          (limit : key_limit links' ≡ key_limit links) (triggers' : TriggerQueues A) (set : IsQueueSet (queue_of triggers' o.side o.trigger) ends')
           (same : (s : Side) (p : ℕ) → is_same_place s p o.side o.trigger ≡ false → queue_of triggers' s p ≡ queue_of triggers s p)
           (kept-triggers : (s : Side) (p : ℕ) → HasTrigger triggers s p → HasTrigger triggers' s p) where
         abbrev rest_of : List (Listed Stop)
@@ -78,7 +78,7 @@ module _ {A : Type 0} (xs : List (Listed Stop)) (entries : SlotsView Stop) (link
         none-left [] z = refl
         none-left (y ∷ ys) z = absurd (omega (arith, ap length z))
 
-        set-holds : (l : Option Ends) → IsSet l ends' → HoldsQueue links' l rest_of
+        set-holds : (l : Option Ends) → IsQueueSet l ends' → HoldsQueue links' l rest_of
         set-holds None none = none-left rest_of (none links' (keys_in rest_of) shorter)
         set-holds (Some l) s = record {
           queue = subst (λ (e : Ends). IsQueue links' e (keys_in rest_of)) (sym s.0) shorter;
@@ -86,22 +86,22 @@ module _ {A : Type 0} (xs : List (Listed Stop)) (entries : SlotsView Stop) (link
         }
 
         module _ (s : Side) (p : ℕ) where
-          kept : is_same_place s p o.side o.trigger ≡ false → (l : Option Ends) → HoldsQueue links l (members s p xs) → HoldsQueue links' l (members s p xs)
+          kept : is_same_place s p o.side o.trigger ≡ false → (l : Option Ends) → HoldsQueue links l (stops_of_trigger s p xs) → HoldsQueue links' l (stops_of_trigger s p xs)
           kept off None z = z
-          kept off (Some l) z = record { queue = others l (keys_in its) (keys_in (members s p xs)) base z.queue (apart xs entries links triggers h o ends f s p off); some = z.some }
+          kept off (Some l) z = record { queue = others l (keys_in its) (keys_in (stops_of_trigger s p xs)) base z.queue (apart xs entries links triggers h o ends f s p off); some = z.some }
 
-          holds_if : (b : Bool) → is_same_place s p o.side o.trigger ≡ b → HoldsQueue links' (queue_of triggers' s p) (filter (is_other_key key) (members s p xs))
+          holds_if : (b : Bool) → is_same_place s p o.side o.trigger ≡ b → HoldsQueue links' (queue_of triggers' s p) (filter (is_other_key key) (stops_of_trigger s p xs))
           holds_if true t =
               let w = is-at s p o t in
-              subst (λ (l : Option Ends). HoldsQueue links' l (filter (is_other_key key) (members s p xs))) (λ i. queue_of triggers' (sym w.side i) (sym w.trigger i))
-              (subst (λ (ys : List (Listed Stop)). HoldsQueue links' (queue_of triggers' o.side o.trigger) (filter (is_other_key key) ys)) (λ i. members (sym w.side i) (sym w.trigger i) xs) (set-holds (queue_of triggers' o.side o.trigger) set))
+              subst (λ (l : Option Ends). HoldsQueue links' l (filter (is_other_key key) (stops_of_trigger s p xs))) (λ i. queue_of triggers' (sym w.side i) (sym w.trigger i))
+              (subst (λ (ys : List (Listed Stop)). HoldsQueue links' (queue_of triggers' o.side o.trigger) (filter (is_other_key key) ys)) (λ i. stops_of_trigger (sym w.side i) (sym w.trigger i) xs) (set-holds (queue_of triggers' o.side o.trigger) set))
           holds_if false t =
-              subst (λ (l : Option Ends). HoldsQueue links' l (filter (is_other_key key) (members s p xs))) (sym (same s p t))
-              (subst (λ (ys : List (Listed Stop)). HoldsQueue links' (queue_of triggers s p) ys) (sym (all-stay key (members s p xs) (λ c. apart xs entries links triggers h o ends f s p t key key-in-its c)))
+              subst (λ (l : Option Ends). HoldsQueue links' l (filter (is_other_key key) (stops_of_trigger s p xs))) (sym (same s p t))
+              (subst (λ (ys : List (Listed Stop)). HoldsQueue links' (queue_of triggers s p) ys) (sym (all-stay key (stops_of_trigger s p xs) (λ c. apart xs entries links triggers h o ends f s p t key key-in-its c)))
               (kept t (queue_of triggers s p) (h.queues s p)))
 
-          holds : HoldsQueue links' (queue_of triggers' s p) (members s p (filter (is_other_key key) xs))
-          holds = subst (λ (ys : List (Listed Stop)). HoldsQueue links' (queue_of triggers' s p) ys) (filters (is_other_key key) (is_member s p) xs) (holds_if (is_same_place s p o.side o.trigger) refl)
+          holds : HoldsQueue links' (queue_of triggers' s p) (stops_of_trigger s p (filter (is_other_key key) xs))
+          holds = subst (λ (ys : List (Listed Stop)). HoldsQueue links' (queue_of triggers' s p) ys) (filters (is_other_key key) (is_of_trigger s p) xs) (holds_if (is_same_place s p o.side o.trigger) refl)
 
         other-key : (y : Listed Stop) → is_other_key key y ≡ true → y.key ≢ key
         other-key y t e = absurd (false≢true (sym (ap not (ap (λ (n : ℕ). nat_eq n key) e ∙ itself key)) ∙ t))
@@ -115,7 +115,7 @@ module _ {A : Type 0} (xs : List (Listed Stop)) (entries : SlotsView Stop) (link
         fewer : length (filter (is_other_key key) xs) + 1 ≡ length xs
         fewer = ap (λ (n : ℕ). length (filter (is_other_key n) xs) + 1) (sym (listed-at xs entries h.lie key at).2) ∙ one-less taken xs h.distinct (listed-at xs entries h.lie key at).1
 
-        pub left-queued : IsQueued (filter (is_other_key key) xs) entries' links' triggers'
+        pub left-queued : AreStopsQueued (filter (is_other_key key) xs) entries' links' triggers'
         left-queued = record {
           lie = kept-all (LiesAt entries') (λ y c t. u.others y.key (other-key y t) ∙ All-contains (LiesAt entries) xs y h.lie c);
           distinct = distinct-left key xs h.distinct;

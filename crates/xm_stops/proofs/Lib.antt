@@ -4,6 +4,5 @@ mod InTime
 mod Indexing
 mod Joining
 mod Leaving
-pub mod Named
 mod Reaching
 mod Tails

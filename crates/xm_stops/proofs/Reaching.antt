@@ -13,7 +13,7 @@ use Rattle.xm_rules.specs.Sides.{reaches, same_side}
 use Rattle.xm_rules.specs.declared.orders.Side.{Side}
 use Rattle.xm_rules.specs.declared.orders.Side.TheVariants.{Buy, Sell}
 use Rattle.xm_slots.specs.Listing.{keys_in}
-use Rattle.xm_stops.specs.Queued.{HasItsTrigger, HoldsQueue, IsQueued, IsReachedOn, has_reached, has_reached_on, is_member, members}
+use Rattle.xm_stops.specs.Queued.{HasItsTrigger, HoldsQueue, AreStopsQueued, IsReachedOn, has_reached, has_reached_on, is_of_trigger, stops_of_trigger}
 use Rattle.xm_slots.specs.Slots.{SlotsView}
 use Rattle.xm_stops.specs.Triggers.{IsNearest, queue_of, table_of}
 use Rattle.xm_slots.specs.declared.listing.Listed.{Listed}
@@ -37,12 +37,12 @@ first-of : (ms : List (Listed Stop)) → 0 < length ms → IsFirstOf ms
 first-of [] h = absurd (omega (arith, h))
 first-of (x ∷ ms) h = record { listed = x; contains = Contains-here x ms; first = refl }
 
-module _ {A : Type 0} (xs : List (Listed Stop)) (entries : SlotsView Stop) (links : List Link) (triggers : TriggerQueues A) (h : IsQueued xs entries links triggers) (side : Side) where
+module _ {A : Type 0} (xs : List (Listed Stop)) (entries : SlotsView Stop) (links : List Link) (triggers : TriggerQueues A) (h : AreStopsQueued xs entries links triggers) (side : Side) where
   unplaced : (x : Listed Stop) → Contains xs x → same_side side x.item.side ≡ true → queue_of triggers side x.item.trigger ≡ None → ⊥
   unplaced x at same none =
-      let held : members side x.item.trigger xs ≡ [] = subst (λ (l : Option Ends). HoldsQueue links l (members side x.item.trigger xs)) none (h.queues side x.item.trigger) in
+      let held : stops_of_trigger side x.item.trigger xs ≡ [] = subst (λ (l : Option Ends). HoldsQueue links l (stops_of_trigger side x.item.trigger xs)) none (h.queues side x.item.trigger) in
       let passes = at-itself side x.item.trigger x.item (record { side = side-is side x.item.side same; trigger = refl }) in
-      Contains-none x (subst (λ (ys : List (Listed Stop)). Contains ys x) held (Contains-filter (is_member side x.item.trigger) xs x passes at))
+      Contains-none x (subst (λ (ys : List (Listed Stop)). Contains ys x) held (Contains-filter (is_of_trigger side x.item.trigger) xs x passes at))
 
   -- no stop is reached where no queue has a trigger that is
   pub none-reached : (last : ℕ) → ((p : ℕ) → reaches side last p ≡ true → queue_of triggers side p ≡ None) → filter (has_reached_on side last) xs ≡ []
@@ -60,16 +60,16 @@ module _ {A : Type 0} (xs : List (Listed Stop)) (entries : SlotsView Stop) (link
     none-nearer last near beyond-it = none-reached last (λ p reached. near.nearest p (beyond side last trigger p (sym beyond-it) reached))
 
     module _ (ends : Ends) (there : queue_of triggers side trigger ≡ Some ends) where
-      pub first : IsFirstOf (members side trigger xs)
-      first = first-of (members side trigger xs) (subst (λ (l : Option Ends). HoldsQueue links l (members side trigger xs)) there (h.queues side trigger)).some
+      pub first : IsFirstOf (stops_of_trigger side trigger xs)
+      first = first-of (stops_of_trigger side trigger xs) (subst (λ (l : Option Ends). HoldsQueue links l (stops_of_trigger side trigger xs)) there (h.queues side trigger)).some
 
       pub front-is : (found : Option ℕ) → ((links : List Link) (keys : List ℕ) → IsQueue links ends keys → found ≡ slice_get keys 0) → found ≡ Some first.listed.key
-      front-is found front = front links (keys_in (members side trigger xs)) (subst (λ (l : Option Ends). HoldsQueue links l (members side trigger xs)) there (h.queues side trigger)).queue ∙ first.first
+      front-is found front = front links (keys_in (stops_of_trigger side trigger xs)) (subst (λ (l : Option Ends). HoldsQueue links l (stops_of_trigger side trigger xs)) there (h.queues side trigger)).queue ∙ first.first
 
       -- the first of the queue is reached where its trigger is
       first-reached : (last : ℕ) → true ≡ reaches side last trigger → (key : ℕ) → Some key ≡ Some first.listed.key → IsReachedOn side last xs key
       first-reached last reached key same =
-          let passes = Passes-filter (is_member side trigger) xs first.listed first.contains in
+          let passes = Passes-filter (is_of_trigger side trigger) xs first.listed first.contains in
           let at = is-at side trigger first.listed.item passes.passes in
           record {
             listed = first.listed;
@@ -92,7 +92,7 @@ module _ {A : Type 0} (xs : List (Listed Stop)) (entries : SlotsView Stop) (link
 
       pub in-range : trigger ≤ MAX_PRICE
       in-range =
-          let passes = Passes-filter (is_member side trigger) xs first.listed first.contains in
+          let passes = Passes-filter (is_of_trigger side trigger) xs first.listed first.contains in
           let at = is-at side trigger first.listed.item passes.passes in
           let placed = All-contains (λ (x : Listed Stop). HasItsTrigger triggers x.item) xs first.listed h.placed passes.contains in
           omega (arith, at.trigger, placed.in_range)

@@ -4,12 +4,12 @@ use Rattle.std.specs.Prelude.{◌≡◌, Bool, ◌+◌, List, ◌++◌, length, 
 use Rattle.std.proofs.Common.{◌⊎◌}
 use Rattle.xm_slots.specs.Listing.{stays}
 use Rattle.xm_stops.specs.Pending.{EntriesView, entries_that}
-use Rattle.xm_stops.specs.Queued.{QueuedView}
+use Rattle.xm_stops.specs.Queued.{QueuedStops}
 use Rattle.xm_slots.specs.declared.entry.Entry.{Entry}
 use Rattle.xm_slots.specs.declared.listing.Listed.{Listed}
 
 -- some of the stops that pass a test have left and stand behind the pending ones, in some order; all others are held as before
-pub record IsDrained (leaves : Listed Stop → Bool) (old new : QueuedView) (pending pending' : EntriesView) : Type 0 where
+pub record IsDrained (leaves : Listed Stop → Bool) (old new : QueuedStops) (pending pending' : EntriesView) : Type 0 where
   pub rest : new ≡ record old { stops = new.stops }
   pub held : filter (stays leaves) new.stops ≡ filter (stays leaves) old.stops
   pub taken : List (Entry Stop)

@@ -1,5 +1,5 @@
 -- What a caller sees of the held stops, and of the pending ones.
-use Rattle.std.specs.Prelude.{ℕ, ◌-◌, Bool, true, ◌&&◌, ◌==◌, not, List, [], ◌∷◌, ◌++◌, length, filter, map, Option}
+use Rattle.std.specs.Prelude.{ℕ, ◌-◌, Bool, ◌==◌, List, ◌++◌, length, filter, map, Option}
 use Rattle.std.specs.List.{list_any}
 use Rattle.xm_rules.specs.Orders.{is_stop_named}
 use Rattle.xm_rules.specs.declared.orders.Stop.{Stop}
@@ -20,14 +20,9 @@ pub record PendingStops : Type 0 where
 abbrev pub joined_by : List Stop → PendingStops → PendingStops
 joined_by stops p = record { stops = p.stops ++ stops; room = p.room - length stops }
 
--- no two stops have one name
-abbrev pub have_own_names : List Stop → Bool
-have_own_names [] = true
-have_own_names (s ∷ stops) = not (list_any (is_stop_named s.member s.reference) stops) && have_own_names stops
-
-abbrev pub is_known : ℕ → ℕ → List Stop → Bool
-is_known member reference stops = list_any (is_stop_named member reference) stops
+abbrev pub is_held : ℕ → ℕ → List Stop → Bool
+is_held member reference stops = list_any (is_stop_named member reference) stops
 
 -- the references of a member's stops, in order of entry
-abbrev pub references_of : ℕ → List Stop → List ℕ
-references_of member stops = map (λ (s : Stop). s.reference) (filter (λ (s : Stop). s.member == member) stops)
+abbrev pub stop_references : ℕ → List Stop → List ℕ
+stop_references member stops = map (λ (s : Stop). s.reference) (filter (λ (s : Stop). s.member == member) stops)

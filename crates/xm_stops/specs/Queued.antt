@@ -17,7 +17,7 @@ use Rattle.xm_stops.specs.declared.trigger_queues.TriggerQueues.{TriggerQueues}
 use Rattle.xm_ticks.specs.declared.numbers.TheConstants.{MAX_PRICE}
 
 -- what a caller sees of the queues
-pub record QueuedView : Type 0 where
+pub record QueuedStops : Type 0 where
   -- the stops in order of entry
   pub stops : List (Listed Stop)
   -- the stop for which there is room
@@ -25,12 +25,12 @@ pub record QueuedView : Type 0 where
   -- how many stops have joined so far
   pub adds : ℕ
 
-abbrev pub is_member : Side → ℕ → Listed Stop → Bool
-is_member s p x = is_same_place s p x.item.side x.item.trigger
+abbrev pub is_of_trigger : Side → ℕ → Listed Stop → Bool
+is_of_trigger s p x = is_same_place s p x.item.side x.item.trigger
 
 -- the stops of one side and trigger, in order of entry
-abbrev pub members : Side → ℕ → List (Listed Stop) → List (Listed Stop)
-members s p xs = filter (is_member s p) xs
+abbrev pub stops_of_trigger : Side → ℕ → List (Listed Stop) → List (Listed Stop)
+stops_of_trigger s p xs = filter (is_of_trigger s p) xs
 
 -- the queue has exactly these stops, of which there is one at least
 pub record IsQueueOf (links : List Link) (ends : Ends) (xs : List (Listed Stop)) : Type 0 where
@@ -47,12 +47,12 @@ pub record HasItsTrigger {A : Type 0} (triggers : TriggerQueues A) (stop : Stop)
   pub in_range : stop.trigger ≤ MAX_PRICE
   pub room : HasTrigger triggers stop.side stop.trigger
 
-pub record IsQueued {A : Type 0} (xs : List (Listed Stop)) (entries : SlotsView Stop) (links : List Link) (triggers : TriggerQueues A) : Type 0 where
+pub record AreStopsQueued {A : Type 0} (xs : List (Listed Stop)) (entries : SlotsView Stop) (links : List Link) (triggers : TriggerQueues A) : Type 0 where
   pub lie : All (LiesAt entries) xs
   pub distinct : AreDistinct (keys_in xs)
   pub count : used entries ≡ length xs
   pub placed : All (λ (x : Listed Stop). HasItsTrigger triggers x.item) xs
-  pub queues : (s : Side) (p : ℕ) → HoldsQueue links (queue_of triggers s p) (members s p xs)
+  pub queues : (s : Side) (p : ℕ) → HoldsQueue links (queue_of triggers s p) (stops_of_trigger s p xs)
   pub fits : entries.capacity ≤ key_limit links
 
 -- there is room for the stop in all parts, and a number for its entry
@@ -62,13 +62,13 @@ pub record HasRoomFor {A : Type 0} (stop : Stop) (adds : ℕ) (entries : SlotsVi
   pub queue : HasQueueRoom triggers stop.side
   pub number : adds < 18446744073709551615
 
-abbrev pub IsReady : {A : Type 0} → Option Stop → ℕ → SlotsView Stop → TriggerQueues A → Type 0
-IsReady None adds entries triggers = Unit {0}
-IsReady (Some stop) adds entries triggers = HasRoomFor stop adds entries triggers
+abbrev pub IsStopReady : {A : Type 0} → Option Stop → ℕ → SlotsView Stop → TriggerQueues A → Type 0
+IsStopReady None adds entries triggers = Unit {0}
+IsStopReady (Some stop) adds entries triggers = HasRoomFor stop adds entries triggers
 
-pub record IsKept {A : Type 0} (xs : List (Listed Stop)) (ready : Option Stop) (adds : ℕ) (entries : SlotsView Stop) (links : List Link) (triggers : TriggerQueues A) : Type 0 where
-  pub queued : IsQueued xs entries links triggers
-  pub room : IsReady ready adds entries triggers
+pub record AreStopsKept {A : Type 0} (xs : List (Listed Stop)) (ready : Option Stop) (adds : ℕ) (entries : SlotsView Stop) (links : List Link) (triggers : TriggerQueues A) : Type 0 where
+  pub queued : AreStopsQueued xs entries links triggers
+  pub room : IsStopReady ready adds entries triggers
   pub rise : rises 0 xs adds ≡ true
 
 -- the last price has reached the stop

@@ -1,6 +1,6 @@
 -- The triggers of one side that are in use, and those of both, as a clause sees them.
 use Rattle.std.specs.Prelude.{◌≡◌, ◌==◌, ◌<◌, ℕ, Bool, ◌&&◌, false, List, [], length, Option, Some, None, IsSome}
-use Rattle.xm_prices.specs.Levels.{LevelsView, HasPrice, HasRoom, level_at}
+use Rattle.xm_prices.specs.Levels.{LevelsView, HasPrice, HasLevelRoom, level_at}
 use Rattle.xm_queues.specs.Queue.{IsQueue}
 use Rattle.xm_queues.specs.declared.links.Link.{Link}
 use Rattle.xm_queues.specs.declared.queues.Ends.{Ends}
@@ -10,14 +10,14 @@ use Rattle.xm_rules.specs.declared.orders.Side.TheVariants.{Buy, Sell}
 use Rattle.xm_stops.specs.declared.trigger_queues.TriggerQueues.{TriggerQueues}
 
 -- the queue that is there, or else an empty one
-abbrev pub IsFound : Option Ends → Ends → Type 0
-IsFound None ends = (links : List Link) → IsQueue links ends []
-IsFound (Some there) ends = ends ≡ there
+abbrev pub IsQueueFound : Option Ends → Ends → Type 0
+IsQueueFound None ends = (links : List Link) → IsQueue links ends []
+IsQueueFound (Some there) ends = ends ≡ there
 
 -- the queue that was set, which has a key, or none where it is empty
-abbrev pub IsSet : Option Ends → Ends → Type 0
-IsSet None ends = (links : List Link) (keys : List ℕ) → IsQueue links ends keys → keys ≡ []
-IsSet (Some there) ends = (there ≡ ends) × ((links : List Link) (keys : List ℕ) → IsQueue links ends keys → 0 < length keys)
+abbrev pub IsQueueSet : Option Ends → Ends → Type 0
+IsQueueSet None ends = (links : List Link) (keys : List ℕ) → IsQueue links ends keys → keys ≡ []
+IsQueueSet (Some there) ends = (there ≡ ends) × ((links : List Link) (keys : List ℕ) → IsQueue links ends keys → 0 < length keys)
 
 -- a trigger that has stops, and every price that reaches one of the others reaches this one
 pub record IsNearest (side : Side) (table : LevelsView Ends) (trigger : ℕ) : Type 0 where
@@ -47,4 +47,4 @@ module _ {A : Type 0} where
 
   -- one queue more can be made on a side with no memory
   abbrev pub HasQueueRoom : TriggerQueues A → Side → Type 0
-  HasQueueRoom t side = HasRoom (table_of side t) 1
+  HasQueueRoom t side = HasLevelRoom (table_of side t) 1

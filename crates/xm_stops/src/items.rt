@@ -1,5 +1,5 @@
 //! Stops, as what lies under keys.
-ghost use Rattle.xm_stops.specs.Listing.{owner_of};
+ghost use Rattle.xm_stops.specs.Listing.{stop_owner};
 
 use xm_rules::Stop;
 use xm_slots::Owners;
@@ -8,7 +8,7 @@ use xm_slots::Owners;
 pub struct StopItems;
 
 impl Owners<Stop> for StopItems {
-    ghost owner_of = { owner_of };
+    ghost owner_of = { stop_owner };
 
     fn owner(item: &Stop) -> u32 {
         item.member

@@ -1,4 +1,5 @@
 //! The held stops in their queues.
+ghost use Rattle.xm_stops.specs.Listing.{stop_owner};
 ghost use Rattle.std.specs.Prelude.{◌≡◌, All, ◌+◌, ◌++◌, ◌∷◌, [], ◌<◌, ◌≤◌, Contains, IfNone, IfOk, IfSome, IsSome, None, OnErr, OnOk, Some, filter, length, map, option_copied, true};
 ghost use Rattle.std.specs.List.{list_all};
 ghost use Rattle.xm_queues.specs.Keys.{AreDistinct};
@@ -6,17 +7,17 @@ ghost use Rattle.xm_slots.specs.Listing.{is_below, is_other_key, keys_in, listed
 ghost use Rattle.xm_slots.specs.Slots.{is_of};
 ghost use Rattle.xm_slots.specs.declared.listing.Listed.{Listed};
 ghost use Rattle.xm_rules.specs.declared.orders.Stop.{Stop};
-ghost use Rattle.xm_stops.specs.Listing.{owner_of};
 ghost use Rattle.xm_stops.specs.Queued.{IsReachedAt, IsReachedOn, has_reached, has_reached_on};
 ghost use Rattle.xm_ticks.specs.declared.numbers.TheConstants.{MAX_PRICE};
 
 use crate::items::StopItems;
 use crate::trigger_queues::TriggerQueues;
-use std::alloc::{AllocError, Allocator};
+use std::alloc::Allocator;
 use std::marker::Model;
+use xm_memory::{OutOfMemory, count_within};
 use xm_queues::Queues;
-use xm_rules::{OutOfMemory, Side, Stop};
-use xm_slots::{Entry, Listed, Listing, Slots};
+use xm_rules::{Side, Stop};
+use xm_slots::{Entry, Listed, Listing, Slots, hold};
 use xm_ticks::Price;
 
 /// The held stops under their keys, each in the queue of its side and trigger.
@@ -34,13 +35,13 @@ pub struct StopQueues<A: Allocator + Copy> {
 }
 
 impl<A: Allocator + Copy> Model for StopQueues<A> {
-    ghost use Rattle.xm_stops.specs.Queued.{IsKept, QueuedView};
+    ghost use Rattle.xm_stops.specs.Queued.{AreStopsKept, QueuedStops};
 
-    ghost Value = { QueuedView };
+    ghost Value = { QueuedStops };
 
     ghost view = { λ q. record { stops = q.listing; ready = q.ready; adds = q.adds } };
 
-    ghost invariant = { λ q. IsKept q.listing q.ready q.adds q.entries q.links q.triggers };
+    ghost invariant = { λ q. AreStopsKept q.listing q.ready q.adds q.entries q.links q.triggers };
 }
 
 impl<A: Allocator + Copy> StopQueues<A> {
@@ -92,18 +93,14 @@ impl<A: Allocator + Copy> StopQueues<A> {
     }
 
     /// Makes room for this stop.
-    pub fn reserve(&mut self, stop: &Stop) -> Result<(), AllocError>
+    pub fn reserve(&mut self, stop: &Stop) -> Result<(), OutOfMemory>
         requires { stop.now.trigger ≤ MAX_PRICE }
         ensures ok { OnOk result (self.new ≡ record self.old { ready = Some stop.now }) }
         ensures err { OnErr result (self.new ≡ self.old) }
     {
-        if self.adds == u64::MAX {
-            return Err(AllocError);
-        }
-        let present = self.entries.capacity();
-        let capacity = capacity_for(self.entries.len() + 1, present);
-        self.links.reserve_key(capacity - 1)?;
-        self.entries.grow_to(capacity)?;
+        count_within(self.adds, u64::MAX - 1)?;
+        let stops = self.entries.len() + 1;
+        hold(&mut self.links, &mut self.entries, stops)?;
         self.triggers.reserve(stop.side, stop.trigger)?;
         self.ready = Some(*stop);
         Ok(())
@@ -148,24 +145,11 @@ impl<A: Allocator + Copy> StopQueues<A> {
     }
 }
 
-/// The capacity for so many stops: the present one where it is enough, or else at least twice that.
-fn capacity_for(stops: usize, capacity: usize) -> usize
-    requires { capacity ≤ 4294967295 }
-    ensures holds { stops ≤ result }
-    ensures grows { capacity ≤ result }
-{
-    if stops <= capacity {
-        capacity
-    } else {
-        stops.max(2 * capacity).max(4)
-    }
-}
-
 impl<A: Allocator + Copy> StopQueues<A> {
     /// The stops in order of entry, each with the number of its entry: those of a member, or all where no member is named,
     /// or `OutOfMemory` where the answer can't be held.
     pub fn in_time(&self, member: Option<u32>) -> Result<Vec<Entry<Stop>, A>, OutOfMemory>
-        ensures { IfOk result (λ entries. entries.items ≡ filter (is_of owner_of member) (map listed_entry self.now.stops)) }
+        ensures { IfOk result (λ entries. entries.items ≡ filter (is_of stop_owner member) (map listed_entry self.now.stops)) }
     {
         let mut entries = self.entries.entries_of::<StopItems>(member)?;
         entries.sort_unstable_by_key(|entry| entry.time);

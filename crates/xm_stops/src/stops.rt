@@ -1,11 +1,13 @@
 //! The held stops of one security, and the pending ones.
+ghost use Rattle.xm_stops.specs.Listing.{stop_owner, stop_reference};
+ghost use Rattle.xm_slots.specs.Naming.{have_own_names};
 ghost use Rattle.std.specs.Prelude.{◌≡◌, All, ◌+◌, ◌<◌, ◌≤◌, ◌^◌, ◌++◌, ◌∷◌, [], IsTrue, filter, length, find, false, None, Some, option_copied, IfNone, IfOk, IfSome, OnErr, OnOk, drop, max, not, slice_get};
 ghost use Rattle.std.specs.Option.{option_map};
 ghost use Rattle.xm_rules.specs.Commands.{outlasts};
 ghost use Rattle.xm_rules.specs.Orders.{is_stop_named, removed_stop, without_stops_of};
 ghost use Rattle.xm_rules.specs.Settling.{is_reached};
 ghost use Rattle.xm_rules.specs.declared.orders.Stop.{Stop};
-ghost use Rattle.xm_stops.specs.HeldStops.{have_own_names, is_known, joined_by, references_of};
+ghost use Rattle.xm_stops.specs.HeldStops.{is_held, joined_by, stop_references};
 ghost use Rattle.xm_ticks.specs.declared.numbers.TheConstants.{MAX_PRICE};
 
 use crate::entry_queue::EntryQueue;
@@ -13,8 +15,9 @@ use crate::stop_queues::StopQueues;
 use crate::taking::{Reason, take_leaving};
 use std::alloc::Allocator;
 use std::marker::Model;
+use xm_memory::OutOfMemory;
 use xm_names::{Names, Seed};
-use xm_rules::{OutOfMemory, Stop};
+use xm_rules::Stop;
 use xm_slots::Entry;
 use xm_ticks::Price;
 
@@ -37,14 +40,14 @@ impl<A: Allocator + Copy> Drop for Stops<A> {
 impl<A: Allocator + Copy> Model for Stops<A> {
     ghost use Rattle.std.specs.Prelude.{map};
     ghost use Rattle.xm_stops.specs.HeldStops.{HeldStops};
-    ghost use Rattle.xm_stops.specs.Indexed.{IsIndexed};
-    ghost use Rattle.xm_stops.specs.Listing.{listed_stop};
+    ghost use Rattle.xm_stops.specs.Indexed.{AreStopsIndexed};
+    ghost use Rattle.xm_slots.specs.Listing.{listed_item};
 
     ghost Value = { HeldStops };
 
-    ghost view = { λ s. record { stops = map listed_stop s.queues.stops; ready = s.queues.ready } };
+    ghost view = { λ s. record { stops = map listed_item s.queues.stops; ready = s.queues.ready } };
 
-    ghost invariant = { λ s. IsIndexed s.queues s.names };
+    ghost invariant = { λ s. AreStopsIndexed s.queues s.names };
 }
 
 /// The stop of an entry.
@@ -80,7 +83,7 @@ impl<A: Allocator + Copy> Stops<A> {
 
     /// The references of a member's stops, in order of entry, or `OutOfMemory` where the answer can't be held.
     pub fn of_member(&self, member: u32) -> Result<Vec<u32, A>, OutOfMemory>
-        ensures { IfOk result (λ references. references.items ≡ references_of member self.now.stops) }
+        ensures { IfOk result (λ references. references.items ≡ stop_references member self.now.stops) }
     {
         let entries = self.queues.in_time(Some(member))?;
         let alloc = *entries.allocator();
@@ -95,7 +98,7 @@ impl<A: Allocator + Copy> Stops<A> {
     pub fn len(&self) -> usize
         ensures len { result ≡ length self.now.stops }
         ensures within { result ≤ 4294967295 }
-        ensures names { IsTrue (have_own_names self.now.stops) }
+        ensures names { IsTrue (have_own_names stop_owner stop_reference self.now.stops) }
         ensures triggers { All (λ (s : Stop). s.trigger ≤ MAX_PRICE) self.now.stops }
     {
         self.queues.len()
@@ -110,9 +113,9 @@ impl<A: Allocator + Copy> Stops<A> {
     {
         let before = self.queues.ready();
         self.names.reserve(stop.member)?;
-        if self.queues.reserve(stop).is_err() {
+        if let Err(refused) = self.queues.reserve(stop) {
             self.names.release(stop.member);
-            return Err(OutOfMemory);
+            return Err(refused);
         }
         if let Some(other) = before {
             self.names.release(other.member);
@@ -123,7 +126,7 @@ impl<A: Allocator + Copy> Stops<A> {
     /// Puts the stop for which there is room behind the others. No stop has its name.
     pub fn add(&mut self, stop: Stop)
         requires room { self.old.ready ≡ Some stop }
-        requires name { is_known stop.member stop.reference self.old.stops ≡ false }
+        requires name { is_held stop.member stop.reference self.old.stops ≡ false }
         ensures { self.new ≡ record { stops = self.old.stops ++ stop ∷ []; ready = None } }
     {
         let key = self.queues.push(&stop);

@@ -2,7 +2,7 @@
 ghost use Rattle.std.specs.Prelude.{◌≡◌, ℕ, ◌+◌, ◌-◌, ◌<◌, ◌≤◌, ◌++◌, ◌∷◌, [], Contains, IsTrue, false, filter, length, true};
 ghost use Rattle.xm_queues.specs.Keys.{AreDistinct};
 ghost use Rattle.xm_stops.specs.Drained.{IsDrained};
-ghost use Rattle.xm_stops.specs.Indexed.{IsIndexed};
+ghost use Rattle.xm_stops.specs.Indexed.{AreStopsIndexed};
 ghost use Rattle.xm_rules.specs.declared.orders.Stop.{Stop};
 ghost use Rattle.xm_slots.specs.Listing.{is_other_key, keys_in, listed_entry};
 ghost use Rattle.xm_slots.specs.Listing.{stays};
@@ -34,9 +34,9 @@ pub fn take_leaving<A: Allocator + Copy>(
     reason: Reason,
     pending: &mut EntryQueue<A>,
 )
-    requires indexed { IsIndexed queues.old names.old }
+    requires indexed { AreStopsIndexed queues.old names.old }
     requires room { length queues.old.stops ≤ pending.old.room }
-    ensures indexed { IsIndexed queues.new names.new }
+    ensures indexed { AreStopsIndexed queues.new names.new }
     ensures held { queues.new ≡ record queues.old { stops = filter (stays (is_leaving reason)) queues.old.stops } }
     ensures pending { pending.new.entries ≡ pending.old.entries ++ entries_that (is_leaving reason) queues.old.stops }
     ensures room_left { pending.new.room ≡ pending.old.room - length (entries_that (is_leaving reason) queues.old.stops) }
@@ -54,9 +54,9 @@ fn drain<A: Allocator + Copy>(
     reason: Reason,
     pending: &mut EntryQueue<A>,
 )
-    requires indexed { IsIndexed queues.old names.old }
+    requires indexed { AreStopsIndexed queues.old names.old }
     requires room { length queues.old.stops ≤ pending.old.room }
-    ensures indexed { IsIndexed queues.new names.new }
+    ensures indexed { AreStopsIndexed queues.new names.new }
     ensures drained { IsDrained (is_leaving reason) queues.old queues.new pending.old pending.new }
     ensures all { filter (is_leaving reason) queues.new.stops ≡ [] }
 {
@@ -73,9 +73,9 @@ fn drain_reached<A: Allocator + Copy>(
     last: Price,
     pending: &mut EntryQueue<A>,
 )
-    requires indexed { IsIndexed queues.old names.old }
+    requires indexed { AreStopsIndexed queues.old names.old }
     requires room { length queues.old.stops ≤ pending.old.room }
-    ensures indexed { IsIndexed queues.new names.new }
+    ensures indexed { AreStopsIndexed queues.new names.new }
     ensures drained { IsDrained (is_leaving (Reached last)) queues.old queues.new pending.old pending.new }
     ensures all { filter (is_leaving (Reached last)) queues.new.stops ≡ [] }
 {
@@ -91,9 +91,9 @@ fn drain_expired<A: Allocator + Copy>(
     today: u32,
     pending: &mut EntryQueue<A>,
 )
-    requires indexed { IsIndexed queues.old names.old }
+    requires indexed { AreStopsIndexed queues.old names.old }
     requires room { length queues.old.stops ≤ pending.old.room }
-    ensures indexed { IsIndexed queues.new names.new }
+    ensures indexed { AreStopsIndexed queues.new names.new }
     ensures drained { IsDrained (is_leaving (Expired today)) queues.old queues.new pending.old pending.new }
     ensures all { filter (is_leaving (Expired today)) queues.new.stops ≡ [] }
 {
@@ -123,10 +123,10 @@ fn take_at<A: Allocator + Copy>(
     key: usize,
     pending: &mut EntryQueue<A>,
 )
-    requires indexed { IsIndexed queues.old names.old }
+    requires indexed { AreStopsIndexed queues.old names.old }
     requires there { Contains (keys_in queues.old.stops) key }
     requires room { 0 < pending.old.room }
-    ensures indexed { IsIndexed queues.new names.new }
+    ensures indexed { AreStopsIndexed queues.new names.new }
     ensures left { queues.new ≡ record queues.old { stops = filter (is_other_key key) queues.old.stops } }
     ensures distinct { AreDistinct (keys_in queues.old.stops) }
     ensures pending { (x : Listed Stop) → Contains queues.old.stops x → x.key ≡ key → pending.new ≡ record { entries = pending.old.entries ++ listed_entry x ∷ []; room = pending.old.room - 1 } }

@@ -2,11 +2,12 @@
 ghost use Rattle.std.specs.Prelude.{◌≡◌, if◌then◌else◌, ℕ, ◌≤◌, IsSome, None, OnOk, Some, false};
 ghost use Rattle.std.specs.Borrow.{sem};
 ghost use Rattle.xm_rules.specs.declared.orders.Side.{Side};
-ghost use Rattle.xm_stops.specs.Triggers.{HasQueueRoom, HasTrigger, IsFound, IsSet, is_same_place, queue_of, table_of};
+ghost use Rattle.xm_stops.specs.Triggers.{HasQueueRoom, HasTrigger, IsQueueFound, IsQueueSet, is_same_place, queue_of, table_of};
 ghost use Rattle.xm_ticks.specs.declared.numbers.TheConstants.{MAX_PRICE};
 
 use crate::trigger_table::TriggerTable;
-use std::alloc::{AllocError, Allocator};
+use std::alloc::Allocator;
+use xm_memory::OutOfMemory;
 use xm_queues::Ends;
 use xm_rules::Side;
 
@@ -54,7 +55,7 @@ impl<A: Allocator + Copy> TriggerQueues<A> {
     }
 
     /// Makes all the room that a stop of this side and trigger needs.
-    pub fn reserve(&mut self, side: Side, trigger: u32) -> Result<(), AllocError>
+    pub fn reserve(&mut self, side: Side, trigger: u32) -> Result<(), OutOfMemory>
         requires { trigger ≤ MAX_PRICE }
         ensures trigger { OnOk result (HasTrigger self.new side trigger) }
         ensures room { OnOk result (HasQueueRoom self.new side) }
@@ -69,7 +70,7 @@ impl<A: Allocator + Copy> TriggerQueues<A> {
     #[inline(always)]
     pub fn queue(&self, side: Side, trigger: u32) -> Ends
         requires { trigger ≤ MAX_PRICE }
-        ensures { IsFound (queue_of self.now side trigger) result }
+        ensures { IsQueueFound (queue_of self.now side trigger) result }
     {
         self.of(side).queue(trigger)
     }
@@ -93,7 +94,7 @@ impl<A: Allocator + Copy> TriggerQueues<A> {
         requires in_range { trigger ≤ MAX_PRICE }
         requires trigger { HasTrigger self.old side trigger }
         requires there { IsSome (queue_of self.old side trigger) }
-        ensures set { IsSet (queue_of self.new side trigger) ends }
+        ensures set { IsQueueSet (queue_of self.new side trigger) ends }
         ensures others { (s : Side) (p : ℕ) → is_same_place s p side trigger ≡ false → queue_of self.new s p ≡ queue_of self.old s p }
         ensures triggers_kept { (s : Side) (p : ℕ) → HasTrigger self.old s p → HasTrigger self.new s p }
         ensures room_kept { (s : Side) → HasQueueRoom self.old s → HasQueueRoom self.new s }

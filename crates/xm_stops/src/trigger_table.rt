@@ -1,11 +1,12 @@
 //! The triggers of one side that are in use.
 ghost use Rattle.std.specs.Prelude.{◌≡◌, ◌==◌, if◌then◌else◌, ℕ, ◌+◌, ◌≤◌, IfNone, IfSome, IsSome, None, Some, OnOk};
-ghost use Rattle.xm_prices.specs.Levels.{HasPrice, HasRoom, level_at};
-ghost use Rattle.xm_stops.specs.Triggers.{IsFound, IsNearest};
+ghost use Rattle.xm_prices.specs.Levels.{HasPrice, HasLevelRoom, level_at};
+ghost use Rattle.xm_stops.specs.Triggers.{IsQueueFound, IsNearest};
 ghost use Rattle.xm_ticks.specs.declared.numbers.TheConstants.{MAX_PRICE};
 
-use std::alloc::{AllocError, Allocator};
+use std::alloc::Allocator;
 use std::marker::Model;
+use xm_memory::OutOfMemory;
 use xm_prices::Levels;
 use xm_queues::Ends;
 use xm_rules::Side;
@@ -42,12 +43,12 @@ impl<A: Allocator + Copy> TriggerTable<A> {
     }
 
     /// Makes all the room that a trigger needs, which stays, and room for one queue more.
-    pub fn reserve(&mut self, trigger: u32) -> Result<(), AllocError>
+    pub fn reserve(&mut self, trigger: u32) -> Result<(), OutOfMemory>
         requires { trigger ≤ MAX_PRICE }
         ensures price { OnOk result (HasPrice self.new trigger) }
-        ensures room { OnOk result (HasRoom self.new 1) }
+        ensures room { OnOk result (HasLevelRoom self.new 1) }
         ensures prices_kept { (p : ℕ) → HasPrice self.old p → HasPrice self.new p }
-        ensures room_kept { (n : ℕ) → HasRoom self.old n → HasRoom self.new n }
+        ensures room_kept { (n : ℕ) → HasLevelRoom self.old n → HasLevelRoom self.new n }
         ensures same { (p : ℕ) → level_at self.new p ≡ level_at self.old p }
     {
         self.queues.reserve(trigger, 1)
@@ -66,7 +67,7 @@ impl<A: Allocator + Copy> TriggerTable<A> {
     #[inline(always)]
     pub fn queue(&self, trigger: u32) -> Ends
         requires { trigger ≤ MAX_PRICE }
-        ensures { IsFound (level_at self.now trigger) result }
+        ensures { IsQueueFound (level_at self.now trigger) result }
     {
         match self.queues.get(trigger) {
             Some(ends) => ends,
@@ -79,10 +80,10 @@ impl<A: Allocator + Copy> TriggerTable<A> {
     pub fn put(&mut self, trigger: u32, ends: Ends)
         requires in_range { trigger ≤ MAX_PRICE }
         requires price { HasPrice self.old trigger }
-        requires room { level_at self.old trigger ≡ None → HasRoom self.old 1 }
+        requires room { level_at self.old trigger ≡ None → HasLevelRoom self.old 1 }
         ensures queues { (p : ℕ) → level_at self.new p ≡ (if p == trigger then Some ends else level_at self.old p) }
         ensures prices_kept { (p : ℕ) → HasPrice self.old p → HasPrice self.new p }
-        ensures room_kept { IsSome (level_at self.old trigger) → (n : ℕ) → HasRoom self.old n → HasRoom self.new n }
+        ensures room_kept { IsSome (level_at self.old trigger) → (n : ℕ) → HasLevelRoom self.old n → HasLevelRoom self.new n }
     {
         self.queues.put(trigger, ends);
     }
@@ -93,7 +94,7 @@ impl<A: Allocator + Copy> TriggerTable<A> {
         requires price { HasPrice self.old trigger }
         ensures queues { (p : ℕ) → level_at self.new p ≡ (if p == trigger then None else level_at self.old p) }
         ensures prices_kept { (p : ℕ) → HasPrice self.old p → HasPrice self.new p }
-        ensures room_kept { (n : ℕ) → HasRoom self.old n → HasRoom self.new n }
+        ensures room_kept { (n : ℕ) → HasLevelRoom self.old n → HasLevelRoom self.new n }
     {
         self.queues.remove(trigger);
     }

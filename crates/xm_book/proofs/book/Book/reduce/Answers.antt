@@ -1,5 +1,5 @@
+use Rattle.xm_slots.specs.Listing.{listed_item}
 use Rattle.std.proofs.Common.{map, sym}
-use Rattle.xm_book.specs.Listing.{listed_order}
 use Rattle.xm_book.proofs.Indexing.{bounds-of-key, in-bounds, key-there, known, order-reduced, seen, seen-reduced, unknown}
 use Rattle.xm_book.proofs.Named.{nothing-reduced}
 use Rattle.xm_book.proofs.book.Book.reduce.Goals as goal
@@ -30,7 +30,7 @@ pub returns-in-None-clause-reduced : goal.returns-in-None-clause-reduced
 returns-in-None-clause-reduced g c =
     let b = c.self.inside in
     let none = unknown b.queues b.names c.self.invariant c.args.member c.args.reference c.in-None.ensures in
-    rw (← c.self.view_is) (λ i. record (seen b.queues) { orders = sym (nothing-reduced c.args.member c.args.reference c.args.rest (map listed_order b.queues.orders) none) i })
+    rw (← c.self.view_is) (λ i. record (seen b.queues) { orders = sym (nothing-reduced c.args.member c.args.reference c.args.rest (map listed_item b.queues.orders) none) i })
 
 pub returns-in-Some-clause-known : goal.returns-in-Some-clause-known
 returns-in-Some-clause-known g c =

@@ -1,7 +1,8 @@
+use Rattle.xm_book.specs.Listing.{order_owner, order_reference}
+use Rattle.xm_slots.proofs.Naming.{nothing-removed}
+use Rattle.xm_slots.specs.Listing.{listed_item}
 use Rattle.std.proofs.Common.{map, sym}
-use Rattle.xm_book.specs.Listing.{listed_order}
 use Rattle.xm_book.proofs.Indexing.{key-there, order-found, order-left, seen, seen-left, unknown, unnamed}
-use Rattle.xm_book.proofs.Named.{nothing-removed}
 use Rattle.xm_book.proofs.book.Book.remove.Goals as goal
 
 pub take-requires : goal.take-requires
@@ -24,7 +25,7 @@ pub returns-in-None-clause-left : goal.returns-in-None-clause-left
 returns-in-None-clause-left g c =
     let b = c.self.inside in
     let none = unknown b.queues b.names c.self.invariant c.args.member c.args.reference c.in-None.ensures.key in
-    rw (← c.self.view_is) (λ i. record (seen b.queues) { orders = sym (nothing-removed c.args.member c.args.reference (map listed_order b.queues.orders) none) i })
+    rw (← c.self.view_is) (λ i. record (seen b.queues) { orders = sym (nothing-removed order_owner order_reference c.args.member c.args.reference (map listed_item b.queues.orders) none) i })
 
 pub returns-in-Some-clause-found : goal.returns-in-Some-clause-found
 returns-in-Some-clause-found g c =

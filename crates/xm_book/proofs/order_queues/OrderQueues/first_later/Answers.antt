@@ -1,5 +1,5 @@
 use Rattle.std.proofs.Common.{◌≡◌, ℕ, sym, ap, ◌∙◌, subst, arith, Option, Some, None}
-use Rattle.xm_book.specs.Queued.{members}
+use Rattle.xm_book.specs.Queued.{orders_of_level}
 use Rattle.xm_slots.proofs.Tests.{some_none}
 use Rattle.xm_book.proofs.Walking.{IsPassed, no-walk, walk-end, walk-found, walk-lies, walk-none, walk-on, walk-room, walk-start}
 use Rattle.xm_book.proofs.order_queues.OrderQueues.first_later.Goals as goal
@@ -27,7 +27,7 @@ pub returns-in_err-at : goal.returns-in_err-at
 returns-in_err-at g c =
     let q = c.self.inside in
     let e = c.args.entry.now in
-    let w = subst (λ (key : Option ℕ). IsPassed (members e.item.side c.args.restriction e.item.kind q.listing) e.time c.loop-step._step key) c.in_err-at.was c.loop-step.invariant in
+    let w = subst (λ (key : Option ℕ). IsPassed (orders_of_level e.item.side c.args.restriction e.item.kind q.listing) e.time c.loop-step._step key) c.in_err-at.was c.loop-step.invariant in
     rw (c.from_residual-in_err-at.ensures, ← c.self.view_is)
     (walk-none q.listing q.entries q.links q.ladders c.self.invariant.queued c.args.phase e.item.side c.args.restriction e.item.kind q.adds c.self.invariant.rise c.requires e.time c.loop-step._step w)
 
@@ -35,14 +35,14 @@ pub returns-in_err-other : goal.returns-in_err-other
 returns-in_err-other g c =
     let q = c.self.inside in
     let e = c.args.entry.now in
-    let w = subst (λ (key : Option ℕ). IsPassed (members e.item.side c.args.restriction e.item.kind q.listing) e.time c.loop-step._step key) c.in_ok-at.was c.loop-step.invariant in
+    let w = subst (λ (key : Option ℕ). IsPassed (orders_of_level e.item.side c.args.restriction e.item.kind q.listing) e.time c.loop-step._step key) c.in_ok-at.was c.loop-step.invariant in
     absurd (some_none (sym (walk-lies q.listing q.entries q.links q.ladders c.self.invariant.queued c.args.phase e.item.side c.args.restriction e.item.kind q.adds c.self.invariant.rise c.requires e.time c.loop-step._step c.in_ok-at.at w) ∙ sym c.in_err-other.ensures))
 
 pub returns-then-entry-other : goal.returns-then-entry-other
 returns-then-entry-other g c =
     let q = c.self.inside in
     let e = c.args.entry.now in
-    let w = subst (λ (key : Option ℕ). IsPassed (members e.item.side c.args.restriction e.item.kind q.listing) e.time c.loop-step._step key) c.in_ok-at.was c.loop-step.invariant in
+    let w = subst (λ (key : Option ℕ). IsPassed (orders_of_level e.item.side c.args.restriction e.item.kind q.listing) e.time c.loop-step._step key) c.in_ok-at.was c.loop-step.invariant in
     rw (← c.self.view_is)
     (walk-found q.listing q.entries q.links q.ladders c.self.invariant.queued c.args.phase e.item.side c.args.restriction e.item.kind q.adds c.self.invariant.rise c.requires e.time c.loop-step._step c.in_ok-at.at w c.in_ok-other.other.now (sym c.in_ok-other.ensures) c.if-entry-other.true)
 
@@ -50,14 +50,14 @@ pub next-key-requires : goal.next-key-requires
 next-key-requires g c =
     let q = c.self.inside in
     let e = c.args.entry.now in
-    let w = subst (λ (key : Option ℕ). IsPassed (members e.item.side c.args.restriction e.item.kind q.listing) e.time c.loop-step._step key) c.in_ok-at.was c.loop-step.invariant in
+    let w = subst (λ (key : Option ℕ). IsPassed (orders_of_level e.item.side c.args.restriction e.item.kind q.listing) e.time c.loop-step._step key) c.in_ok-at.was c.loop-step.invariant in
     walk-room q.listing q.entries q.links q.ladders c.self.invariant.queued c.args.phase e.item.side c.args.restriction e.item.kind q.adds c.self.invariant.rise c.requires e.time c.loop-step._step c.in_ok-at.at w
 
 pub loop-step-preserved : goal.loop-step-preserved
 loop-step-preserved g c =
     let q = c.self.inside in
     let e = c.args.entry.now in
-    let w = subst (λ (key : Option ℕ). IsPassed (members e.item.side c.args.restriction e.item.kind q.listing) e.time c.loop-step._step key) c.in_ok-at.was c.loop-step.invariant in
+    let w = subst (λ (key : Option ℕ). IsPassed (orders_of_level e.item.side c.args.restriction e.item.kind q.listing) e.time c.loop-step._step key) c.in_ok-at.was c.loop-step.invariant in
     walk-on q.listing q.entries q.links q.ladders c.self.invariant.queued c.args.phase e.item.side c.args.restriction e.item.kind q.adds c.self.invariant.rise c.requires e.time c.loop-step._step c.in_ok-at.at w c.in_ok-other.other.now (sym c.in_ok-other.ensures) c.if-entry-other.false c.next-key.result c.next-key.ensures
 
 pub returns : goal.returns

@@ -1,7 +1,8 @@
+use Rattle.xm_stops.specs.Listing.{stop_owner, stop_reference}
+use Rattle.xm_slots.proofs.Naming.{nothing-removed}
+use Rattle.xm_slots.specs.Listing.{listed_item}
 use Rattle.std.proofs.Common.{map, sym}
-use Rattle.xm_stops.specs.Listing.{listed_stop}
 use Rattle.xm_stops.proofs.Indexing.{key-there, stop-found, stop-left, seen, seen-left, unknown, unnamed}
-use Rattle.xm_stops.proofs.Named.{nothing-removed}
 use Rattle.xm_stops.proofs.stops.Stops.remove.Goals as goal
 
 pub take-requires : goal.take-requires
@@ -24,7 +25,7 @@ pub returns-in-None-clause-left : goal.returns-in-None-clause-left
 returns-in-None-clause-left g c =
     let b = c.self.inside in
     let none = unknown b.queues b.names c.self.invariant c.args.member c.args.reference c.in-None.ensures.key in
-    rw (← c.self.view_is) (λ i. record (seen b.queues) { stops = sym (nothing-removed c.args.member c.args.reference (map listed_stop b.queues.stops) none) i })
+    rw (← c.self.view_is) (λ i. record (seen b.queues) { stops = sym (nothing-removed stop_owner stop_reference c.args.member c.args.reference (map listed_item b.queues.stops) none) i })
 
 pub returns-in-Some-clause-found : goal.returns-in-Some-clause-found
 returns-in-Some-clause-found g c =
