@@ -3,8 +3,8 @@ use Rattle.std.proofs.Common.{◌≡◌, ℕ, ◌+◌, ◌-◌, ◌<◌, ◌≤�
 use Rattle.std.specs.Prelude.{IfSome, option_map}
 use Rattle.std.proofs.lemmas.Bool.{both_ways, not-true, not-false, not_from_false, false_from_ne_true, leb-true, le-leb}
 use Rattle.xm_auction.specs.Covered.{best_covered, covered_at, covers}
-use Rattle.xm_auction.specs.Crossings.{IsCrossing, IsLast, IsPassed}
-use Rattle.xm_auction.specs.Depths.{depth_at, later, level_reached, reached, units_to}
+use Rattle.xm_auction.specs.Crossings.{IsCrossing, IsAtEnd, IsPassed}
+use Rattle.xm_auction.specs.Depths.{depth_at, later, level_reached, reaches_price, units_to}
 use Rattle.xm_auction.specs.declared.covered.Covered.{Covered}
 use Rattle.xm_auction.specs.declared.depth.Depth.{Depth}
 use Rattle.xm_auction.proofs.Bests.{best-is, best-none, reaches-on, reaches-other}
@@ -27,12 +27,12 @@ level_if level found true e = (e, refl)
 level_if level found false e = absurd (cc)
 
 -- a level that is reached comes next
-pub is-level : (from : Depth) (next : Option (ℕ × ℕ)) (level : ℕ × ℕ) → level_reached from next ≡ Some level → (next ≡ Some level) × (reached from.side from.limit level.0 ≡ true)
+pub is-level : (from : Depth) (next : Option (ℕ × ℕ)) (level : ℕ × ℕ) → level_reached from next ≡ Some level → (next ≡ Some level) × (reaches_price from.side from.limit level.0 ≡ true)
 is-level from None level e = absurd (cc)
 is-level from (Some first) level e =
-    let is = level_if first level (reached from.side from.limit first.0) e in
+    let is = level_if first level (reaches_price from.side from.limit first.0) e in
     let same : first.0 ≡ level.0 = ap (λ (o : Option (ℕ × ℕ)). of o) is.0 in
-    (is.0, subst (λ (p : ℕ). reached from.side from.limit p ≡ true) same is.1) where
+    (is.0, subst (λ (p : ℕ). reaches_price from.side from.limit p ≡ true) same is.1) where
       of : Option (ℕ × ℕ) → ℕ
       of None = first.0
       of (Some l) = l.0
@@ -41,9 +41,9 @@ level_unless : (level : ℕ × ℕ) (b : Bool) → (if b then Some level else No
 level_unless level true e = absurd (cc)
 level_unless level false e = refl
 
-pub is-unreached : (from : Depth) (next : Option (ℕ × ℕ)) → level_reached from next ≡ None → IfSome next (λ level. reached from.side from.limit level.0 ≡ false)
+pub is-unreached : (from : Depth) (next : Option (ℕ × ℕ)) → level_reached from next ≡ None → IfSome next (λ level. reaches_price from.side from.limit level.0 ≡ false)
 is-unreached from None e = tt
-is-unreached from (Some level) e = level_unless level (reached from.side from.limit level.0) e
+is-unreached from (Some level) e = level_unless level (reaches_price from.side from.limit level.0) e
 
 covered_not : (phase : Phase) (orders : List Order) (side : Side) (y : ℕ) → covers phase orders side y ≡ true → accepting phase orders side y < accepting phase orders (opposite side) y → ⊥
 covered_not phase orders side y c l = let h = leb-true (accepting phase orders (opposite side) y) (accepting phase orders side y) c in omega (arith, h, l)
@@ -64,7 +64,7 @@ never-covered phase orders side other made short =
     none-covered phase orders side (λ y at c. covered_not phase orders side y c (omega (arith, short y, market_below phase orders (opposite side) other made y)))
 
 pub starts : (phase : Phase) (orders : List Order) (side : Side) (own other : Depth) → own ≡ depth_at phase side own.limit orders → other ≡ depth_at phase (opposite side) None orders
-    → IfSome own.limit (Contains (candidates phase orders)) → other.units ≤ own.units → ((x : ℕ) → reached side own.limit x ≡ false → accepting phase orders side x < other.units)
+    → IfSome own.limit (Contains (candidates phase orders)) → other.units ≤ own.units → ((x : ℕ) → reaches_price side own.limit x ≡ false → accepting phase orders side x < other.units)
     → IsCrossing phase orders own other
 starts phase orders side own other own_made other_made own_at enough before =
     let same : own.side ≡ side = ap (λ (d : Depth). d.side) own_made in
@@ -76,8 +76,8 @@ starts phase orders side own other own_made other_made own_at enough before =
       own_limit = own_at;
       other_limit = subst (λ (l : Option ℕ). IfSome l (Contains (candidates phase orders))) (sym none) tt;
       covered = enough;
-      inside = subst (λ (l : Option ℕ). IfSome l (λ p. reached own.side own.limit p ≡ true)) (sym none) tt;
-      beyond = subst (λ (s : Side). (x : ℕ) → reached s own.limit x ≡ false → accepting phase orders s x < accepting phase orders (opposite s) x) (sym same)
+      inside = subst (λ (l : Option ℕ). IfSome l (λ p. reaches_price own.side own.limit p ≡ true)) (sym none) tt;
+      beyond = subst (λ (s : Side). (x : ℕ) → reaches_price s own.limit x ≡ false → accepting phase orders s x < accepting phase orders (opposite s) x) (sym same)
           (λ x r. omega (arith, before x r, market_below phase orders (opposite side) other other_made x));
     }
 
@@ -93,9 +93,9 @@ module _ (phase : Phase) (orders : List Order) (own other : Depth) (k : IsCrossi
       subst (λ (s : Side). (o : Option (ℕ × ℕ)) → other.next ≡ o → (x : ℕ) → next_reaches s o x ≡ false → accepting phase orders s x ≤ other.units) other_side
       (λ o e x r. unreached-below phase other orders o other-made e x r)
 
-  other_above : (x : ℕ) → reached (opposite own.side) other.limit x ≡ true → other.units ≤ accepting phase orders (opposite own.side) x
+  other_above : (x : ℕ) → reaches_price (opposite own.side) other.limit x ≡ true → other.units ≤ accepting phase orders (opposite own.side) x
   other_above =
-      subst (λ (s : Side). (x : ℕ) → reached s other.limit x ≡ true → other.units ≤ accepting phase orders s x) other_side
+      subst (λ (s : Side). (x : ℕ) → reaches_price s other.limit x ≡ true → other.units ≤ accepting phase orders s x) other_side
       (λ x r. reached-above phase other orders other-made x r)
 
   other_units : (level : ℕ × ℕ) → other.next ≡ Some level → other.units + level.1 ≡ accepting phase orders (opposite own.side) level.0
@@ -126,7 +126,7 @@ module _ (phase : Phase) (orders : List Order) (own other : Depth) (k : IsCrossi
         own_limit = k.own_limit;
         other_limit = limit-made phase other.side level.0 e orders (next-candidate phase other orders level other-made is.0) made;
         covered = omega (arith, here, units, next-units phase other orders level other-made is.0, fits);
-        inside = subst (λ (l : Option ℕ). IfSome l (λ p. reached own.side own.limit p ≡ true)) (sym limit) is.1;
+        inside = subst (λ (l : Option ℕ). IfSome l (λ p. reaches_price own.side own.limit p ≡ true)) (sym limit) is.1;
         beyond = k.beyond;
       }
 
@@ -163,11 +163,11 @@ module _ (phase : Phase) (orders : List Order) (own other : Depth) (k : IsCrossi
   own_below : (o : Option (ℕ × ℕ)) → own.next ≡ o → (x : ℕ) → next_reaches own.side o x ≡ false → accepting phase orders own.side x ≤ own.units
   own_below o e x r = unreached-below phase own orders o k.own_depth e x r
 
-  own_above : (x : ℕ) → reached own.side own.limit x ≡ true → own.units ≤ accepting phase orders own.side x
+  own_above : (x : ℕ) → reaches_price own.side own.limit x ≡ true → own.units ≤ accepting phase orders own.side x
   own_above x r = reached-above phase own orders k.own_depth x r
 
   -- the other side's limit reaches what the own one reaches, where that is one of its own
-  limit_reaches : (limit : Option ℕ) (x : ℕ) → IfSome limit (λ q. reaches own.side x q ≡ true) → reached (opposite own.side) limit x ≡ true
+  limit_reaches : (limit : Option ℕ) (x : ℕ) → IfSome limit (λ q. reaches own.side x q ≡ true) → reaches_price (opposite own.side) limit x ≡ true
   limit_reaches None x h = refl
   limit_reaches (Some q) x h = opposite-reaches own.side q x ∙ h
 
@@ -203,9 +203,9 @@ module _ (phase : Phase) (orders : List Order) (own other : Depth) (k : IsCrossi
       ap (λ (c : Covered). Some c) (sym (made_of own.side x a b l e f)) ∙ sym (ap (option_map (covered_at phase orders own.side)) best)
 
   -- what is covered is no better than the own limit
-  not_beyond : (y : ℕ) → covers phase orders own.side y ≡ true → reached own.side own.limit y ≡ true
-  not_beyond y c = by_test (reached own.side own.limit y) refl where
-    by_test : (b : Bool) → reached own.side own.limit y ≡ b → b ≡ true
+  not_beyond : (y : ℕ) → covers phase orders own.side y ≡ true → reaches_price own.side own.limit y ≡ true
+  not_beyond y c = by_test (reaches_price own.side own.limit y) refl where
+    by_test : (b : Bool) → reaches_price own.side own.limit y ≡ b → b ≡ true
     by_test true e = refl
     by_test false e = absurd (covers_not y c (k.beyond y e))
 
@@ -215,15 +215,15 @@ module _ (phase : Phase) (orders : List Order) (own other : Depth) (k : IsCrossi
   best-at_limit p none limit =
       let at : Contains (candidates phase orders) p = subst (λ (l : Option ℕ). IfSome l (Contains (candidates phase orders))) limit k.own_limit in
       let inside : IfSome other.limit (λ q. reaches own.side p q ≡ true) =
-      subst (λ (l : Option ℕ). IfSome other.limit (λ q. reached own.side l q ≡ true)) limit k.inside in
+      subst (λ (l : Option ℕ). IfSome other.limit (λ q. reaches_price own.side l q ≡ true)) limit k.inside in
       let unreached : IfSome other.next (λ level. reaches own.side p level.0 ≡ false) =
-      subst (λ (l : Option ℕ). IfSome other.next (λ level. reached own.side l level.0 ≡ false)) limit (is-unreached own other.next none) in
+      subst (λ (l : Option ℕ). IfSome other.next (λ level. reaches_price own.side l level.0 ≡ false)) limit (is-unreached own other.next none) in
       let below = other_below other.next refl p (unreached_next other.next p unreached) in
       let above = other_above p (limit_reaches other.limit p inside) in
       let units : own.units ≡ accepting phase orders own.side p =
       subst (λ (l : Option ℕ). own.units ≡ units_to phase own.side l orders) limit (ap (λ (d : Depth). d.units) k.own_depth) in
       is_best p other.units own.units at k.covered (sym units) (omega (arith, below, above))
-      (λ y in_y c. subst (λ (l : Option ℕ). reached own.side l y ≡ true) limit (not_beyond y c))
+      (λ y in_y c. subst (λ (l : Option ℕ). reaches_price own.side l y ≡ true) limit (not_beyond y c))
 
   -- a limit of the other side, where there is one, is as good as a price
   abbrev pub limit_passes : Option ℕ → ℕ → Bool
@@ -265,7 +265,7 @@ module _ (phase : Phase) (orders : List Order) (own other : Depth) (k : IsCrossi
         let above = reached-more phase (opposite own.side) (Some level.0) orders y (opposite-reaches own.side level.0 y ∙ e) in
         omega (arith, short, below, above, other_units level (is-level own other.next level found).0)))
 
-    later_than : (limit : Option ℕ) (y : ℕ) → reaches own.side y level.0 ≡ false → reached own.side limit level.0 ≡ true → later own.side limit y ≡ true
+    later_than : (limit : Option ℕ) (y : ℕ) → reaches own.side y level.0 ≡ false → reaches_price own.side limit level.0 ≡ true → later own.side limit y ≡ true
     later_than None y h r = refl
     later_than (Some p) y h r =
         not_from_false (reaches own.side y p) (false_from_ne_true (reaches own.side y p) (λ e. both_ways (reaches own.side y level.0) h (reaches-on own.side y p level.0 e r)))
@@ -283,9 +283,9 @@ module _ (phase : Phase) (orders : List Order) (own other : Depth) (k : IsCrossi
           next_below = subst (λ (o : Option (ℕ × ℕ)). IfSome own.next (λ next. next_reaches (opposite own.side) o next.0 ≡ false)) (sym is.0) (below_next own.next none_before);
         }
 
-  none_left : (o : Option (ℕ × ℕ)) → own.limit ≡ None → IfSome o (λ level. reached own.side own.limit level.0 ≡ false) → o ≡ None
+  none_left : (o : Option (ℕ × ℕ)) → own.limit ≡ None → IfSome o (λ level. reaches_price own.side own.limit level.0 ≡ false) → o ≡ None
   none_left None none h = refl
-  none_left (Some level) none h = absurd (both_ways (reached own.side own.limit level.0) h (ap (λ (l : Option ℕ). reached own.side l level.0) none))
+  none_left (Some level) none h = absurd (both_ways (reaches_price own.side own.limit level.0) h (ap (λ (l : Option ℕ). reaches_price own.side l level.0) none))
 
   next_none : (o : Option (ℕ × ℕ)) → IfSome o (λ next. next_reaches (opposite own.side) None next.0 ≡ false)
   next_none None = tt
@@ -303,14 +303,14 @@ module _ (phase : Phase) (orders : List Order) (own other : Depth) (k : IsCrossi
         next_below = subst (λ (o : Option (ℕ × ℕ)). IfSome own.next (λ next. next_reaches (opposite own.side) o next.0 ≡ false)) (sym no_level) (next_none own.next);
       }
 
-  pub walked : IsLast own other → IsPassed own other → Walked
+  pub walked : IsAtEnd own other → IsPassed own other → Walked
   walked last passed = walked_by (level_reached own other.next) refl last passed
 
-  reached_other : (p : ℕ) → reached other.side other.limit p ≡ true → reached (opposite own.side) other.limit p ≡ true
-  reached_other p h = subst (λ (s : Side). reached s other.limit p ≡ true) other_side h
+  reached_other : (p : ℕ) → reaches_price other.side other.limit p ≡ true → reaches_price (opposite own.side) other.limit p ≡ true
+  reached_other p h = subst (λ (s : Side). reaches_price s other.limit p ≡ true) other_side h
 
   -- a price that the other side's limit reaches passes what that limit passes
-  pass_on : (limit : Option ℕ) (p y : ℕ) → reached (opposite own.side) limit p ≡ true → limit_passes limit y ≡ true → reaches own.side p y ≡ true
+  pass_on : (limit : Option ℕ) (p y : ℕ) → reaches_price (opposite own.side) limit p ≡ true → limit_passes limit y ≡ true → reaches own.side p y ≡ true
   pass_on None p y r h = absurd (cc)
   pass_on (Some q) p y r h = reaches-on own.side p q y (sym (opposite-reaches own.side q p) ∙ r) h
 
@@ -339,7 +339,7 @@ module _ (phase : Phase) (orders : List Order) (own other : Depth) (k : IsCrossi
       (λ at. subst (λ (o : Option (ℕ × ℕ)). next_reaches own.side o y ≡ true) is.0 (w.own_first y c at))
       (λ at. pass_on other.limit next.0 y within (w.other_first y c at)))
 
-  unreached_at : (p : ℕ) (o : Option (ℕ × ℕ)) → IfSome o (λ next. reached (opposite own.side) (Some p) next.0 ≡ false) → next_reaches own.side o p ≡ false
+  unreached_at : (p : ℕ) (o : Option (ℕ × ℕ)) → IfSome o (λ next. reaches_price (opposite own.side) (Some p) next.0 ≡ false) → next_reaches own.side o p ≡ false
   unreached_at p None h = refl
   unreached_at p (Some next) h = sym (opposite-reaches own.side p next.0) ∙ h
 
@@ -347,17 +347,17 @@ module _ (phase : Phase) (orders : List Order) (own other : Depth) (k : IsCrossi
   pass_next p y None h i = absurd (cc)
   pass_next p y (Some next) h i = reaches-on own.side p next.0 y (reaches-other own.side next.0 p h) i
 
-  unreached_other : level_reached other own.next ≡ None → IfSome own.next (λ next. reached (opposite own.side) other.limit next.0 ≡ false)
+  unreached_other : level_reached other own.next ≡ None → IfSome own.next (λ next. reaches_price (opposite own.side) other.limit next.0 ≡ false)
   unreached_other none =
-      subst (λ (s : Side). IfSome own.next (λ next. reached s other.limit next.0 ≡ false)) other_side (is-unreached other own.next none)
+      subst (λ (s : Side). IfSome own.next (λ next. reaches_price s other.limit next.0 ≡ false)) other_side (is-unreached other own.next none)
 
   pub best-limit : Walked → (p : ℕ) → level_reached other own.next ≡ None → other.limit ≡ Some p
       → Some (record { price = p; volume = other.units; surplus = own.units - other.units }) ≡ best_covered phase orders own.side
   best-limit w p none limit =
       let at : Contains (candidates phase orders) p = subst (λ (l : Option ℕ). IfSome l (Contains (candidates phase orders))) limit k.other_limit in
-      let inside : reached own.side own.limit p ≡ true = subst (λ (l : Option ℕ). IfSome l (λ q. reached own.side own.limit q ≡ true)) limit k.inside in
+      let inside : reaches_price own.side own.limit p ≡ true = subst (λ (l : Option ℕ). IfSome l (λ q. reaches_price own.side own.limit q ≡ true)) limit k.inside in
       let unreached : next_reaches own.side own.next p ≡ false =
-      unreached_at p own.next (subst (λ (l : Option ℕ). IfSome own.next (λ next. reached (opposite own.side) l next.0 ≡ false)) limit (unreached_other none)) in
+      unreached_at p own.next (subst (λ (l : Option ℕ). IfSome own.next (λ next. reaches_price (opposite own.side) l next.0 ≡ false)) limit (unreached_other none)) in
       let below = own_below own.next refl p unreached in
       let above = own_above p inside in
       let units : other.units ≡ accepting phase orders (opposite own.side) p =
@@ -367,12 +367,12 @@ module _ (phase : Phase) (orders : List Order) (own other : Depth) (k : IsCrossi
       (λ own_y. pass_next p y own.next unreached (w.own_first y c own_y))
       (λ other_y. subst (λ (l : Option ℕ). limit_passes l y ≡ true) limit (w.other_first y c other_y)))
 
-  no_next : (o : Option (ℕ × ℕ)) (y : ℕ) → IfSome o (λ next. reached (opposite own.side) None next.0 ≡ false) → next_reaches own.side o y ≡ true → ⊥
+  no_next : (o : Option (ℕ × ℕ)) (y : ℕ) → IfSome o (λ next. reaches_price (opposite own.side) None next.0 ≡ false) → next_reaches own.side o y ≡ true → ⊥
   no_next None y h i = cc
   no_next (Some next) y h i = cc
 
   pub best-nowhere : Walked → level_reached other own.next ≡ None → other.limit ≡ None → None ≡ best_covered phase orders own.side
   best-nowhere w none limit =
       none-covered phase orders own.side (λ y in_y c. either_first (of-candidate phase orders own.side y in_y)
-      (λ own_y. no_next own.next y (subst (λ (l : Option ℕ). IfSome own.next (λ next. reached (opposite own.side) l next.0 ≡ false)) limit (unreached_other none)) (w.own_first y c own_y))
+      (λ own_y. no_next own.next y (subst (λ (l : Option ℕ). IfSome own.next (λ next. reaches_price (opposite own.side) l next.0 ≡ false)) limit (unreached_other none)) (w.own_first y c own_y))
       (λ other_y. both_ways (limit_passes None y) refl (subst (λ (l : Option ℕ). limit_passes l y ≡ true) limit (w.other_first y c other_y))))

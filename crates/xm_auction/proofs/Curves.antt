@@ -6,16 +6,15 @@ use Rattle.std.proofs.lemmas.Bool.{both_ways, not-true, not_from_false, not_from
 use Rattle.std.proofs.lemmas.Bool.Decides.{nat_tests}
 use Rattle.std.proofs.lemmas.List.Elements.{All-contains_itself, All-weaker, Contains-append_cases, Contains-append_left, Contains-append_right, filter_map-append}
 use Rattle.std.proofs.lemmas.List.Sums.{sum_by-cons, sum_by-le-sum_by}
-use Rattle.xm_auction.specs.Depths.{units_to, depth_at, reached, later, orders_left}
+use Rattle.xm_auction.specs.Depths.{units_to, depth_at, reaches_price, later, orders_left}
 use Rattle.xm_auction.specs.declared.depth.Depth.{Depth}
 use Rattle.xm_auction.proofs.Bests.{Bests, best-says, reaches-on, reaches-other, reaches-itself}
 use Rattle.xm_slots.proofs.Members.{Contains-filter, Contains-none, Contains-filter_map, Passes-filter}
 use Rattle.xm_book.specs.Queues.{level_after, limits_after, market_sum, units_at}
-use Rattle.xm_ladders.specs.Ladder.{same_kind}
 use Rattle.xm_rules.specs.Active.{Positioned, active, is_active_on, limits, positioned_from}
 use Rattle.xm_rules.specs.Auction.{accepting, candidates}
 use Rattle.xm_rules.specs.Commands.{is_in_range}
-use Rattle.xm_rules.specs.Orders.{accepts, limit_of}
+use Rattle.xm_rules.specs.Orders.{accepts, limit_of, same_kind}
 use Rattle.xm_rules.specs.Sides.{best, opposite, reaches}
 use Rattle.xm_rules.specs.declared.orders.Order.{Order}
 use Rattle.xm_rules.specs.declared.orders.OrderKind.{OrderKind}
@@ -131,14 +130,14 @@ next-adds phase side after orders p n next =
     omega (arith, same, parts, own, are, units_to-is phase side after orders)
 
 -- ---- the units at other prices
-counted_on : (side : Side) (after : Option ℕ) (k : OrderKind) (x : ℕ) → reached side after x ≡ true → counted side after k ≡ true → accepts side k x ≡ true
+counted_on : (side : Side) (after : Option ℕ) (k : OrderKind) (x : ℕ) → reaches_price side after x ≡ true → counted side after k ≡ true → accepts side k x ≡ true
 counted_on side None Market x r c = refl
 counted_on side None (Limit q) x r c = absurd (cc)
 counted_on side (Some a) Market x r c = refl
 counted_on side (Some a) (Limit q) x r c = reaches-on side q a x c r
 
 -- no fewer accept a price that a limit reaches
-pub reached-more : (phase : Phase) (side : Side) (after : Option ℕ) (orders : List Order) (x : ℕ) → reached side after x ≡ true
+pub reached-more : (phase : Phase) (side : Side) (after : Option ℕ) (orders : List Order) (x : ℕ) → reaches_price side after x ≡ true
     → units_to phase side after orders ≤ accepting phase orders side x
 reached-more phase side after orders x r =
     let more = sum_by-le-sum_by (λ (i : Positioned). if counted side after i.order.kind then units i else 0) (λ (i : Positioned). if accepts side i.order.kind x then units i else 0) (active phase side orders)
@@ -258,7 +257,7 @@ unreached-below phase d orders o is next x r =
     let units = ap (λ (e : Depth). e.units) is in
     omega (arith, units, unreached-no_more phase d.side d.limit orders x (ap (λ (n : Option (ℕ × ℕ)). next_reaches d.side n x) after ∙ r))
 
-pub reached-above : (phase : Phase) (d : Depth) (orders : List Order) → d ≡ depth_at phase d.side d.limit orders → (x : ℕ) → reached d.side d.limit x ≡ true
+pub reached-above : (phase : Phase) (d : Depth) (orders : List Order) → d ≡ depth_at phase d.side d.limit orders → (x : ℕ) → reaches_price d.side d.limit x ≡ true
     → d.units ≤ accepting phase orders d.side x
 reached-above phase d orders is x r = let units = ap (λ (e : Depth). e.units) is in omega (arith, units, reached-more phase d.side d.limit orders x r)
 
@@ -277,9 +276,9 @@ short-none phase side d orders units same is none short =
     subst (λ (s : Side). (x : ℕ) → accepting phase orders s x < units) same (λ x. omega (arith, unreached-below phase d orders None is none x refl))
 
 pub short-more : (phase : Phase) (d e : Depth) (orders : List Order) (units : ℕ) (level : ℕ × ℕ) → d ≡ depth_at phase d.side d.limit orders → d.next ≡ Some level → d.units < units
-    → e ≡ depth_at phase d.side (Some level.0) orders → (x : ℕ) → reached e.side e.limit x ≡ false → accepting phase orders e.side x < units
+    → e ≡ depth_at phase d.side (Some level.0) orders → (x : ℕ) → reaches_price e.side e.limit x ≡ false → accepting phase orders e.side x < units
 short-more phase d e orders units level is next short made =
-    subst (λ (f : Depth). (x : ℕ) → reached f.side f.limit x ≡ false → accepting phase orders f.side x < units) (sym made)
+    subst (λ (f : Depth). (x : ℕ) → reaches_price f.side f.limit x ≡ false → accepting phase orders f.side x < units) (sym made)
     (λ x r. omega (arith, unreached-below phase d orders (Some level) is next x r))
 
 -- ---- the limits of both sides are the candidates

@@ -1,4 +1,6 @@
 -- Who owns the units of a call: the owner of the next unit has what is left of the best order of its side.
+use Rattle.xm_book.specs.Listing.{order_owner, order_reference}
+use Rattle.xm_slots.specs.Naming.{have_own_names}
 use Rattle.std.proofs.Common.{◌≡◌, ℕ, ◌+◌, ◌-◌, ◌<◌, ◌≤◌, min, Bool, true, false, ◌&&◌, if◌then◌else◌, List, [], ◌∷◌, sum_by, Contains, Some, refl, sym, ap, ◌∙◌, ◌⊎◌, inl, inr, arith}
 use Rattle.std.proofs.lemmas.Bool.{and_from, and_parts, or_cases}
 use Rattle.std.proofs.lemmas.List.Sums.{sum_by-cons}
@@ -6,7 +8,6 @@ use Rattle.xm_book.proofs.Cutting.{IsOther}
 use Rattle.xm_book.proofs.Remaining.{best_left, lessened}
 use Rattle.xm_book.proofs.Taking.{TakesFrom, taken_is}
 use Rattle.xm_book.specs.Queues.{best_order, taken_from_any, taken_from_best}
-use Rattle.xm_book.specs.TimeList.{have_own_names}
 use Rattle.xm_book.proofs.Joining.{side-itself}
 use Rattle.xm_slots.proofs.Members.{Contains-filter, Contains-here, Contains-there, Passes-filter}
 use Rattle.xm_rules.specs.Active.{Positioned, is_active, is_active_on, positioned_from}
@@ -168,7 +169,7 @@ module _ (u : Uncrossing) (side : Side) (to : Side → ℕ) (x : Positioned) (ne
       (let h = next.from in let l = next.to in let s = share_now in omega arith)
       (λ i at h. let all = ahead_has_all u side (to side) x next i at h in let s = on_side u to side i at in omega arith)
 
-  module _ (own : have_own_names u.orders ≡ true) (n : ℕ) (some : 0 < n) (within : n ≤ first_unit u side x + units x - to side) where
+  module _ (own : have_own_names order_owner order_reference u.orders ≡ true) (n : ℕ) (some : 0 < n) (within : n ≤ first_unit u side x + units x - to side) where
     not_active : (v : Uncrossing) (i : Positioned) → is_active (phase_of v) i.order.restriction ≡ false → allotted v i ≡ 0
     not_active v i e =
         ap (λ (b : Bool). if (b && same_side i.order.side i.order.side) && at_price v i.order.side i then end_unit v i.order.side i - first_unit v i.order.side i else 0) e

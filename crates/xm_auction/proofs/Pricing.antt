@@ -4,14 +4,15 @@ use Rattle.std.specs.Prelude.{nat_le, nat_lt, option_map, unwrap_or}
 use Rattle.std.proofs.lemmas.Bool.{and_parts, eqb-true, false_from_ne_true, leb-true, le-leb, ltb-true}
 use Rattle.std.proofs.lemmas.Bool.Decides.{nat_tests}
 use Rattle.xm_auction.specs.Covered.{best_covered, covered_at, covers}
-use Rattle.xm_auction.specs.Prices.{executed, is_better}
+use Rattle.xm_auction.specs.Prices.{executed, is_preferred}
 use Rattle.xm_auction.specs.declared.covered.Covered.{Covered}
 use Rattle.xm_auction.proofs.Bests.{Bests, best-says, reaches-once}
 use Rattle.xm_auction.proofs.Curves.{market-alone}
 use Rattle.xm_auction.proofs.Winners.{Beats, HasOther, IsCovered, NotWorse, Wins, beats-covers, beats-not_worse, chosen_of_both, chosen_of_none, chosen_of_side, covered-wins, either_covers, found_at, own-falls, other-rises, surplus_at, volume_kept}
 use Rattle.xm_slots.proofs.Members.{Contains-filter, Contains-here, Passes-filter}
 use Rattle.xm_book.specs.Queues.{market_sum}
-use Rattle.xm_rules.specs.Auction.{absolute_surplus, accepting, auction_price, candidates, kept_between, price_from, surplus, volume}
+use Rattle.xm_ticks.specs.Ranges.{kept_between}
+use Rattle.xm_rules.specs.Auction.{absolute_surplus, accepting, auction_price, candidates, price_from, surplus, volume}
 use Rattle.xm_rules.specs.Sides.{best, opposite}
 use Rattle.xm_rules.specs.declared.orders.Order.{Order}
 use Rattle.xm_rules.specs.declared.orders.Side.{Side}
@@ -32,13 +33,13 @@ better_by c d false e h =
     let parts = and_parts (c.volume == d.volume) (nat_lt c.surplus d.surplus) h in
     inr (eqb-true c.volume d.volume parts.0, ltb-true c.surplus d.surplus parts.1)
 
-pub better-says : (c d : Covered) → is_better c d ≡ true → (d.volume < c.volume) ⊎ ((c.volume ≡ d.volume) × (c.surplus < d.surplus))
+pub better-says : (c d : Covered) → is_preferred c d ≡ true → (d.volume < c.volume) ⊎ ((c.volume ≡ d.volume) × (c.surplus < d.surplus))
 better-says c d h = better_by c d (nat_lt d.volume c.volume) refl h
 
 tie_of : (m n a b : ℕ) → (nat_lt n m || ((m == n) && nat_lt a b)) ≡ false → (nat_lt m n || ((n == m) && nat_lt b a)) ≡ false → (m ≡ n) × (a ≡ b)
 tie_of m n a b h i = (grind (arith, nat_tests), grind (arith, nat_tests))
 
-pub neither-better : (c d : Covered) → is_better c d ≡ false → is_better d c ≡ false → (c.volume ≡ d.volume) × (c.surplus ≡ d.surplus)
+pub neither-better : (c d : Covered) → is_preferred c d ≡ false → is_preferred d c ≡ false → (c.volume ≡ d.volume) × (c.surplus ≡ d.surplus)
 neither-better c d h i = tie_of c.volume d.volume c.surplus d.surplus h i
 
 module _ (phase : Phase) (orders : List Order) where
@@ -114,7 +115,7 @@ module _ (phase : Phase) (orders : List Order) where
         by (inl more) = inl (omega (arith, cv, dv, more))
         by (inr less) = let a = less.0 in let b = less.1 in inr (omega (arith, cv, dv, a), omega (arith, cs, ds, b))
 
-  pub found-better : (side : Side) (last : ℕ) (c d : Covered) → Says side (Some c) → Says (opposite side) (Some d) → is_better c d ≡ true
+  pub found-better : (side : Side) (last : ℕ) (c d : Covered) → Says side (Some c) → Says (opposite side) (Some d) → is_preferred c d ≡ true
       → executed (c.price, c.volume) ≡ auction_price phase orders last
   found-better side last c d k l better =
       found_of_side side last c.price c.volume (sym (ap (λ (x : Covered). x.volume) k.0)) k.1 (beats_one side c d k.0 l.0 k.1 l.1 (better-says c d better)) (λ y at h. (d.price, l.1))
@@ -155,7 +156,7 @@ module _ (phase : Phase) (orders : List Order) where
       (chosen_of_both phase orders last x y w u (omega (arith, more)) (omega (arith, less))
       (λ z at h. k.first z at.there (own_surplus Buy z h)) (λ z at h. l.first z at.there (own_surplus Sell z h)))
 
-  pub found-tied : (last : ℕ) (b s : Covered) → Says Buy (Some b) → Says Sell (Some s) → b.price < s.price → is_better b s ≡ false → is_better s b ≡ false
+  pub found-tied : (last : ℕ) (b s : Covered) → Says Buy (Some b) → Says Sell (Some s) → b.price < s.price → is_preferred b s ≡ false → is_preferred s b ≡ false
       → executed (kept_between b.price s.price last, b.volume) ≡ auction_price phase orders last
   found-tied last b s k l apart not_b not_s =
       let tie = neither-better b s not_b not_s in

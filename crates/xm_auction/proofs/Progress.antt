@@ -1,13 +1,14 @@
 -- How far an allotment has come: what it has traded is that of the call with a lower volume, and each trade takes it on.
+use Rattle.xm_book.specs.Listing.{order_owner, order_reference}
+use Rattle.xm_slots.specs.Naming.{have_own_names}
 use Rattle.std.proofs.Common.{◌≡◌, ℕ, ◌+◌, ◌-◌, ◌<◌, ◌≤◌, min, max, Bool, true, false, if◌then◌else◌, IsSome, List, [], ◌∷◌, ◌++◌, length, length-append, append_assoc, append-nil, Option, Some, refl, sym, ap, subst, ◌∙◌, ◌⊎◌, inl, inr, arith}
 use Rattle.std.specs.List.{filter_map, flat_map, list_all}
-use Rattle.xm_auction.specs.Allotment.{Terms, trade_of_two}
+use Rattle.xm_auction.specs.Allotment.{TradeTerms, trade_of_two}
 use Rattle.xm_auction.proofs.NextTrade.{IsCut, cut_after, cut_at_first, nothing_traded, next_trade_last, trade_of_next}
 use Rattle.xm_auction.proofs.Owners.{IsNext, NextOf, allotted_to, best_now, best_taken, next_of, phase_of, raised, rest_now, upto}
 use Rattle.xm_book.proofs.Remaining.{all_kept, lessened}
 use Rattle.xm_book.proofs.Shortening.{no_more, one_less, some_there}
 use Rattle.xm_book.specs.Queues.{best_order, taken_from, taken_from_any, taken_from_best}
-use Rattle.xm_book.specs.TimeList.{have_own_names}
 use Rattle.xm_book.proofs.Cutting.{none_given}
 use Rattle.xm_slots.proofs.Tests.{same_some}
 use Rattle.xm_rules.specs.Active.{Positioned}
@@ -25,10 +26,10 @@ use Rattle.xm_rules.proofs.Queues.{units}
 
 -- ---- the premises, and how far it has come
 pub record CanBeAllotted (u : Uncrossing) : Type 0 where
-  pub own : have_own_names u.orders ≡ true
+  pub own : have_own_names order_owner order_reference u.orders ≡ true
   pub volume : u.volume ≤ executable (phase_of u) u.orders u.price
 
-abbrev pub terms_of : ℕ → Uncrossing → Terms
+abbrev pub terms_of : ℕ → Uncrossing → TradeTerms
 terms_of number u = record { sweep = number; kind = Auction u.auction u.stage; price = u.price }
 
 pub record Progress (u : Uncrossing) (number left : ℕ) (now : List Order) (old made : List Trade) (before room : ℕ) : Type 0 where

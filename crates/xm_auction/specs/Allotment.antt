@@ -18,11 +18,11 @@ abbrev pub UsesUpOrders : ℕ → Uncrossing → Type 0
 UsesUpOrders sweep u = length (orders_after_call u) + length (auction_trades sweep u) ≤ length u.orders + 1
 
 -- where the trades of a sweep are made, and at which price
-pub record Terms : Type 0 where
+pub record TradeTerms : Type 0 where
   pub sweep : ℕ
   pub kind : TradeKind
   pub price : ℕ
 
 -- a buy and a sell trade what both have, and no more than so many units
-abbrev pub trade_of_two : Terms → ℕ → Order → Order → Trade
+abbrev pub trade_of_two : TradeTerms → ℕ → Order → Order → Trade
 trade_of_two t units b s = trade_between t.sweep t.kind t.price (min (min b.rest s.rest) units) Buy b s

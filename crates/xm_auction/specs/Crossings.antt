@@ -1,6 +1,6 @@
 -- How far the curves of a side and of the other were walked.
 use Rattle.std.specs.Prelude.{◌≡◌, ℕ, ◌+◌, ◌<◌, ◌≤◌, true, false, List, Contains, None, IfSome}
-use Rattle.xm_auction.specs.Depths.{depth_at, level_reached, reached}
+use Rattle.xm_auction.specs.Depths.{depth_at, level_reached, reaches_price}
 use Rattle.xm_auction.specs.declared.depth.Depth.{Depth}
 use Rattle.xm_rules.specs.Auction.{accepting, candidates}
 use Rattle.xm_rules.specs.Sides.{opposite, reaches}
@@ -15,12 +15,12 @@ pub record IsCrossing (phase : Phase) (orders : List Order) (own other : Depth) 
   pub own_limit : IfSome own.limit (Contains (candidates phase orders))
   pub other_limit : IfSome other.limit (Contains (candidates phase orders))
   pub covered : other.units ≤ own.units
-  pub inside : IfSome other.limit (λ p. reached own.side own.limit p ≡ true)
-  pub beyond : (x : ℕ) → reached own.side own.limit x ≡ false → accepting phase orders own.side x < accepting phase orders (opposite own.side) x
+  pub inside : IfSome other.limit (λ p. reaches_price own.side own.limit p ≡ true)
+  pub beyond : (x : ℕ) → reaches_price own.side own.limit x ≡ false → accepting phase orders own.side x < accepting phase orders (opposite own.side) x
 
 -- where the limit reaches the other side's next level, the side doesn't cover that one with it, and has no level before it
-abbrev pub IsLast : Depth → Depth → Type 0
-IsLast own other =
+abbrev pub IsAtEnd : Depth → Depth → Type 0
+IsAtEnd own other =
     IfSome (level_reached own other.next) (λ level. (own.units < other.units + level.1) × IfSome own.next (λ next. reaches own.side next.0 level.0 ≡ false))
 
 -- the best price at which the side covers the other is no longer its limit

@@ -19,9 +19,9 @@ depth_at phase side limit orders =
     record { side = side; limit = limit; units = units_to phase side limit orders; next = level_after phase side limit orders }
 
 -- a limit reaches a price; where there is no limit, each price is reached
-abbrev pub reached : Side → Option ℕ → ℕ → Bool
-reached side None x = true
-reached side (Some p) x = reaches side p x
+abbrev pub reaches_price : Side → Option ℕ → ℕ → Bool
+reaches_price side None x = true
+reaches_price side (Some p) x = reaches side p x
 
 -- a limit comes after another; after none, each does
 abbrev pub later : Side → Option ℕ → ℕ → Bool
@@ -35,4 +35,4 @@ orders_left phase side after orders = sum_by (λ (q : ℕ). if later side after 
 -- the next level, where the limit of another depth reaches it
 abbrev pub level_reached : Depth → Option (ℕ × ℕ) → Option (ℕ × ℕ)
 level_reached from None = None
-level_reached from (Some level) = if reached from.side from.limit level.0 then Some level else None
+level_reached from (Some level) = if reaches_price from.side from.limit level.0 then Some level else None

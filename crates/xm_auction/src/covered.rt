@@ -1,10 +1,10 @@
 //! The best price at which the units of a side cover those of the other.
 ghost use Rattle.std.specs.Prelude.{◌≡◌, ◌-◌, ◌+◌, ◌≤◌, ◌<◌, IsTrue, None, false};
 ghost use Rattle.xm_auction.specs.Covered.{best_covered};
-ghost use Rattle.xm_auction.specs.Crossings.{IsCrossing, IsLast, IsPassed};
+ghost use Rattle.xm_auction.specs.Crossings.{IsCrossing, IsAtEnd, IsPassed};
 ghost use Rattle.xm_auction.specs.Depths.{depth_at, orders_left};
 ghost use Rattle.xm_rules.specs.Sides.{opposite};
-ghost use Rattle.xm_auction.specs.Prices.{is_better};
+ghost use Rattle.xm_auction.specs.Prices.{is_preferred};
 
 use crate::depth::Depth;
 use std::alloc::Allocator;
@@ -35,8 +35,8 @@ impl Covered {
     }
 
     /// Whether it has more volume than another, or as much and less surplus.
-    pub fn is_better(&self, other: &Covered) -> bool
-        ensures { result ≡ is_better self.now other.now }
+    pub fn is_preferred(&self, other: &Covered) -> bool
+        ensures { result ≡ is_preferred self.now other.now }
     {
         self.volume > other.volume || (self.volume == other.volume && self.surplus < other.surplus)
     }
@@ -78,7 +78,7 @@ impl Crossing {
         ensures fewer { IsTrue result
             → orders_left phase self.new.own.side self.new.own.limit book.now.orders + orders_left phase self.new.other.side self.new.other.limit book.now.orders
             < orders_left phase self.old.own.side self.old.own.limit book.now.orders + orders_left phase self.old.other.side self.old.other.limit book.now.orders }
-        ensures last { result ≡ false → IsLast self.new.own self.new.other }
+        ensures last { result ≡ false → IsAtEnd self.new.own self.new.other }
     {
         let level = match self.other.next_reached(&self.own) {
             None => return false,
@@ -103,7 +103,7 @@ impl Crossing {
     /// The best candidate at which the side covers the other, once the curves were walked.
     fn best<A: Allocator + Copy>(&self, book: &Book<A>, phase: Phase) -> Option<Covered>
         requires crossing { IsCrossing phase book.now.orders self.now.own self.now.other }
-        requires last { IsLast self.now.own self.now.other }
+        requires last { IsAtEnd self.now.own self.now.other }
         ensures { result ≡ best_covered phase book.now.orders self.now.own.side }
     {
         let limit = self.own.limit;
@@ -119,7 +119,7 @@ impl Crossing {
     /// The better of the own next level and the other's limit.
     fn best_passed<A: Allocator + Copy>(&self, book: &Book<A>, phase: Phase) -> Option<Covered>
         requires crossing { IsCrossing phase book.now.orders self.now.own self.now.other }
-        requires last { IsLast self.now.own self.now.other }
+        requires last { IsAtEnd self.now.own self.now.other }
         requires passed { IsPassed self.now.own self.now.other }
         ensures { result ≡ best_covered phase book.now.orders self.now.own.side }
     {

@@ -1,6 +1,6 @@
 //! The curve of a side, from its best limit on.
 ghost use Rattle.std.specs.Prelude.{◌≡◌, ◌≤◌, ◌<◌, ℕ, Some, None, Contains, false, IfSome, IfNone};
-ghost use Rattle.xm_auction.specs.Depths.{depth_at, level_reached, reached};
+ghost use Rattle.xm_auction.specs.Depths.{depth_at, level_reached, reaches_price};
 ghost use Rattle.xm_rules.specs.Auction.{accepting, candidates};
 
 use std::alloc::Allocator;
@@ -53,8 +53,8 @@ impl Depth {
     }
 
     /// Whether the limit reaches a price.
-    pub fn reached(&self, price: Price) -> bool
-        ensures { result ≡ reached self.now.side self.now.limit price }
+    pub fn reaches_price(&self, price: Price) -> bool
+        ensures { result ≡ reaches_price self.now.side self.now.limit price }
     {
         match self.limit {
             None => true,
@@ -69,7 +69,7 @@ impl Depth {
         match self.next {
             None => None,
             Some(level) => {
-                if from.reached(level.0) {
+                if from.reaches_price(level.0) {
                     Some(level)
                 } else {
                     None
@@ -89,7 +89,7 @@ impl Depth {
         ensures depth { IfSome result (λ d. d ≡ depth_at phase self.now.side d.limit book.now.orders) }
         ensures limit { IfSome result (λ d. IfSome d.limit (Contains (candidates phase book.now.orders))) }
         ensures enough { IfSome result (λ d. units ≤ d.units) }
-        ensures before { IfSome result (λ d. (x : ℕ) → reached self.now.side d.limit x ≡ false → accepting phase book.now.orders self.now.side x < units) }
+        ensures before { IfSome result (λ d. (x : ℕ) → reaches_price self.now.side d.limit x ≡ false → accepting phase book.now.orders self.now.side x < units) }
         ensures none { IfNone result ((x : ℕ) → accepting phase book.now.orders self.now.side x < units) }
     {
         let mut depth = *self;

@@ -1,8 +1,8 @@
 //! The price of a call.
 ghost use Rattle.std.specs.Prelude.{◌≡◌, List, Some};
 ghost use Rattle.xm_auction.specs.Covered.{best_covered};
-ghost use Rattle.xm_auction.specs.Prices.{IsFound, executed};
-ghost use Rattle.xm_rules.specs.Auction.{auction_price, kept_between};
+ghost use Rattle.xm_auction.specs.Prices.{IsPriceOfCall, executed};
+ghost use Rattle.xm_rules.specs.Auction.{auction_price};
 ghost use Rattle.xm_rules.specs.declared.orders.Order.{Order};
 ghost use Rattle.xm_rules.specs.declared.orders.Side.TheVariants.{Buy, Sell};
 ghost use Rattle.xm_rules.specs.declared.phases.Phase.{Phase};
@@ -47,7 +47,7 @@ fn found_price(
     reference: Price,
 ) -> Option<(Price, u64)>
     ensures { (phase : Phase) (orders : List Order) → buys ≡ best_covered phase orders Buy → sells ≡ best_covered phase orders Sell
-        → IsFound phase orders reference result }
+        → IsPriceOfCall phase orders reference result }
 {
     match buys {
         None => match sells {
@@ -65,29 +65,16 @@ fn found_price(
 /// side has a surplus, as they are then the highest and the lowest candidate without one.
 fn price_between(buy: &Covered, sell: &Covered, reference: Price) -> (Price, u64)
     ensures { (phase : Phase) (orders : List Order) → Some buy.now ≡ best_covered phase orders Buy → Some sell.now ≡ best_covered phase orders Sell
-        → IsFound phase orders reference (Some result) }
+        → IsPriceOfCall phase orders reference (Some result) }
 {
     if sell.price.get() <= buy.price.get() {
-        return (kept_between(sell.price, buy.price, reference), buy.volume);
+        return (reference.kept_between(sell.price, buy.price), buy.volume);
     }
-    if buy.is_better(sell) {
+    if buy.is_preferred(sell) {
         (buy.price, buy.volume)
-    } else if sell.is_better(buy) {
+    } else if sell.is_preferred(buy) {
         (sell.price, sell.volume)
     } else {
-        (kept_between(buy.price, sell.price, reference), buy.volume)
-    }
-}
-
-/// The last price, kept between two prices.
-fn kept_between(low: Price, high: Price, last: Price) -> Price
-    ensures { result ≡ kept_between low high last }
-{
-    if last.get() <= low.get() {
-        low
-    } else if high.get() <= last.get() {
-        high
-    } else {
-        last
+        (reference.kept_between(buy.price, sell.price), buy.volume)
     }
 }

@@ -1,12 +1,13 @@
 -- How far a sweep has come: what it has filled is what it fills for an incoming order with fewer units, and the next order is
 -- the first of those that it has not reached.
+use Rattle.xm_book.specs.Listing.{order_owner, order_reference}
+use Rattle.xm_slots.specs.Naming.{have_own_names}
 use Rattle.std.proofs.Common.{◌≡◌, ℕ, ◌+◌, ◌-◌, ◌<◌, ◌≤◌, min, Bool, true, false, if◌then◌else◌, List, [], ◌∷◌, filter, sum_by, Contains, refl, sym, ap, subst, ◌⊎◌, inl, inr, arith}
 use Rattle.std.specs.List.{list_all}
 use Rattle.std.specs.Prelude.{nat_le}
 use Rattle.std.proofs.lemmas.Bool.{and_from, and_parts, both_ways, false_from_ne_true}
 use Rattle.std.proofs.lemmas.Bool.Decides.{nat_tests}
 use Rattle.std.proofs.lemmas.List.Elements.{All-contains_itself}
-use Rattle.xm_book.specs.TimeList.{have_own_names}
 use Rattle.xm_book.proofs.Firsts.{one_or_ahead}
 use Rattle.xm_slots.proofs.Members.{Contains-cases, Contains-filter, Contains-here, Contains-none, Contains-there, Passes-filter}
 use Rattle.xm_book.proofs.Naming.{contains_order}
@@ -63,7 +64,7 @@ upto rest w = record w { incoming = (let o = w.incoming in record o { rest = res
 
 -- what a book keeps
 pub record IsSound (w : Sweep) : Type 0 where
-  pub own : have_own_names w.orders ≡ true
+  pub own : have_own_names order_owner order_reference w.orders ≡ true
   pub rests : list_all (λ (o : Order). is_in_range o.rest) w.orders ≡ true
 
 pub in_list : (w : Sweep) (i : Positioned) → Contains (queue w) i → Contains (positioned_from 0 w.orders) i

@@ -2,7 +2,7 @@
 use Rattle.std.proofs.Common.{◌≡◌, ℕ, Bool, true, false, ◌&&◌, ◌==◌, if◌then◌else◌, List, Option, Some, None, refl, subst, arith}
 use Rattle.std.specs.Prelude.{nat_lt}
 use Rattle.std.proofs.lemmas.Bool.Decides.{nat_tests}
-use Rattle.xm_match.specs.Meeting.{best_of, is_inside, is_met, is_outside, meets_inside, next_met, next_of_any, trade_with}
+use Rattle.xm_match.specs.Meeting.{best_of, is_inside, is_kind_met, is_outside, meets_inside, next_met, next_of_any, trade_up_to}
 use Rattle.xm_match.specs.declared.meeting.Next.TheVariants.{Nothing, Inside, Outside}
 use Rattle.xm_match.specs.declared.terms.Terms.{Terms}
 use Rattle.xm_rules.specs.declared.orders.Order.{Order}
@@ -10,7 +10,7 @@ use Rattle.xm_rules.specs.declared.orders.Trade.{Trade}
 
 abbrev pub trade_if_met : ℕ → Terms → ℕ → Option Order → Option Trade
 trade_if_met number t units None = None
-trade_if_met number t units (Some o) = if nat_lt 0 units && meets_inside t o.kind then Some (trade_with number t units o) else None
+trade_if_met number t units (Some o) = if nat_lt 0 units && meets_inside t o.kind then Some (trade_up_to number t units o) else None
 
 -- the trade with the best order of the other side, where there is one that is met inside both ranges, and units are left
 abbrev pub next_trade : ℕ → Terms → ℕ → List Order → Option Trade
@@ -18,7 +18,7 @@ next_trade number t units orders = trade_if_met number t units (best_of t orders
 
 abbrev pub is_met_if : Terms → Option Order → Bool
 is_met_if t None = false
-is_met_if t (Some o) = is_met t o.kind
+is_met_if t (Some o) = is_kind_met t o.kind
 
 -- units are left, and there is a best order of the other side that is met, inside the ranges or not
 abbrev pub interrupts : Terms → ℕ → List Order → Bool
@@ -33,15 +33,15 @@ none_left units e = grind (arith, nat_tests)
 -- ---- an order that is met inside both ranges
 pub record IsInside (t : Terms) (units : ℕ) (found : Option Order) (o : Order) : Type 0 where
   pub best : found ≡ Some o
-  pub trade : (number : ℕ) → trade_if_met number t units found ≡ Some (trade_with number t units o)
+  pub trade : (number : ℕ) → trade_if_met number t units found ≡ Some (trade_up_to number t units o)
 
-inside_at : (t : Terms) (units : ℕ) (m o : Order) (a b : Bool) → is_met t m.kind ≡ a → is_inside t m.kind ≡ b → nat_lt 0 units ≡ true
+inside_at : (t : Terms) (units : ℕ) (m o : Order) (a b : Bool) → is_kind_met t m.kind ≡ a → is_inside t m.kind ≡ b → nat_lt 0 units ≡ true
     → (if a then (if b then Inside m else Outside) else Nothing) ≡ Inside o → IsInside t units (Some m) o
 inside_at t units m o true true e f some h =
     let same : m ≡ o = cc in
     subst (λ (z : Order). IsInside t units (Some m) z) same (record {
       best = refl;
-      trade = λ number. (λ i. if some i && (e i && f i) then Some (trade_with number t units m) else None);
+      trade = λ number. (λ i. if some i && (e i && f i) then Some (trade_up_to number t units m) else None);
     })
 inside_at t units m o true false e f some h = absurd (cc)
 inside_at t units m o false b e f some h = absurd (cc)
@@ -49,7 +49,7 @@ inside_at t units m o false b e f some h = absurd (cc)
 inside_by : (t : Terms) (units : ℕ) (found : Option Order) (o : Order) (z : Bool) → (units == 0) ≡ z → (if z then Nothing else next_of_any t found) ≡ Inside o → IsInside t units found o
 inside_by t units found o true e h = absurd (cc)
 inside_by t units None o false e h = absurd (cc)
-inside_by t units (Some m) o false e h = inside_at t units m o (is_met t m.kind) (is_inside t m.kind) refl refl (some_left units e) h
+inside_by t units (Some m) o false e h = inside_at t units m o (is_kind_met t m.kind) (is_inside t m.kind) refl refl (some_left units e) h
 
 pub inside : (t : Terms) (units : ℕ) (orders : List Order) (o : Order) → next_met t units orders ≡ Inside o → IsInside t units (best_of t orders) o
 inside t units orders o h = inside_by t units (best_of t orders) o (units == 0) refl h
@@ -59,31 +59,31 @@ pub record IsEnd (t : Terms) (units : ℕ) (found : Option Order) (outside : Boo
   pub none : (number : ℕ) → trade_if_met number t units found ≡ None
   pub interrupted : (nat_lt 0 units && is_met_if t found) ≡ outside
 
-end_at : (t : Terms) (units : ℕ) (m : Order) (a b : Bool) → is_met t m.kind ≡ a → is_inside t m.kind ≡ b → nat_lt 0 units ≡ true
+end_at : (t : Terms) (units : ℕ) (m : Order) (a b : Bool) → is_kind_met t m.kind ≡ a → is_inside t m.kind ≡ b → nat_lt 0 units ≡ true
     → ((o : Order) → (if a then (if b then Inside m else Outside) else Nothing) ≡ Inside o → ⊥)
     → IsEnd t units (Some m) (is_outside (if a then (if b then Inside m else Outside) else Nothing))
 end_at t units m true true e f some never = absurd (never m refl)
 end_at t units m true false e f some never = record {
-  none = λ number. (λ i. if some i && (e i && f i) then Some (trade_with number t units m) else None);
+  none = λ number. (λ i. if some i && (e i && f i) then Some (trade_up_to number t units m) else None);
   interrupted = (λ i. some i && e i);
 }
 end_at t units m false b e f some never = record {
-  none = λ number. (λ i. if some i && (e i && is_inside t m.kind) then Some (trade_with number t units m) else None);
+  none = λ number. (λ i. if some i && (e i && is_inside t m.kind) then Some (trade_up_to number t units m) else None);
   interrupted = (λ i. some i && e i);
 }
 
 no_units : (t : Terms) (units : ℕ) (found : Option Order) → nat_lt 0 units ≡ false → IsEnd t units found false
 no_units t units None e = record { none = λ number. refl; interrupted = (λ i. e i && false) }
 no_units t units (Some m) e = record {
-  none = λ number. (λ i. if e i && meets_inside t m.kind then Some (trade_with number t units m) else None);
-  interrupted = (λ i. e i && is_met t m.kind);
+  none = λ number. (λ i. if e i && meets_inside t m.kind then Some (trade_up_to number t units m) else None);
+  interrupted = (λ i. e i && is_kind_met t m.kind);
 }
 
 end_by : (t : Terms) (units : ℕ) (found : Option Order) (z : Bool) → (units == 0) ≡ z → ((o : Order) → (if z then Nothing else next_of_any t found) ≡ Inside o → ⊥)
     → IsEnd t units found (is_outside (if z then Nothing else next_of_any t found))
 end_by t units found true e never = no_units t units found (none_left units e)
 end_by t units None false e never = record { none = λ number. refl; interrupted = (λ i. some_left units e i && false) }
-end_by t units (Some m) false e never = end_at t units m (is_met t m.kind) (is_inside t m.kind) refl refl (some_left units e) never
+end_by t units (Some m) false e never = end_at t units m (is_kind_met t m.kind) (is_inside t m.kind) refl refl (some_left units e) never
 
 pub at_end : (t : Terms) (units : ℕ) (orders : List Order) → ((o : Order) → next_met t units orders ≡ Inside o → ⊥) → IsEnd t units (best_of t orders) (is_outside (next_met t units orders))
 at_end t units orders never = end_by t units (best_of t orders) (units == 0) refl never

@@ -7,7 +7,7 @@ use Rattle.xm_slots.proofs.Tests.{same_some, some_none}
 use Rattle.xm_slots.proofs.Members.{Passes-filter}
 use Rattle.xm_book.proofs.Remaining.{all_kept, lessened, no_best_left}
 use Rattle.xm_book.proofs.Shortening.{no_more, one_less, some_there}
-use Rattle.xm_match.specs.Meeting.{is_met, meets_inside, next_met, price_met, terms_of, trade_with}
+use Rattle.xm_match.specs.Meeting.{is_kind_met, meets_inside, next_met, price_of_kind, terms_of, trade_up_to}
 use Rattle.xm_match.specs.declared.meeting.Next.TheVariants.{Inside}
 use Rattle.xm_match.proofs.Cuts.{AllDone, IsCut, IsDone, IsNext, IsSound, executable_next, fill_past, filled_whole, next_or_all, some_units, upto}
 use Rattle.xm_match.proofs.NextTrade.{inside, next_trade, trade_if_met}
@@ -28,14 +28,14 @@ use Rattle.xm_rules.proofs.Queues.{units}
 use Rattle.xm_rules.proofs.Sweeps.{filled_within}
 
 -- ---- the terms say what the rules say
-pub price_same : (w : Sweep) (kind : OrderKind) → price_met (terms_of w) kind ≡ rules.price_met w kind
+pub price_same : (w : Sweep) (kind : OrderKind) → price_of_kind (terms_of w) kind ≡ rules.price_met w kind
 price_same w Market = refl
 price_same w (Limit p) = refl
 
 pub on_side : (w : Sweep) (m : Positioned) → Contains (queue w) m → is_active_on Continuous (other_side w) m ≡ true
 on_side w m at = let p = Passes-filter (is_active_on Continuous (other_side w)) (positioned_from 0 w.orders) m at in p.passes
 
-pub met_same : (w : Sweep) (m : Positioned) → Contains (queue w) m → is_met (terms_of w) m.order.kind ≡ rules.is_met w m
+pub met_same : (w : Sweep) (m : Positioned) → Contains (queue w) m → is_kind_met (terms_of w) m.order.kind ≡ rules.is_met w m
 met_same w m at = sym (ap (λ (b : Bool). b && meets w.incoming.side w.incoming.kind m.order.kind) (on_side w m at))
 
 pub inside_same : (w : Sweep) (m : Positioned) → Contains (queue w) m → meets_inside (terms_of w) m.order.kind ≡ is_met_inside w m
@@ -92,7 +92,7 @@ module _ (w : Sweep) (number left : ℕ) (now : List Order) (old made : List Tra
     rest_now : units m - fill (upto p.done w) m ≡ units m
     rest_now = let e = nothing_yet w number p.done s p.is_done (p.cut some) m next in omega arith
 
-    trade_same : trade_with number (terms_of w) left (lessened (fill (upto p.done w)) m) ≡ trade_of number w count m
+    trade_same : trade_up_to number (terms_of w) left (lessened (fill (upto p.done w)) m) ≡ trade_of number w count m
     trade_same =
         (λ i. trade_between number trade_kind.Continuous (price_same w m.order.kind i) (min (rest_now i) left) w.incoming.side w.incoming (lessened (fill (upto p.done w)) m))
         ∙ rest_apart_too number trade_kind.Continuous (meet_price w m) count w.incoming.side w.incoming m.order (units m - fill (upto p.done w) m)
@@ -179,7 +179,7 @@ module _ (w : Sweep) (number left : ℕ) (now : List Order) (old made : List Tra
   turn_if trade e (inr none) = absurd (some_none (e ∙ nothing_at_zero w number left (best_order Continuous (other_side w) now) none))
 
   -- the trade with an order that is met inside both ranges
-  pub turn : (o : Order) → next_met (terms_of w) left now ≡ Inside o → (trade : Trade) → trade ≡ trade_with number (terms_of w) left o
+  pub turn : (o : Order) → next_met (terms_of w) left now ≡ Inside o → (trade : Trade) → trade ≡ trade_up_to number (terms_of w) left o
       → Turn w number left now old made from room trade trade.quantity
   turn o met trade same = turn_if trade (ap (λ (t : Trade). Some t) same ∙ sym ((inside (terms_of w) left now o met).trade number)) (some_or_none left)
 

@@ -1,7 +1,7 @@
 -- A sweep that meets no order is at its end at once.
 use Rattle.std.proofs.Common.{◌≡◌, ℕ, ◌==◌, ◌≤◌, Bool, true, false, if◌then◌else◌, List, length, Option, Some, None, option_map, ◌&&◌, refl, sym, ap, ◌∙◌}
 use Rattle.std.specs.Prelude.{nat_lt}
-use Rattle.xm_match.specs.Meeting.{best_of, is_inside, is_met, meets_any, meets_kind, next_of, next_of_any, terms_of}
+use Rattle.xm_match.specs.Meeting.{best_of, is_inside, is_kind_met, meets_any, meets_kind, next_of, next_of_any, terms_of}
 use Rattle.xm_match.specs.declared.meeting.Next.TheVariants.{Nothing, Inside, Outside}
 use Rattle.xm_match.specs.declared.terms.Terms.{Terms}
 use Rattle.xm_match.proofs.Cuts.{IsSound}
@@ -27,7 +27,7 @@ never : (incoming : Order) (t : Terms) (found : Option Order) (b : Bool) (o : Or
 never incoming t found true o is e h = absurd (cc)
 never incoming t None false o is e h = absurd (cc)
 never incoming t (Some m) false o is e h =
-    let off : is_met t m.kind ≡ false = met_as incoming t (Some m) is ∙ e in
+    let off : is_kind_met t m.kind ≡ false = met_as incoming t (Some m) is ∙ e in
     let nothing : next_of t m ≡ Nothing = (λ i. if off i then (if is_inside t m.kind then Inside m else Outside) else Nothing) in
     let met : Nothing ≡ Inside o = sym nothing ∙ h in
     absurd (cc)

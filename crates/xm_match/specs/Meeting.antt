@@ -17,8 +17,8 @@ use Rattle.xm_rules.specs.declared.phases.Phase.TheVariants.{Continuous}
 use Rattle.xm_rules.specs.declared.settings.Widths.{Widths}
 
 -- an incoming order that finds this time list, at these references and widths of the ranges
-abbrev pub sweep_of : List Order → Order → ℕ → ℕ → Widths → rules.Sweep
-sweep_of orders incoming ref1 ref2 widths = record { ranges = record { ref1 = ref1; ref2 = ref2; widths = widths }; orders = orders; incoming = incoming }
+abbrev pub sweep_over : List Order → Order → ℕ → ℕ → Widths → rules.Sweep
+sweep_over orders incoming ref1 ref2 widths = record { ranges = record { ref1 = ref1; ref2 = ref2; widths = widths }; orders = orders; incoming = incoming }
 
 -- what of it is fixed before the first fill
 abbrev pub terms_of : rules.Sweep → Terms
@@ -27,30 +27,30 @@ terms_of w = record { incoming = w.incoming; ref1 = w.ranges.ref1; ref2 = w.rang
 abbrev pub ranges_of : Terms → Ranges
 ranges_of t = record { ref1 = t.ref1; ref2 = t.ref2; widths = t.widths }
 
-abbrev pub is_met : Terms → OrderKind → Bool
-is_met t kind = meets t.incoming.side t.incoming.kind kind
+abbrev pub is_kind_met : Terms → OrderKind → Bool
+is_kind_met t kind = meets t.incoming.side t.incoming.kind kind
 
-abbrev pub price_met : Terms → OrderKind → ℕ
-price_met t Market = t.market
-price_met t (Limit p) = p
+abbrev pub price_of_kind : Terms → OrderKind → ℕ
+price_of_kind t Market = t.market
+price_of_kind t (Limit p) = p
 
 abbrev pub is_inside : Terms → OrderKind → Bool
-is_inside t kind = inside_both (ranges_of t) (price_met t kind)
+is_inside t kind = inside_both (ranges_of t) (price_of_kind t kind)
 
 abbrev pub meets_inside : Terms → OrderKind → Bool
-meets_inside t kind = is_met t kind && is_inside t kind
+meets_inside t kind = is_kind_met t kind && is_inside t kind
 
 -- the best order of the other side, where there is one
 abbrev pub best_of : Terms → List Order → Option Order
 best_of t orders = best_order Continuous (opposite t.incoming.side) orders
 
 -- the trade of an order that is met, in what it has and no more than so many units
-abbrev pub trade_with : ℕ → Terms → ℕ → Order → Trade
-trade_with number t units o = trade_between number made.Continuous (price_met t o.kind) (min o.rest units) t.incoming.side t.incoming o
+abbrev pub trade_up_to : ℕ → Terms → ℕ → Order → Trade
+trade_up_to number t units o = trade_between number made.Continuous (price_of_kind t o.kind) (min o.rest units) t.incoming.side t.incoming o
 
 -- how an incoming order meets the best order of the other side
 abbrev pub next_of : Terms → Order → Next
-next_of t o = if is_met t o.kind then (if is_inside t o.kind then Inside o else Outside) else Nothing
+next_of t o = if is_kind_met t o.kind then (if is_inside t o.kind then Inside o else Outside) else Nothing
 
 abbrev pub next_of_any : Terms → Option Order → Next
 next_of_any t None = Nothing

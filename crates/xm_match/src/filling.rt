@@ -1,7 +1,8 @@
 //! Whether an incoming order can be executed whole.
 ghost use Rattle.std.specs.Prelude.{◌≡◌, ◌≤◌};
-ghost use Rattle.xm_match.specs.Meeting.{sweep_of};
+ghost use Rattle.xm_match.specs.Meeting.{sweep_over};
 ghost use Rattle.xm_rules.specs.Sweep.{is_fillable};
+ghost use Rattle.xm_ticks.specs.declared.ranges.TheConstants.{MAX_WIDTH};
 
 use crate::terms::Terms;
 use std::alloc::Allocator;
@@ -18,9 +19,9 @@ pub fn fillable<A: Allocator + Copy>(
     ref2: Price,
     widths: &Widths,
 ) -> bool
-    requires dynamic { widths.now.dynamic ≤ 999 }
-    requires statics { widths.now.statics ≤ 999 }
-    ensures { result ≡ is_fillable (sweep_of book.now.orders incoming.now ref1 ref2 widths.now) }
+    requires dynamic { widths.now.dynamic ≤ MAX_WIDTH }
+    requires statics { widths.now.statics ≤ MAX_WIDTH }
+    ensures { result ≡ is_fillable (sweep_over book.now.orders incoming.now ref1 ref2 widths.now) }
 {
     let _ = book.len(); // What every book keeps is known of one whose length is asked.
     let terms = Terms::new(book, incoming, ref1, ref2, widths);

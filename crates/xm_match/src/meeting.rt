@@ -1,6 +1,7 @@
 //! What an incoming order meets next.
 ghost use Rattle.std.specs.Prelude.{◌≡◌, ◌≤◌};
 ghost use Rattle.xm_match.specs.Meeting.{is_outside, next_met};
+ghost use Rattle.xm_ticks.specs.declared.ranges.TheConstants.{MAX_WIDTH};
 
 use crate::terms::Terms;
 use std::alloc::Allocator;
@@ -34,8 +35,8 @@ impl Next {
 /// or not.
 #[inline(always)]
 pub fn next_met<A: Allocator + Copy>(book: &Book<A>, terms: &Terms, units: u32) -> Next
-    requires dynamic { terms.now.widths.dynamic ≤ 999 }
-    requires statics { terms.now.widths.statics ≤ 999 }
+    requires dynamic { terms.now.widths.dynamic ≤ MAX_WIDTH }
+    requires statics { terms.now.widths.statics ≤ MAX_WIDTH }
     ensures { result ≡ next_met terms.now units book.now.orders }
 {
     if units == 0 {
@@ -44,7 +45,7 @@ pub fn next_met<A: Allocator + Copy>(book: &Book<A>, terms: &Terms, units: u32) 
     let Some(best) = book.best(terms.other_side(), Phase::Continuous) else {
         return Next::Nothing;
     };
-    if !terms.is_met(&best.kind) {
+    if !terms.is_kind_met(&best.kind) {
         return Next::Nothing;
     }
     if !terms.is_inside(&best.kind) {

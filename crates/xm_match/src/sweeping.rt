@@ -1,7 +1,8 @@
 //! The sweep of continuous trading: an incoming order takes the orders of the other side, the best first.
 ghost use Rattle.std.specs.Prelude.{◌≡◌, ◌+◌, ◌++◌, ◌≤◌, length};
-ghost use Rattle.xm_match.specs.Meeting.{EachUsesUp, meets_any, sweep_of, trade_with};
+ghost use Rattle.xm_match.specs.Meeting.{EachUsesUp, meets_any, sweep_over, trade_up_to};
 ghost use Rattle.xm_rules.specs.Sweep.{filled, is_interrupted, orders_after_sweep, rest_after, sweep_trades};
+ghost use Rattle.xm_ticks.specs.declared.ranges.TheConstants.{MAX_WIDTH};
 
 use crate::meeting::{Next, next_met};
 use crate::terms::Terms;
@@ -23,7 +24,7 @@ pub struct Swept {
 
 /// Executes an incoming order against the other side of a book, in order of priority, as long as the next order is met at a
 /// price inside both ranges. The ranges are those around the references, the price of the last trade and that of the last
-/// auction trade, before the first fill; their widths are in thousandths, at most 999. There is room for as many trades as
+/// auction trade, before the first fill; their widths are in thousandths, at most `MAX_WIDTH`. There is room for as many trades as
 /// there are orders. The trades bear the number of the sweep. It takes no memory.
 pub fn sweep<A: Allocator + Copy, B: Allocator>(
     book: &mut Book<A>,
@@ -34,16 +35,16 @@ pub fn sweep<A: Allocator + Copy, B: Allocator>(
     widths: &Widths,
     trades: &mut Trades<B>,
 ) -> Swept
-    requires dynamic { widths.now.dynamic ≤ 999 }
-    requires statics { widths.now.statics ≤ 999 }
+    requires dynamic { widths.now.dynamic ≤ MAX_WIDTH }
+    requires statics { widths.now.statics ≤ MAX_WIDTH }
     requires room { length book.old.orders ≤ trades.old.room }
-    ensures orders { book.new ≡ record book.old { orders = orders_after_sweep (sweep_of book.old.orders incoming.now ref1 ref2 widths.now) } }
-    ensures trades { trades.new.trades ≡ trades.old.trades ++ sweep_trades number (sweep_of book.old.orders incoming.now ref1 ref2 widths.now) }
-    ensures room { trades.new.room + length (sweep_trades number (sweep_of book.old.orders incoming.now ref1 ref2 widths.now)) ≡ trades.old.room }
-    ensures used_up { EachUsesUp number (sweep_of book.old.orders incoming.now ref1 ref2 widths.now) }
-    ensures filled { result.filled ≡ filled (sweep_of book.old.orders incoming.now ref1 ref2 widths.now) }
-    ensures rest { result.rest ≡ rest_after (sweep_of book.old.orders incoming.now ref1 ref2 widths.now) }
-    ensures interrupted { result.interrupted ≡ is_interrupted (sweep_of book.old.orders incoming.now ref1 ref2 widths.now) }
+    ensures orders { book.new ≡ record book.old { orders = orders_after_sweep (sweep_over book.old.orders incoming.now ref1 ref2 widths.now) } }
+    ensures trades { trades.new.trades ≡ trades.old.trades ++ sweep_trades number (sweep_over book.old.orders incoming.now ref1 ref2 widths.now) }
+    ensures room { trades.new.room + length (sweep_trades number (sweep_over book.old.orders incoming.now ref1 ref2 widths.now)) ≡ trades.old.room }
+    ensures used_up { EachUsesUp number (sweep_over book.old.orders incoming.now ref1 ref2 widths.now) }
+    ensures filled { result.filled ≡ filled (sweep_over book.old.orders incoming.now ref1 ref2 widths.now) }
+    ensures rest { result.rest ≡ rest_after (sweep_over book.old.orders incoming.now ref1 ref2 widths.now) }
+    ensures interrupted { result.interrupted ≡ is_interrupted (sweep_over book.old.orders incoming.now ref1 ref2 widths.now) }
 {
     let _ = book.len(); // What every book keeps is known of one whose length is asked.
     if meets_any(book, incoming) {
@@ -77,23 +78,23 @@ fn sweep_met<A: Allocator + Copy, B: Allocator>(
     widths: &Widths,
     trades: &mut Trades<B>,
 ) -> Swept
-    requires dynamic { widths.now.dynamic ≤ 999 }
-    requires statics { widths.now.statics ≤ 999 }
+    requires dynamic { widths.now.dynamic ≤ MAX_WIDTH }
+    requires statics { widths.now.statics ≤ MAX_WIDTH }
     requires room { length book.old.orders ≤ trades.old.room }
-    ensures orders { book.new ≡ record book.old { orders = orders_after_sweep (sweep_of book.old.orders incoming.now ref1 ref2 widths.now) } }
-    ensures trades { trades.new.trades ≡ trades.old.trades ++ sweep_trades number (sweep_of book.old.orders incoming.now ref1 ref2 widths.now) }
-    ensures room { trades.new.room + length (sweep_trades number (sweep_of book.old.orders incoming.now ref1 ref2 widths.now)) ≡ trades.old.room }
-    ensures used_up { EachUsesUp number (sweep_of book.old.orders incoming.now ref1 ref2 widths.now) }
-    ensures filled { result.filled ≡ filled (sweep_of book.old.orders incoming.now ref1 ref2 widths.now) }
-    ensures rest { result.rest ≡ rest_after (sweep_of book.old.orders incoming.now ref1 ref2 widths.now) }
-    ensures interrupted { result.interrupted ≡ is_interrupted (sweep_of book.old.orders incoming.now ref1 ref2 widths.now) }
+    ensures orders { book.new ≡ record book.old { orders = orders_after_sweep (sweep_over book.old.orders incoming.now ref1 ref2 widths.now) } }
+    ensures trades { trades.new.trades ≡ trades.old.trades ++ sweep_trades number (sweep_over book.old.orders incoming.now ref1 ref2 widths.now) }
+    ensures room { trades.new.room + length (sweep_trades number (sweep_over book.old.orders incoming.now ref1 ref2 widths.now)) ≡ trades.old.room }
+    ensures used_up { EachUsesUp number (sweep_over book.old.orders incoming.now ref1 ref2 widths.now) }
+    ensures filled { result.filled ≡ filled (sweep_over book.old.orders incoming.now ref1 ref2 widths.now) }
+    ensures rest { result.rest ≡ rest_after (sweep_over book.old.orders incoming.now ref1 ref2 widths.now) }
+    ensures interrupted { result.interrupted ≡ is_interrupted (sweep_over book.old.orders incoming.now ref1 ref2 widths.now) }
 {
     let _ = book.len(); // What every book keeps is known of one whose length is asked.
     let terms = Terms::new(book, incoming, ref1, ref2, widths);
     let mut rest = incoming.rest;
     let mut next = next_met(book, &terms, rest);
     while let Next::Inside(order) = next {
-        let trade = trade_with(&order, &terms, number, rest);
+        let trade = trade_up_to(&order, &terms, number, rest);
         book.fill(&order, trade.quantity);
         rest -= trade.quantity;
         trades.push(trade);
@@ -107,13 +108,13 @@ fn sweep_met<A: Allocator + Copy, B: Allocator>(
 }
 
 /// The trade with an order that is met, in what it has and no more than so many units.
-fn trade_with(order: &Order, terms: &Terms, number: u64, units: u32) -> Trade
-    ensures { result ≡ trade_with number terms.now units order.now }
+fn trade_up_to(order: &Order, terms: &Terms, number: u64, units: u32) -> Trade
+    ensures { result ≡ trade_up_to number terms.now units order.now }
 {
     Trade::trade_between(
         number,
         TradeKind::Continuous,
-        terms.price_met(order.kind),
+        terms.price_of_kind(order.kind),
         order.rest.min(units),
         terms.incoming.side,
         &terms.incoming,

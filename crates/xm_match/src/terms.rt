@@ -1,8 +1,9 @@
 //! What is fixed before the first fill of a sweep.
 ghost use Rattle.std.specs.Prelude.{◌≡◌, ◌≤◌};
 ghost use Rattle.std.specs.Option.{option_to_list};
-ghost use Rattle.xm_match.specs.Meeting.{is_inside, is_met, meets_inside, price_met, sweep_of, terms_of};
+ghost use Rattle.xm_match.specs.Meeting.{is_inside, is_kind_met, meets_inside, price_of_kind, sweep_over, terms_of};
 ghost use Rattle.xm_rules.specs.Sides.{best_from, opposite};
+ghost use Rattle.xm_ticks.specs.declared.ranges.TheConstants.{MAX_WIDTH};
 
 use std::alloc::Allocator;
 use xm_book::Book;
@@ -45,7 +46,7 @@ impl Terms {
         ref2: Price,
         widths: &Widths,
     ) -> Terms
-        ensures { result ≡ terms_of (sweep_of book.now.orders incoming.now ref1 ref2 widths.now) }
+        ensures { result ≡ terms_of (sweep_over book.now.orders incoming.now ref1 ref2 widths.now) }
     {
         let side = incoming.side.opposite();
         let resting = better(side, ref1, book.best_limit(side, Phase::Continuous));
@@ -67,15 +68,15 @@ impl Terms {
     }
 
     /// Whether the incoming order meets one of this kind.
-    pub fn is_met(&self, kind: &OrderKind) -> bool
-        ensures { result ≡ is_met self.now kind.now }
+    pub fn is_kind_met(&self, kind: &OrderKind) -> bool
+        ensures { result ≡ is_kind_met self.now kind.now }
     {
         self.incoming.kind.meets(self.incoming.side, *kind)
     }
 
     /// The price at which an order of this kind is met.
-    pub fn price_met(&self, kind: OrderKind) -> Price
-        ensures { result ≡ price_met self.now kind }
+    pub fn price_of_kind(&self, kind: OrderKind) -> Price
+        ensures { result ≡ price_of_kind self.now kind }
     {
         match kind {
             OrderKind::Market => self.market,
@@ -85,20 +86,20 @@ impl Terms {
 
     /// Whether the price at which an order of this kind is met is inside both ranges.
     pub fn is_inside(&self, kind: &OrderKind) -> bool
-        requires dynamic { self.now.widths.dynamic ≤ 999 }
-        requires statics { self.now.widths.statics ≤ 999 }
+        requires dynamic { self.now.widths.dynamic ≤ MAX_WIDTH }
+        requires statics { self.now.widths.statics ≤ MAX_WIDTH }
         ensures { result ≡ is_inside self.now kind.now }
     {
         self.widths
-            .is_inside_both(self.ref1, self.ref2, self.price_met(*kind))
+            .is_inside_both(self.ref1, self.ref2, self.price_of_kind(*kind))
     }
 
     /// Whether an order of this kind is met at a price inside both ranges.
     pub fn meets_inside(&self, kind: &OrderKind) -> bool
-        requires dynamic { self.now.widths.dynamic ≤ 999 }
-        requires statics { self.now.widths.statics ≤ 999 }
+        requires dynamic { self.now.widths.dynamic ≤ MAX_WIDTH }
+        requires statics { self.now.widths.statics ≤ MAX_WIDTH }
         ensures { result ≡ meets_inside self.now kind.now }
     {
-        self.is_met(kind) && self.is_inside(kind)
+        self.is_kind_met(kind) && self.is_inside(kind)
     }
 }

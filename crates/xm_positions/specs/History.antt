@@ -4,9 +4,9 @@ use Rattle.xm_positions.specs.declared.history.Last.{Last, Last-F, fold-Last}
 use Rattle.xm_positions.specs.declared.history.Last.TheOpen.{Nothing, Recorded}
 use Rattle.xm_rules.specs.declared.orders.Trade.{Trade}
 
-abbrev pub after : Last-F (List Trade) → List Trade
-after Nothing = []
-after (Recorded trade before) = before.value ++ trade.value ∷ []
+abbrev pub with_last : Last-F (List Trade) → List Trade
+with_last Nothing = []
+with_last (Recorded trade before) = before.value ++ trade.value ∷ []
 
 unfoldable pub recorded : Last → List Trade
-recorded last = fold-Last (List Trade) after last
+recorded last = fold-Last (List Trade) with_last last

@@ -1,7 +1,7 @@
 -- What positions are seen as, and what they answer.
-use Rattle.std.specs.Prelude.{◌≡◌, ℕ, ◌<◌, ◌≤◌, Bool, ◌&&◌, if◌then◌else◌, nat_lt, ℤ, ◌+◌, List, length, Option, Some, None, slice_index_or}
+use Rattle.std.specs.Prelude.{◌≡◌, ℕ, ◌<◌, ◌≤◌, Bool, ◌&&◌, if◌then◌else◌, nat_lt, ℤ, List, length, Option, Some, None, slice_index_or}
 use Rattle.xm_positions.specs.declared.sums.MemberSums.{MemberSums}
-use Rattle.xm_rules.specs.Sums.{bought, cash, net, paid, received, sold}
+use Rattle.xm_rules.specs.Sums.{bought, cash, has_traded, net, paid, received, sold}
 use Rattle.xm_rules.specs.declared.orders.Trade.{Trade}
 use Rattle.xm_rules.specs.declared.totals.TheConstants.{MAX_TRADED_MONEY, MAX_TRADED_QUANTITY}
 
@@ -17,9 +17,9 @@ net_position r member = if nat_lt member r.members then Some (net member r.trade
 abbrev pub cash_position : Recorded → ℕ → Option ℤ
 cash_position r member = if nat_lt member r.members then Some (cash member r.trades) else None
 
--- a member bought or sold a unit
-abbrev pub has_traded : Recorded → ℕ → Bool
-has_traded r member = nat_lt member r.members && nat_lt 0 (bought member r.trades + sold member r.trades)
+-- a member that is there bought or sold a unit
+abbrev pub has_position : Recorded → ℕ → Bool
+has_position r member = nat_lt member r.members && has_traded member r.trades
 
 -- ---- what is kept of each member
 

@@ -1,13 +1,14 @@
 //! The positions of the members in one security.
 ghost use Rattle.std.specs.Prelude.{◌≡◌, ◌++◌, ◌∷◌, [], All, IfOk, IfSome};
-ghost use Rattle.xm_positions.specs.Positions.{AreSmall, cash_position, has_traded, net_position, sums_if_known};
+ghost use Rattle.xm_positions.specs.Positions.{AreSmall, cash_position, has_position, net_position, sums_if_known};
 ghost use Rattle.xm_rules.specs.Sums.{AreWithinLimits, IsBetweenMembers, total_money, total_quantity};
 
 use crate::history::History;
 use crate::sums::{MemberSums, difference};
 use std::alloc::Allocator;
 use std::marker::Model;
-use xm_rules::{OutOfMemory, Totals, Trade};
+use xm_memory::OutOfMemory;
+use xm_rules::{Totals, Trade};
 
 /// The sums of each member over the trades of one security. A clause sees the number of members, and the trades that were
 /// recorded.
@@ -60,7 +61,7 @@ impl<A: Allocator> Positions<A> {
         ensures { self.new ≡ record self.old { trades = self.old.trades ++ trade.now ∷ [] } }
     {
         let quantity = u64::from(trade.quantity);
-        let money = u64::from(trade.price.get()) * quantity;
+        let money = trade.money_of();
         let buyer = trade.buyer as usize;
         let seller = trade.seller as usize;
         self.members[buyer] = self.members[buyer].with_purchase(quantity, money);
@@ -99,7 +100,7 @@ impl<A: Allocator> Positions<A> {
 
     /// Whether a member bought or sold a unit.
     pub fn has_traded(&self, member: u32) -> bool
-        ensures { result ≡ has_traded self.now member }
+        ensures { result ≡ has_position self.now member }
     {
         match self.sums_of(member) {
             None => false,

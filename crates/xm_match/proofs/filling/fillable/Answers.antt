@@ -1,6 +1,6 @@
 use Rattle.std.proofs.Common.{◌≡◌, ◌-◌, option_copied, Some, None, refl, sym, ap, ◌∙◌, arith}
 use Rattle.xm_book.specs.Queues.{best_order, next_order}
-use Rattle.xm_match.specs.Meeting.{sweep_of}
+use Rattle.xm_match.specs.Meeting.{sweep_over}
 use Rattle.xm_match.specs.declared.terms.Terms.{Terms}
 use Rattle.xm_match.proofs.Covering.{at_enough, at_none, at_outside, at_start, on, some_rest, the_same}
 use Rattle.xm_match.proofs.Cuts.{IsSound}
@@ -12,7 +12,7 @@ use Rattle.xm_rules.specs.declared.phases.Phase.TheVariants.{Continuous}
 pub loop-missing-init : goal.loop-missing-init
 loop-missing-init g c =
     let orders = c.args.book.now.orders in
-    let w = sweep_of orders c.args.incoming.now c.args.ref1 c.args.ref2 c.args.widths.now in
+    let w = sweep_over orders c.args.incoming.now c.args.ref1 c.args.ref2 c.args.widths.now in
     let sound : IsSound w = record { own = c.len.ensures.book.names; rests = c.len.ensures.book.rests } in
     let side : c.other_side-side.result ≡ other_side w = c.other_side-side.ensures ∙ ap (λ (u : Terms). opposite u.incoming.side) c.new-terms.ensures in
     the_same w w.incoming.rest w.incoming.rest (best_order Continuous (other_side w) orders) (option_copied c.best-next.result) refl
@@ -21,7 +21,7 @@ loop-missing-init g c =
 pub returns-in-None : goal.returns-in-None
 returns-in-None g c =
     let orders = c.args.book.now.orders in
-    let w = sweep_of orders c.args.incoming.now c.args.ref1 c.args.ref2 c.args.widths.now in
+    let w = sweep_over orders c.args.incoming.now c.args.ref1 c.args.ref2 c.args.widths.now in
     let sound : IsSound w = record { own = c.len.ensures.book.names; rests = c.len.ensures.book.rests } in
     let l = c.loop-missing in
     sym (at_none w sound l.missing (the_same w l.missing l.missing (option_copied l.next) None refl (sym (ap option_copied c.in-None.is)) l.invariant) c.loop-missing-test.true)
@@ -29,7 +29,7 @@ returns-in-None g c =
 pub returns-then-not-meets_inside : goal.returns-then-not-meets_inside
 returns-then-not-meets_inside g c =
     let orders = c.args.book.now.orders in
-    let w = sweep_of orders c.args.incoming.now c.args.ref1 c.args.ref2 c.args.widths.now in
+    let w = sweep_over orders c.args.incoming.now c.args.ref1 c.args.ref2 c.args.widths.now in
     let sound : IsSound w = record { own = c.len.ensures.book.names; rests = c.len.ensures.book.rests } in
     let l = c.loop-missing in
     let o = c.in-Some.order.now in
@@ -39,7 +39,7 @@ returns-then-not-meets_inside g c =
 pub loop-missing-smaller : goal.loop-missing-smaller
 loop-missing-smaller g c =
     let orders = c.args.book.now.orders in
-    let w = sweep_of orders c.args.incoming.now c.args.ref1 c.args.ref2 c.args.widths.now in
+    let w = sweep_over orders c.args.incoming.now c.args.ref1 c.args.ref2 c.args.widths.now in
     let sound : IsSound w = record { own = c.len.ensures.book.names; rests = c.len.ensures.book.rests } in
     let l = c.loop-missing in
     let o = c.in-Some.order.now in
@@ -52,7 +52,7 @@ loop-missing-smaller g c =
 pub loop-missing-preserved : goal.loop-missing-preserved
 loop-missing-preserved g c =
     let orders = c.args.book.now.orders in
-    let w = sweep_of orders c.args.incoming.now c.args.ref1 c.args.ref2 c.args.widths.now in
+    let w = sweep_over orders c.args.incoming.now c.args.ref1 c.args.ref2 c.args.widths.now in
     let sound : IsSound w = record { own = c.len.ensures.book.names; rests = c.len.ensures.book.rests } in
     let side : c.other_side-side.result ≡ other_side w = c.other_side-side.ensures ∙ ap (λ (u : Terms). opposite u.incoming.side) c.new-terms.ensures in
     let l = c.loop-missing in
@@ -65,7 +65,7 @@ loop-missing-preserved g c =
 pub returns : goal.returns
 returns g c =
     let orders = c.args.book.now.orders in
-    let w = sweep_of orders c.args.incoming.now c.args.ref1 c.args.ref2 c.args.widths.now in
+    let w = sweep_over orders c.args.incoming.now c.args.ref1 c.args.ref2 c.args.widths.now in
     let sound : IsSound w = record { own = c.len.ensures.book.names; rests = c.len.ensures.book.rests } in
     let l = c.loop-missing in
     sym (at_enough w sound l.missing (option_copied l.next) l.invariant (let no = c.loop-missing-test.false in omega arith))

@@ -1,5 +1,5 @@
 use Rattle.std.proofs.Common.{◌≡◌, false, sym, ◌∙◌, arith}
-use Rattle.xm_match.specs.Meeting.{meets_any, sweep_of}
+use Rattle.xm_match.specs.Meeting.{meets_any, sweep_over}
 use Rattle.xm_match.proofs.Cuts.{IsSound}
 use Rattle.xm_match.proofs.Ending.{Ended}
 use Rattle.xm_match.proofs.Unmet.{not_interrupted, unmet}
@@ -11,10 +11,10 @@ none : (g : given.Over) (c : goal.Else-meets_any g) → meets_any c.args.book.no
 none g c = sym c.meets_any.ensures ∙ c.if-meets_any.false
 
 at_once : (g : given.Over) (c : goal.Else-meets_any g)
-    → Ended (sweep_of c.args.book.now.orders c.args.incoming.now c.args.ref1 c.args.ref2 c.args.widths.now) c.args.number c.args.incoming.now.rest c.args.book.now.orders
+    → Ended (sweep_over c.args.book.now.orders c.args.incoming.now c.args.ref1 c.args.ref2 c.args.widths.now) c.args.number c.args.incoming.now.rest c.args.book.now.orders
     c.args.trades.now.trades c.args.trades.now.trades c.args.trades.now.room c.args.trades.now.room
 at_once g c =
-    let w = sweep_of c.args.book.now.orders c.args.incoming.now c.args.ref1 c.args.ref2 c.args.widths.now in
+    let w = sweep_over c.args.book.now.orders c.args.incoming.now c.args.ref1 c.args.ref2 c.args.widths.now in
     let sound : IsSound w = record { own = c.len.ensures.book.names; rests = c.len.ensures.book.rests } in
     unmet w c.args.number c.args.trades.now.trades c.args.trades.now.room sound c.requires.room (none g c)
 
@@ -38,5 +38,5 @@ returns-clause-rest g c = (at_once g c).rest
 
 pub returns-clause-interrupted : goal.returns-clause-interrupted
 returns-clause-interrupted g c =
-    let w = sweep_of c.args.book.now.orders c.args.incoming.now c.args.ref1 c.args.ref2 c.args.widths.now in
+    let w = sweep_over c.args.book.now.orders c.args.incoming.now c.args.ref1 c.args.ref2 c.args.widths.now in
     sym (not_interrupted w (none g c)) ∙ (at_once g c).interrupted

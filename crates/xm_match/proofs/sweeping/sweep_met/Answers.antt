@@ -4,7 +4,7 @@ use Rattle.xm_book.specs.TimeList.{TimeList}
 use Rattle.xm_book.specs.Trades.{TradeList}
 use Rattle.xm_slots.proofs.Tests.{same_some}
 use Rattle.xm_book.proofs.Naming.{contains_best}
-use Rattle.xm_match.specs.Meeting.{is_outside, next_met, sweep_of, terms_of, trade_with}
+use Rattle.xm_match.specs.Meeting.{is_outside, next_met, sweep_over, terms_of, trade_up_to}
 use Rattle.xm_match.specs.declared.meeting.Next.TheVariants.{Inside}
 use Rattle.xm_match.specs.declared.terms.Terms.{Terms}
 use Rattle.xm_match.proofs.Cuts.{IsSound}
@@ -19,7 +19,7 @@ use Rattle.xm_rules.specs.declared.phases.Phase.TheVariants.{Continuous}
 
 pub loop-next-init : goal.loop-next-init
 loop-next-init g c =
-    let w = sweep_of c.args.book.now.orders c.args.incoming.now c.args.ref1 c.args.ref2 c.args.widths.now in
+    let w = sweep_over c.args.book.now.orders c.args.incoming.now c.args.ref1 c.args.ref2 c.args.widths.now in
     let sound : IsSound w = record { own = c.len.ensures.book.names; rests = c.len.ensures.book.rests } in
     record {
       book = refl;
@@ -29,7 +29,7 @@ loop-next-init g c =
 
 pub fill-requires-clause-there : goal.fill-requires-clause-there
 fill-requires-clause-there g c =
-    let w = sweep_of c.args.book.now.orders c.args.incoming.now c.args.ref1 c.args.ref2 c.args.widths.now in
+    let w = sweep_over c.args.book.now.orders c.args.incoming.now c.args.ref1 c.args.ref2 c.args.widths.now in
     let sound : IsSound w = record { own = c.len.ensures.book.names; rests = c.len.ensures.book.rests } in
     let l = c.loop-next in
     let met : next_met (terms_of w) l.rest l.book.orders ≡ Inside c.in-Inside.order = sym l.invariant.next ∙ c.in-Inside.is in
@@ -37,71 +37,71 @@ fill-requires-clause-there g c =
 
 pub fill-requires-clause-some : goal.fill-requires-clause-some
 fill-requires-clause-some g c =
-    let w = sweep_of c.args.book.now.orders c.args.incoming.now c.args.ref1 c.args.ref2 c.args.widths.now in
+    let w = sweep_over c.args.book.now.orders c.args.incoming.now c.args.ref1 c.args.ref2 c.args.widths.now in
     let sound : IsSound w = record { own = c.len.ensures.book.names; rests = c.len.ensures.book.rests } in
     let l = c.loop-next in
     let o = c.in-Inside.order in
-    let trade = c.trade_with-trade.result in
+    let trade = c.trade_up_to-trade.result in
     let met : next_met (terms_of w) l.rest l.book.orders ≡ Inside o = sym l.invariant.next ∙ c.in-Inside.is in
     let best : best_order Continuous (other_side w) l.book.orders ≡ Some o = (inside (terms_of w) l.rest l.book.orders o met).best in
     let t = turn w c.args.number l.rest l.book.orders c.args.trades.now.trades l.trades.trades c.args.trades.now.room l.trades.room sound l.invariant.progress o met trade
-    (c.trade_with-trade.ensures ∙ ap (λ (u : Terms). trade_with c.args.number u l.rest o) c.new-terms.ensures) in
+    (c.trade_up_to-trade.ensures ∙ ap (λ (u : Terms). trade_up_to c.args.number u l.rest o) c.new-terms.ensures) in
     let some = t.some in
     omega arith
 
 pub fill-requires-clause-within : goal.fill-requires-clause-within
 fill-requires-clause-within g c =
-    let w = sweep_of c.args.book.now.orders c.args.incoming.now c.args.ref1 c.args.ref2 c.args.widths.now in
+    let w = sweep_over c.args.book.now.orders c.args.incoming.now c.args.ref1 c.args.ref2 c.args.widths.now in
     let sound : IsSound w = record { own = c.len.ensures.book.names; rests = c.len.ensures.book.rests } in
     let l = c.loop-next in
     let o = c.in-Inside.order in
-    let trade = c.trade_with-trade.result in
+    let trade = c.trade_up_to-trade.result in
     let met : next_met (terms_of w) l.rest l.book.orders ≡ Inside o = sym l.invariant.next ∙ c.in-Inside.is in
     let best : best_order Continuous (other_side w) l.book.orders ≡ Some o = (inside (terms_of w) l.rest l.book.orders o met).best in
     let t = turn w c.args.number l.rest l.book.orders c.args.trades.now.trades l.trades.trades c.args.trades.now.room l.trades.room sound l.invariant.progress o met trade
-    (c.trade_with-trade.ensures ∙ ap (λ (u : Terms). trade_with c.args.number u l.rest o) c.new-terms.ensures) in
+    (c.trade_up_to-trade.ensures ∙ ap (λ (u : Terms). trade_up_to c.args.number u l.rest o) c.new-terms.ensures) in
     let same : t.best ≡ o = same_some (sym t.is_best ∙ best) in
     subst (λ (b : Order). trade.quantity ≤ b.rest) same t.fits
 
 pub push-requires : goal.push-requires
 push-requires g c =
-    let w = sweep_of c.args.book.now.orders c.args.incoming.now c.args.ref1 c.args.ref2 c.args.widths.now in
+    let w = sweep_over c.args.book.now.orders c.args.incoming.now c.args.ref1 c.args.ref2 c.args.widths.now in
     let sound : IsSound w = record { own = c.len.ensures.book.names; rests = c.len.ensures.book.rests } in
     let l = c.loop-next in
     let o = c.in-Inside.order in
-    let trade = c.trade_with-trade.result in
+    let trade = c.trade_up_to-trade.result in
     let met : next_met (terms_of w) l.rest l.book.orders ≡ Inside o = sym l.invariant.next ∙ c.in-Inside.is in
     let best : best_order Continuous (other_side w) l.book.orders ≡ Some o = (inside (terms_of w) l.rest l.book.orders o met).best in
     let t = turn w c.args.number l.rest l.book.orders c.args.trades.now.trades l.trades.trades c.args.trades.now.room l.trades.room sound l.invariant.progress o met trade
-    (c.trade_with-trade.ensures ∙ ap (λ (u : Terms). trade_with c.args.number u l.rest o) c.new-terms.ensures) in
+    (c.trade_up_to-trade.ensures ∙ ap (λ (u : Terms). trade_up_to c.args.number u l.rest o) c.new-terms.ensures) in
     t.has_room
 
 pub loop-next-smaller : goal.loop-next-smaller
 loop-next-smaller g c =
-    let w = sweep_of c.args.book.now.orders c.args.incoming.now c.args.ref1 c.args.ref2 c.args.widths.now in
+    let w = sweep_over c.args.book.now.orders c.args.incoming.now c.args.ref1 c.args.ref2 c.args.widths.now in
     let sound : IsSound w = record { own = c.len.ensures.book.names; rests = c.len.ensures.book.rests } in
     let l = c.loop-next in
     let o = c.in-Inside.order in
-    let trade = c.trade_with-trade.result in
+    let trade = c.trade_up_to-trade.result in
     let met : next_met (terms_of w) l.rest l.book.orders ≡ Inside o = sym l.invariant.next ∙ c.in-Inside.is in
     let best : best_order Continuous (other_side w) l.book.orders ≡ Some o = (inside (terms_of w) l.rest l.book.orders o met).best in
     let t = turn w c.args.number l.rest l.book.orders c.args.trades.now.trades l.trades.trades c.args.trades.now.room l.trades.room sound l.invariant.progress o met trade
-    (c.trade_with-trade.ensures ∙ ap (λ (u : Terms). trade_with c.args.number u l.rest o) c.new-terms.ensures) in
+    (c.trade_up_to-trade.ensures ∙ ap (λ (u : Terms). trade_up_to c.args.number u l.rest o) c.new-terms.ensures) in
     let some = t.some in
     let within = t.within in
     omega arith
 
 pub loop-next-preserved : goal.loop-next-preserved
 loop-next-preserved g c =
-    let w = sweep_of c.args.book.now.orders c.args.incoming.now c.args.ref1 c.args.ref2 c.args.widths.now in
+    let w = sweep_over c.args.book.now.orders c.args.incoming.now c.args.ref1 c.args.ref2 c.args.widths.now in
     let sound : IsSound w = record { own = c.len.ensures.book.names; rests = c.len.ensures.book.rests } in
     let l = c.loop-next in
     let o = c.in-Inside.order in
-    let trade = c.trade_with-trade.result in
+    let trade = c.trade_up_to-trade.result in
     let met : next_met (terms_of w) l.rest l.book.orders ≡ Inside o = sym l.invariant.next ∙ c.in-Inside.is in
     let best : best_order Continuous (other_side w) l.book.orders ≡ Some o = (inside (terms_of w) l.rest l.book.orders o met).best in
     let t = turn w c.args.number l.rest l.book.orders c.args.trades.now.trades l.trades.trades c.args.trades.now.room l.trades.room sound l.invariant.progress o met trade
-    (c.trade_with-trade.ensures ∙ ap (λ (u : Terms). trade_with c.args.number u l.rest o) c.new-terms.ensures) in
+    (c.trade_up_to-trade.ensures ∙ ap (λ (u : Terms). trade_up_to c.args.number u l.rest o) c.new-terms.ensures) in
     let orders : c.fill.new.self.orders ≡ taken_from_best Continuous (other_side w) trade.quantity l.book.orders =
     ap (λ (b : TimeList). b.orders) c.fill.ensures ∙ ap (λ (f : Option Order). taken_from_any f trade.quantity l.book.orders) (sym best) in
     record {
@@ -115,10 +115,10 @@ loop-next-preserved g c =
 
 -- where nothing further is met inside the ranges, the sweep has come to its end
 at_last : (g : given.Over) (c : goal.After-is_outside g)
-    → Ended (sweep_of c.args.book.now.orders c.args.incoming.now c.args.ref1 c.args.ref2 c.args.widths.now) c.args.number c.loop-next.rest c.loop-next.book.orders c.args.trades.now.trades
+    → Ended (sweep_over c.args.book.now.orders c.args.incoming.now c.args.ref1 c.args.ref2 c.args.widths.now) c.args.number c.loop-next.rest c.loop-next.book.orders c.args.trades.now.trades
     c.loop-next.trades.trades c.args.trades.now.room c.loop-next.trades.room
 at_last g c =
-    let w = sweep_of c.args.book.now.orders c.args.incoming.now c.args.ref1 c.args.ref2 c.args.widths.now in
+    let w = sweep_over c.args.book.now.orders c.args.incoming.now c.args.ref1 c.args.ref2 c.args.widths.now in
     let sound : IsSound w = record { own = c.len.ensures.book.names; rests = c.len.ensures.book.rests } in
     let l = c.loop-next in
     ended w c.args.number l.rest l.book.orders c.args.trades.now.trades l.trades.trades c.args.trades.now.room l.trades.room sound l.invariant.progress
@@ -144,7 +144,7 @@ returns-clause-rest g c = (at_last g c).rest
 
 pub returns-clause-interrupted : goal.returns-clause-interrupted
 returns-clause-interrupted g c =
-    let w = sweep_of c.args.book.now.orders c.args.incoming.now c.args.ref1 c.args.ref2 c.args.widths.now in
+    let w = sweep_over c.args.book.now.orders c.args.incoming.now c.args.ref1 c.args.ref2 c.args.widths.now in
     let sound : IsSound w = record { own = c.len.ensures.book.names; rests = c.len.ensures.book.rests } in
     let l = c.loop-next in
     c.is_outside.ensures

@@ -1,6 +1,6 @@
 use Rattle.std.proofs.Common.{◌≡◌, ◌<◌, ℕ, Contains, false}
 use Rattle.std.specs.Prelude.{IfSome}
-use Rattle.xm_auction.specs.Depths.{depth_at, orders_left, reached}
+use Rattle.xm_auction.specs.Depths.{depth_at, orders_left, reaches_price}
 use Rattle.xm_rules.specs.Auction.{accepting, candidates}
 use Rattle.xm_auction.proofs.depth.Depth.to_units.Given as goal
 
@@ -9,7 +9,7 @@ invariant-loop-depth g l = record {
   side : l.depth.side ≡ l.self.side;
   depth : l.depth ≡ depth_at l.phase l.depth.side l.depth.limit l.book.orders;
   limit : IfSome l.depth.limit (Contains (candidates l.phase l.book.orders));
-  before : (x : ℕ) → reached l.depth.side l.depth.limit x ≡ false → accepting l.phase l.book.orders l.depth.side x < l.units;
+  before : (x : ℕ) → reaches_price l.depth.side l.depth.limit x ≡ false → accepting l.phase l.book.orders l.depth.side x < l.units;
 }
 
 abbrev pub decreases-loop-depth : goal.decreases-loop-depth

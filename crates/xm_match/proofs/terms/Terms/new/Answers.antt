@@ -1,6 +1,6 @@
 use Rattle.std.proofs.Common.{◌≡◌, ◌∙◌}
 use Rattle.std.specs.Option.{option_to_list}
-use Rattle.xm_match.specs.Meeting.{sweep_of, terms_of}
+use Rattle.xm_match.specs.Meeting.{sweep_over, terms_of}
 use Rattle.xm_match.proofs.Betters.{in_two_steps}
 use Rattle.xm_match.proofs.terms.Terms.new.Goals as goal
 use Rattle.xm_rules.specs.Active.{active, limits}
@@ -15,7 +15,7 @@ pub returns : goal.returns
 returns g c =
     let orders = c.args.book.now.orders in
     let incoming = c.args.incoming.now in
-    let w = sweep_of orders incoming c.args.ref1 c.args.ref2 c.args.widths.now in
+    let w = sweep_over orders incoming c.args.ref1 c.args.ref2 c.args.widths.now in
     let other = opposite incoming.side in
     let side = c.opposite-side.ensures in
     let limit : c.best_limit.result ≡ best other (limits (active Continuous other orders)) =
