@@ -1,6 +1,5 @@
 -- What the action of an accepted command does, and what its checks found.
-use Rattle.std.proofs.Common.{◌≡◌, ◌∙◌, ◌≤◌, ℕ, List, [], ◌∷◌, ◌++◌, Bool, true, false, ◌&&◌, not, if◌then◌else◌, cond, filter, find, Option, Some, None, IfSome, IsTrue, refl, ap, sym, subst, arith}
-use Rattle.std.specs.List.{list_any}
+use Rattle.std.proofs.Common.{◌≡◌, ◌∙◌, ◌≤◌, ℕ, [], ◌∷◌, ◌++◌, Bool, true, false, ◌&&◌, not, if◌then◌else◌, find, Option, Some, None, IfSome, refl, ap, sym, subst, arith}
 use Rattle.std.specs.Option.{option_map}
 use Rattle.std.specs.Prelude.{nat_le}
 use Rattle.std.proofs.lemmas.Bool.{and_parts}
@@ -17,7 +16,7 @@ use Rattle.xm_rules.specs.Orders.{is_named, with_rest}
 use Rattle.xm_rules.specs.Refusals.{has_order, has_stop, refusal_of}
 use Rattle.xm_rules.specs.Settling.{come, is_continuous}
 use Rattle.xm_rules.specs.State.{State, ref1}
-use Rattle.xm_rules.specs.Step.{act, all_cancelled, cancelled, changed, changed_order, come_under, day_ended, entered, entered_order, keeps_priority, same_limit, stop_of, uncrossed, uncrossed_at}
+use Rattle.xm_rules.specs.Step.{act, all_cancelled, cancelled, changed_order, come_under, day_ended, entered, entered_order, keeps_priority, same_limit, uncrossed, uncrossed_at}
 use Rattle.xm_rules.specs.declared.commands.Command.{Command}
 use Rattle.xm_rules.specs.declared.commands.Command.TheVariants.{Enter, Change, Cancel, CancelAll, StartOpening, StartIntraday, StartClosing, Uncross, EndDay}
 use Rattle.xm_rules.specs.declared.commands.Condition.{Condition}

@@ -1,5 +1,5 @@
 -- The change and the cancellation of an order: what they leave.
-use Rattle.std.proofs.Common.{◌≡◌, ◌∙◌, ℕ, ◌+◌, ◌<◌, ◌≤◌, cond, count_by, filter, List, [], ◌∷◌, Bool, true, false, ◌||◌, not, if◌then◌else◌, find, Option, Some, None, refl, ap, subst, sym, arith}
+use Rattle.std.proofs.Common.{◌≡◌, ℕ, ◌+◌, ◌<◌, ◌≤◌, cond, count_by, filter, List, [], ◌∷◌, Bool, true, false, ◌||◌, not, if◌then◌else◌, find, Option, Some, None, refl, ap, subst, sym, arith}
 use Rattle.std.specs.Prelude.{is_some}
 use Rattle.std.specs.List.{list_any}
 use Rattle.std.proofs.lemmas.List.Sums.{sum_by-cons}

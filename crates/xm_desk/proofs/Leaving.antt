@@ -1,4 +1,6 @@
 -- A held stop that leaves is one place less.
+use Rattle.xm_stops.specs.Listing.{stop_owner, stop_reference}
+use Rattle.xm_slots.specs.Naming.{have_own_names}
 use Rattle.std.proofs.Common.{◌≡◌, ◌∙◌, ℕ, ◌+◌, Bool, true, false, ◌||◌, not, cond, List, [], ◌∷◌, ◌++◌, find, length, sum_by, Option, Some, None, refl, sym, ap, arith}
 use Rattle.std.specs.List.{list_any}
 use Rattle.std.proofs.lemmas.Bool.{and_parts, eqb-true}
@@ -13,7 +15,7 @@ use Rattle.xm_desk.specs.Settled.{place_of_stop, places_in}
 use Rattle.xm_desk.specs.declared.unsettled.Ready.{Ready}
 use Rattle.xm_rules.specs.Orders.{is_stop_named, removed_stop}
 use Rattle.xm_rules.specs.declared.orders.Stop.{Stop}
-use Rattle.xm_stops.specs.HeldStops.{HeldStops, PendingStops, have_own_names}
+use Rattle.xm_stops.specs.HeldStops.{HeldStops, PendingStops}
 use Rattle.std.specs.List.{slice_get}
 use Rattle.std.specs.Prelude.{drop}
 
@@ -60,13 +62,13 @@ own_name m r stop e =
     let parts = and_parts (Rattle.std.specs.Prelude.nat_eq stop.member m) (Rattle.std.specs.Prelude.nat_eq stop.reference r) e in
     (eqb-true stop.member m parts.0, eqb-true stop.reference r parts.1)
 
-taken_if : (m r : ℕ) (x stop : Stop) (xs : List Stop) (b : Bool) → is_stop_named m r x ≡ b → have_own_names (x ∷ xs) ≡ true
+taken_if : (m r : ℕ) (x stop : Stop) (xs : List Stop) (b : Bool) → is_stop_named m r x ≡ b → have_own_names stop_owner stop_reference (x ∷ xs) ≡ true
     → (find (is_stop_named m r) xs ≡ Some stop → IsTaken stop xs (removed_stop m r xs)) → cond b (Some x) (find (is_stop_named m r) xs) ≡ Some stop
     → IsTaken stop (x ∷ xs) (cond (not b) (x ∷ removed_stop m r xs) (removed_stop m r xs))
 taken_if m r x stop xs true named own more found =
     let same : x ≡ stop = cc in
     let names = own_name m r x named in
-    let others = not_true _ (and_parts (not (list_any (is_stop_named x.member x.reference) xs)) (have_own_names xs) own).0 in
+    let others = not_true _ (and_parts (not (list_any (is_stop_named x.member x.reference) xs)) (have_own_names stop_owner stop_reference xs) own).0 in
     record {
       ahead = [];
       behind = xs;
@@ -78,10 +80,10 @@ taken_if m r x stop xs false named own more found =
     record { ahead = x ∷ t.ahead; behind = t.behind; was = ap (λ (ss : List Stop). x ∷ ss) t.was; now = ap (λ (ss : List Stop). x ∷ ss) t.now }
 
 -- what is found by its name is taken out by it
-pub found-taken : (m r : ℕ) (stops : List Stop) (stop : Stop) → have_own_names stops ≡ true → find (is_stop_named m r) stops ≡ Some stop → IsTaken stop stops (removed_stop m r stops)
+pub found-taken : (m r : ℕ) (stops : List Stop) (stop : Stop) → have_own_names stop_owner stop_reference stops ≡ true → find (is_stop_named m r) stops ≡ Some stop → IsTaken stop stops (removed_stop m r stops)
 found-taken m r [] stop own found = cc
 found-taken m r (x ∷ xs) stop own found =
-    let rest = (and_parts (not (list_any (is_stop_named x.member x.reference) xs)) (have_own_names xs) own).1 in
+    let rest = (and_parts (not (list_any (is_stop_named x.member x.reference) xs)) (have_own_names stop_owner stop_reference xs) own).1 in
     taken_if m r x stop xs (is_stop_named m r x) refl own (found-taken m r xs stop rest) found
 
 module _ (stop : Stop) (stops left : List Stop) (taken : IsTaken stop stops left) where

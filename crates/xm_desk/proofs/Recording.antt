@@ -2,7 +2,7 @@
 use Rattle.std.proofs.Common.{◌≡◌, ℕ, ◌+◌, ◌≤◌, ◌&&◌, ◌-ℤ◌, pos, Bool, ◌∷◌, [], ◌++◌, true, false, if◌then◌else◌, Some, None, List, All, drop, length, refl, sym, ◌∙◌, subst, arith}
 use Rattle.std.specs.Prelude.{nat_lt}
 use Rattle.std.proofs.lemmas.Bool.Decides.{nat_tests}
-use Rattle.xm_positions.specs.Positions.{Recorded, cash_position, has_traded, net_position}
+use Rattle.xm_positions.specs.Positions.{Recorded, cash_position, has_position, net_position}
 use Rattle.xm_rules.proofs.DayLimits.{within_limits}
 use Rattle.xm_rules.proofs.Journals.{is_lawful-push, journal_of, replay-push}
 use Rattle.xm_rules.proofs.KnownMembers.{known}
@@ -10,7 +10,7 @@ use Rattle.xm_rules.proofs.MemberSums.{none-bought, none-paid, none-received, no
 use Rattle.xm_rules.specs.Refusals.{refusal_of}
 use Rattle.xm_rules.specs.State.{State}
 use Rattle.xm_rules.specs.Step.{Journal, is_lawful, replay, step}
-use Rattle.xm_rules.specs.Sums.{AreWithinLimits, IsBetweenMembers, bought, cash, net, sold}
+use Rattle.xm_rules.specs.Sums.{AreWithinLimits, IsBetweenMembers, cash, has_traded, net}
 use Rattle.xm_rules.specs.declared.commands.Command.{Command}
 use Rattle.xm_rules.specs.declared.orders.Trade.{Trade}
 use Rattle.xm_ticks.specs.declared.numbers.TheConstants.{MAX_JOURNAL_LIMIT, MAX_PRICE}
@@ -61,7 +61,7 @@ module _ (j : Journal) (lawful : is_lawful j ≡ true) (member : ℕ) where
     no_cash =
         (λ i. pos (none-received j.settings.members positions.trades (known j lawful).trades member beyond i) -ℤ pos (none-paid j.settings.members positions.trades (known j lawful).trades member beyond i))
 
-    no_trade : nat_lt 0 (bought member positions.trades + sold member positions.trades) ≡ false
+    no_trade : has_traded member positions.trades ≡ false
     no_trade =
         (λ i. nat_lt 0 (none-bought j.settings.members positions.trades (known j lawful).trades member beyond i + none-sold j.settings.members positions.trades (known j lawful).trades member beyond i))
 
@@ -75,6 +75,6 @@ module _ (j : Journal) (lawful : is_lawful j ≡ true) (member : ℕ) where
   traded_if true t h = refl
   traded_if false t h = sym (h refl)
 
-  pub known-traded : has_traded positions member ≡ nat_lt 0 (bought member positions.trades + sold member positions.trades)
+  pub known-traded : has_position positions member ≡ has_traded member positions.trades
   known-traded =
-      traded_if (nat_lt member j.settings.members) (nat_lt 0 (bought member positions.trades + sold member positions.trades)) (λ e. no_trade (not_below j.settings.members member e))
+      traded_if (nat_lt member j.settings.members) (has_traded member positions.trades) (λ e. no_trade (not_below j.settings.members member e))

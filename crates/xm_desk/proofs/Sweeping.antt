@@ -20,7 +20,7 @@ use Rattle.xm_rules.specs.Active.{Positioned, positioned_from}
 use Rattle.xm_rules.specs.Orders.{is_named, trade_between}
 use Rattle.xm_rules.specs.Priority.{without_units}
 use Rattle.xm_desk.specs.Tape.{TapeView, swept_by}
-use Rattle.xm_match.specs.Meeting.{sweep_of}
+use Rattle.xm_match.specs.Meeting.{sweep_over}
 use Rattle.xm_rules.specs.State.{is_auction, last_auction_price, last_price}
 use Rattle.xm_rules.specs.declared.settings.Widths.{Widths}
 use Rattle.xm_rules.specs.Sweep.{Sweep, fill, meet_price, queue, rest_after, sweep_trades}
@@ -63,7 +63,7 @@ unnamed-after m r taken orders h = unnamed_from m r 0 taken orders h
 
 -- the sweep that a tape's prices make
 pub same-sweep : (t : TapeView) (last last_auction : ℕ) (orders : List Order) (incoming : Order) (widths : Widths) → last ≡ last_price t.opening t.trades → last_auction ≡ last_auction_price t.opening t.trades
-    → sweep_of orders incoming last last_auction widths ≡ swept_by t orders incoming widths
+    → sweep_over orders incoming last last_auction widths ≡ swept_by t orders incoming widths
 same-sweep t last last_auction orders incoming widths e f = rw (e, f) refl
 
 -- no trade is larger than the incoming order

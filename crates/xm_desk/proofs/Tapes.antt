@@ -1,6 +1,5 @@
 -- The reference prices after the trades of a call, and of a sweep.
-use Rattle.std.proofs.Common.{◌≡◌, ℕ, ◌<◌, Bool, true, false, if◌then◌else◌, List, [], ◌∷◌, ◌++◌, All, Some, length, refl, ap, sym, ◌-◌, ◌∙◌, arith, append-nil}
-use Rattle.std.specs.List.{slice_get}
+use Rattle.std.proofs.Common.{◌≡◌, ℕ, ◌<◌, Bool, true, false, if◌then◌else◌, List, [], ◌∷◌, ◌++◌, All, length, refl, ap, ◌∙◌, arith, append-nil}
 use Rattle.std.specs.Prelude.{filter}
 use Rattle.std.proofs.lemmas.List.Elements.{All-head, All-tail, filter-append}
 use Rattle.xm_rules.specs.Sums.{total_quantity}
@@ -47,14 +46,3 @@ none-of-auction (t ∷ ts) h =
 pub last_auction_price-none : (price : ℕ) (ts new : List Trade) → All (λ (t : Trade). of_auction t ≡ false) new → last_auction_price price (ts ++ new) ≡ last_auction_price price ts
 last_auction_price-none price ts new h =
     ap (last_price price) (filter-append of_auction ts new ∙ ap (λ (us : List Trade). filter of_auction ts ++ us) (none-of-auction new h) ∙ append-nil (filter of_auction ts))
-
-last_at : (price : ℕ) (u : Trade) (us : List Trade) (t : Trade) → slice_get (u ∷ us) (length us) ≡ Some t → t.price ≡ last_price price (u ∷ us)
-last_at price u [] t h = let same : u ≡ t = cc in sym (ap (λ (x : Trade). x.price) same)
-last_at price u (v ∷ vs) t h = last_at u.price v vs t h
-
--- the last one of a list has the last price
-pub last_price-of : (price : ℕ) (ts : List Trade) (t : Trade) → slice_get ts (length ts - 1) ≡ Some t → t.price ≡ last_price price ts
-last_price-of price [] t h = cc
-last_price-of price (u ∷ us) t h =
-    let one : length (u ∷ us) - 1 ≡ length us = omega arith in
-    last_at price u us t (ap (slice_get (u ∷ us)) (sym one) ∙ h)

@@ -1,5 +1,4 @@
 pub mod Accepted
-pub mod Calls
 pub mod Entries
 pub mod Frame
 pub mod Growth

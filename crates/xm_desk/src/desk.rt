@@ -1,5 +1,5 @@
 //! The desk of one security.
-ghost use Rattle.std.specs.Prelude.{◌≡◌, ◌≢◌, ◌≤◌, ◌+◌, ◌++◌, ◌∷◌, [], All, IsTrue, None, Some, Err, IfOk, IfErr, OnErr, OnOk, length, nat_lt, pos};
+ghost use Rattle.std.specs.Prelude.{◌≡◌, ◌≢◌, ◌≤◌, ◌+◌, ◌++◌, ◌∷◌, [], All, IsTrue, None, Some, Err, IfOk, IfErr, OnErr, OnOk, length, pos};
 ghost use Rattle.xm_desk.specs.Opening.{open_fault};
 ghost use Rattle.xm_desk.specs.declared.tape.TheConstants.{MAX_TRADES};
 ghost use Rattle.xm_positions.specs.Positions.{cash_position, net_position};
@@ -7,18 +7,19 @@ ghost use Rattle.xm_rules.specs.Refusals.{refusal_of};
 ghost use Rattle.xm_rules.specs.Quote.{best_limit, indicative, quote};
 ghost use Rattle.xm_rules.specs.State.{ref1, ref2};
 ghost use Rattle.xm_rules.specs.Step.{is_lawful, replay, reply};
-ghost use Rattle.xm_rules.specs.Sums.{AreWithinLimits, bought, cash, net, sold, total_money, total_quantity};
+ghost use Rattle.xm_rules.specs.Sums.{AreWithinLimits, cash, has_traded, net, total_money, total_quantity};
 ghost use Rattle.xm_ticks.specs.declared.numbers.TheConstants.{MAX_QUANTITY};
 
 use crate::opening::{OpenFault, open_fault};
 use crate::unsettled::market::Market;
 use std::alloc::Allocator;
 use std::marker::Model;
+use xm_memory::OutOfMemory;
 use xm_names::Seed;
 use xm_positions::Positions;
 use xm_rules::{
-    Command, DeskSettings, Order, OutOfMemory, PHASE_COMMANDS_MORE, Phase, Quote, Refusal, Reply,
-    Side, Stop, Totals, Trade,
+    Command, DeskSettings, Order, PHASE_COMMANDS_MORE, Phase, Quote, Refusal, Reply, Side, Stop,
+    Totals, Trade,
 };
 use xm_ticks::Price;
 
@@ -51,14 +52,14 @@ impl<A: Allocator + Copy> Model for Desk<A> {
 impl<A: Allocator + Copy> Desk<A> {
     /// A desk before the day.
     ///
-    /// More than 1,000 members are `TooMany`. A width outside 1 to 999 thousandths, or a dynamic
+    /// More than 1,000 members are `TooMany`. A width outside 1 to `MAX_WIDTH` thousandths, or a dynamic
     /// one that is not below the wide one, is `BadWidths`. Where the growth of the members' positions is refused, it is
     /// `OutOfMemory`. The names of orders are hashed by the seed, on which no answer depends.
     pub fn open(alloc: A, seed: Seed, settings: DeskSettings) -> Result<Desk<A>, OpenFault>
         ensures opened { IfOk result (λ desk. desk ≡ record { settings = settings; commands = [] }) }
         ensures sound { OnOk result (open_fault settings ≡ None) }
-        ensures refused { IfErr result (λ fault. fault ≢ OpenFault.OutOfMemory → open_fault settings ≡ Some fault) }
-        ensures memory { result ≡ Err OpenFault.OutOfMemory → open_fault settings ≡ None }
+        ensures refused { IfErr result (λ fault. fault ≢ OpenFault.OutOfMemory tt → open_fault settings ≡ Some fault) }
+        ensures memory { result ≡ Err (OpenFault.OutOfMemory tt) → open_fault settings ≡ None }
     {
         if let Some(fault) = open_fault(&settings) {
             return Err(fault);
@@ -114,15 +115,15 @@ impl<A: Allocator + Copy> Desk<A> {
         ensures accepted { OnOk result (refusal_of (replay self.old) command.now ≡ None) }
         ensures journal { OnOk result (self.new ≡ record self.old { commands = self.old.commands ++ command.now ∷ [] }) }
         ensures reply { IfOk result (λ answer. answer ≡ reply (replay self.old) (replay self.new)) }
-        ensures refused { IfErr result (λ refusal. refusal ≢ Refusal.OutOfMemory → refusal_of (replay self.old) command.now ≡ Some refusal) }
-        ensures memory { result ≡ Err Refusal.OutOfMemory → refusal_of (replay self.old) command.now ≡ None }
+        ensures refused { IfErr result (λ refusal. refusal ≢ Refusal.OutOfMemory tt → refusal_of (replay self.old) command.now ≡ Some refusal) }
+        ensures memory { result ≡ Err (Refusal.OutOfMemory tt) → refusal_of (replay self.old) command.now ≡ None }
         ensures kept { OnErr result (self.new ≡ self.old) }
     {
         let accepted = match self.market.check(command) {
             Ok(accepted) => accepted,
             Err(refusal) => return Err(refusal),
         };
-        self.journal.reserve(1)?;
+        self.journal.reserve(1).map_err(OutOfMemory::from)?;
         self.market.reserve(&accepted)?;
         let first_trade = self.market.trades().len();
         self.market.step(&accepted);
@@ -133,9 +134,9 @@ impl<A: Allocator + Copy> Desk<A> {
     }
 
     /// The settings that the desk was opened with.
-    pub fn settings(&self) -> DeskSettings
-        ensures opened { result ≡ self.now.settings }
-        ensures kept { result ≡ (replay self.now).settings }
+    pub fn settings(&self) -> &DeskSettings
+        ensures opened { result.now ≡ self.now.settings }
+        ensures kept { result.now ≡ (replay self.now).settings }
     {
         self.market.settings()
     }
@@ -209,7 +210,7 @@ impl<A: Allocator + Copy> Desk<A> {
 
     /// Whether a member bought or sold a unit.
     pub fn has_traded(&self, member: u32) -> bool
-        ensures { result ≡ nat_lt 0 (bought member (replay self.now).trades + sold member (replay self.now).trades) }
+        ensures { result ≡ has_traded member (replay self.now).trades }
     {
         self.positions.has_traded(member)
     }

@@ -9,7 +9,7 @@ use xm_rules::{Condition, Kind, Order, Restriction, Side, Stop, Validity};
 
 /// The entry of an order or of a stop.
 #[derive(Clone, Copy)]
-pub struct Entry {
+pub struct EntryFields {
     pub member: u32,
     pub reference: u32,
     pub side: Side,
@@ -20,7 +20,7 @@ pub struct Entry {
     pub condition: Condition,
 }
 
-impl Entry {
+impl EntryFields {
     /// What the entry does. Its prices are in range.
     pub fn action(&self) -> Action
         requires { IsTrue (has_prices_in_range self.now.kind) }

@@ -9,5 +9,5 @@ mod tape;
 mod unsettled;
 
 pub use crate::desk::Desk;
-pub use crate::opening::{MAX_MEMBERS, MAX_WIDTH, OpenFault, are_widths};
+pub use crate::opening::{MAX_MEMBERS, OpenFault};
 pub use crate::tape::MAX_TRADES;

@@ -9,13 +9,15 @@ ghost use Rattle.xm_rules.specs.declared.phases.Phase.TheVariants.{Call};
 ghost use Rattle.xm_rules.specs.State.{last_auction_price, last_price};
 ghost use Rattle.xm_rules.specs.Sweep.{filled, is_interrupted, orders_after_sweep, rest_after, sweep_trades};
 ghost use Rattle.xm_ticks.specs.declared.numbers.TheConstants.{MAX_PRICE};
+ghost use Rattle.xm_ticks.specs.declared.ranges.TheConstants.{MAX_WIDTH};
 
 use std::alloc::Allocator;
 use std::marker::Model;
 use xm_auction::allocate;
 use xm_book::{Book, Trades};
 use xm_match::{Swept, sweep};
-use xm_rules::{Auction, CallStage, Order, OutOfMemory, Trade, Widths};
+use xm_memory::OutOfMemory;
+use xm_rules::{Auction, CallStage, Order, Trade, Widths, last_price};
 use xm_ticks::Price;
 
 /// The most trades of a desk: 2,000,000 for each command that its journal takes, of members and of
@@ -136,7 +138,7 @@ impl<A: Allocator> Tape<A> {
     }
 
     /// Takes the trades by which an incoming order is executed against a book. The ranges are those around the last price and
-    /// the last auction price; their widths are in thousandths, at most 999.
+    /// the last auction price; their widths are in thousandths, at most `MAX_WIDTH`.
     pub fn sweep<B: Allocator + Copy>(
         &mut self,
         book: &mut Book<B>,
@@ -144,8 +146,8 @@ impl<A: Allocator> Tape<A> {
         number: u64,
         widths: &Widths,
     ) -> Swept
-        requires dynamic { widths.now.dynamic ≤ 999 }
-        requires statics { widths.now.statics ≤ 999 }
+        requires dynamic { widths.now.dynamic ≤ MAX_WIDTH }
+        requires statics { widths.now.statics ≤ MAX_WIDTH }
         requires room { length book.old.orders ≤ self.old.room }
         ensures orders { book.new ≡ record book.old { orders = orders_after_sweep (swept_by self.old book.old.orders incoming.now widths.now) } }
         ensures trades { self.new ≡ record self.old { trades = self.old.trades ++ sweep_trades number (swept_by self.old book.old.orders incoming.now widths.now); room = self.new.room } }
@@ -166,15 +168,5 @@ impl<A: Allocator> Tape<A> {
         );
         self.last = last_price(self.trades.as_slice(), self.opening);
         swept
-    }
-}
-
-/// The price of the last of these trades, or another price where there is none.
-fn last_price(trades: &[Trade], before: Price) -> Price
-    ensures { result ≡ last_price before trades.now }
-{
-    match trades.last() {
-        None => before,
-        Some(trade) => trade.price,
     }
 }

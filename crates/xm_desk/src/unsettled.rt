@@ -60,7 +60,7 @@ pub struct Unsettled<A: Allocator + Copy> {
 impl<A: Allocator + Copy> Model for Unsettled<A> {
     ghost use Rattle.std.specs.Prelude.{◌≡◌, true};
     ghost use Rattle.xm_desk.specs.Frame.{IsFramed};
-    ghost use Rattle.xm_desk.specs.Opening.{are_widths};
+    ghost use Rattle.xm_rules.specs.Settings.{are_widths};
     ghost use Rattle.xm_desk.specs.Settled.{Unsettled, came};
 
     ghost Value = { Unsettled };

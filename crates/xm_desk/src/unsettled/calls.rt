@@ -1,13 +1,12 @@
 //! Calls, and the end of the day.
 ghost use Rattle.std.specs.Prelude.{◌≡◌, ◌+◌, ◌<◌, [], IsTrue, Some, drop, false, length};
 ghost use Rattle.xm_auction.specs.Allotment.{uncrossing_of};
-ghost use Rattle.xm_desk.specs.Calls.{stage_after};
 ghost use Rattle.xm_desk.specs.Made.{Makes};
 ghost use Rattle.xm_desk.specs.Settled.{came};
 ghost use Rattle.xm_desk.specs.declared.unsettled.Ready.TheVariants.{Used, OneTrade};
 ghost use Rattle.xm_rules.specs.Auction.{auction_price};
 ghost use Rattle.xm_rules.specs.State.{ranges, ref1};
-ghost use Rattle.xm_rules.specs.Step.{day_ended, traded, uncrossed_at};
+ghost use Rattle.xm_rules.specs.Step.{day_ended, stage_after, traded, uncrossed_at};
 ghost use Rattle.xm_rules.specs.declared.phases.CallStage.TheVariants.{Ordinary};
 ghost use Rattle.xm_rules.specs.declared.phases.Phase.TheVariants.{Call};
 ghost use Rattle.xm_rules.specs.declared.settings.TheConstants.{PHASE_COMMANDS_MORE};
@@ -63,26 +62,12 @@ impl<A: Allocator + Copy> Unsettled<A> {
     fn stage_after(&self, stage: CallStage, price: Price) -> Option<CallStage>
         ensures { result ≡ stage_after (ranges self.now.state) stage price }
     {
-        let last = self.tape.last_price();
-        let last_auction = self.tape.last_auction_price();
-        let widths = self.settings.widths;
-        match stage {
-            CallStage::Ordinary => {
-                if widths.is_inside_both(last, last_auction, price) {
-                    None
-                } else {
-                    Some(CallStage::Interrupted)
-                }
-            }
-            CallStage::Interrupted => {
-                if widths.is_inside_wide(last, price) {
-                    None
-                } else {
-                    Some(CallStage::Extended)
-                }
-            }
-            CallStage::Extended => None,
-        }
+        self.settings.widths.stage_after(
+            self.tape.last_price(),
+            self.tape.last_auction_price(),
+            stage,
+            price,
+        )
     }
 
     /// A call trades its volume at its price, and ends.

@@ -2,12 +2,12 @@
 ghost use Rattle.std.specs.Prelude.{◌≡◌, None, Some, Ok, Err, IfErr, IfOk, IsTrue, OnOk, if◌then◌else◌};
 ghost use Rattle.xm_desk.specs.Accepted.{IsAccepted, action_of, changing};
 ghost use Rattle.xm_desk.specs.Entries.{command_of};
-ghost use Rattle.xm_rules.specs.Refusals.{first_failing, has_reached, has_stop, is_allowed, is_full, is_given_in_range, is_limit_for_market, is_unknown_member, is_unknown_order, own_checks, refusal_of};
+ghost use Rattle.xm_rules.specs.Refusals.{first_failing, is_trigger_reached, has_stop, is_allowed, is_full, is_given_in_range, is_limit_for_market, is_unknown_member, is_unknown_order, own_checks, refusal_of};
 ghost use Rattle.xm_rules.specs.declared.commands.Command.TheVariants.{Cancel, Change, Uncross};
 ghost use Rattle.xm_rules.specs.declared.replies.Refusal.TheVariants.{WrongPhase};
 
 use crate::accepted::{Accepted, Action};
-use crate::entries::Entry;
+use crate::entries::EntryFields;
 use crate::unsettled::Unsettled;
 use std::alloc::Allocator;
 use std::snapshot::Snapshot;
@@ -18,6 +18,7 @@ use xm_rules::{
 
 impl<A: Allocator + Copy> Unsettled<A> {
     /// What a command will do, or why it is refused, memory aside: the first of its checks that fails.
+    #[inline(always)]
     pub fn check(&self, command: &Command) -> Result<Accepted, Refusal>
         ensures accepted { IfOk result (λ accepted. IsAccepted self.now.state accepted) }
         ensures command { IfOk result (λ accepted. accepted.command.value ≡ command.now) }
@@ -44,6 +45,7 @@ impl<A: Allocator + Copy> Unsettled<A> {
     }
 
     /// The checks that a command has by itself.
+    #[inline(always)]
     fn check_by_itself(&self, command: &Command) -> Result<Action, Refusal>
         ensures passed { OnOk result (first_failing (own_checks self.now.state command.now) ≡ None) }
         ensures action { IfOk result (λ action. action_of self.now.state command.now ≡ Some action) }
@@ -59,7 +61,7 @@ impl<A: Allocator + Copy> Unsettled<A> {
                 validity,
                 restriction,
                 condition,
-            } => self.check_entry(&Entry {
+            } => self.check_entry(&EntryFields {
                 member,
                 reference,
                 side,
@@ -88,7 +90,7 @@ impl<A: Allocator + Copy> Unsettled<A> {
     }
 
     /// The checks of an entry.
-    fn check_entry(&self, entry: &Entry) -> Result<Action, Refusal>
+    fn check_entry(&self, entry: &EntryFields) -> Result<Action, Refusal>
         ensures passed { OnOk result (first_failing (own_checks self.now.state (command_of entry.now)) ≡ None) }
         ensures action { IfOk result (λ action. action_of self.now.state (command_of entry.now) ≡ Some action) }
         ensures refused { IfErr result (λ refusal. first_failing (own_checks self.now.state (command_of entry.now)) ≡ Some refusal) }
@@ -100,7 +102,7 @@ impl<A: Allocator + Copy> Unsettled<A> {
     }
 
     /// Why an entry is refused by its own checks.
-    fn refusal_of_entry(&self, entry: &Entry) -> Option<Refusal>
+    fn refusal_of_entry(&self, entry: &EntryFields) -> Option<Refusal>
         ensures { result ≡ first_failing (own_checks self.now.state (command_of entry.now)) }
     {
         let condition = entry.condition;
@@ -119,7 +121,7 @@ impl<A: Allocator + Copy> Unsettled<A> {
         } else {
             let trigger = entry.kind.trigger_of();
             refusal_where(
-                self.has_reached(entry.side, trigger),
+                self.is_trigger_reached(entry.side, trigger),
                 Refusal::TriggerReached,
             )
         }
@@ -143,7 +145,7 @@ impl<A: Allocator + Copy> Unsettled<A> {
         match self.book.find(member, reference) {
             None => Err(Refusal::UnknownOrder),
             Some(order) => {
-                if is_limit_for_market(limit, order) {
+                if order.is_limit_for_market(limit) {
                     Err(Refusal::NotChangeable)
                 } else if !is_in_range(quantity) {
                     Err(Refusal::BadQuantity)
@@ -208,8 +210,8 @@ impl<A: Allocator + Copy> Unsettled<A> {
     }
 
     /// Whether the last price has reached this trigger.
-    fn has_reached(&self, side: Side, trigger: Option<u32>) -> bool
-        ensures { result ≡ has_reached self.now.state side trigger }
+    fn is_trigger_reached(&self, side: Side, trigger: Option<u32>) -> bool
+        ensures { result ≡ is_trigger_reached self.now.state side trigger }
     {
         match trigger {
             None => false,
@@ -260,11 +262,4 @@ fn refusal_where(fails: bool, refusal: Refusal) -> Option<Refusal>
     ensures { result ≡ (if fails then Some refusal else None) }
 {
     if fails { Some(refusal) } else { None }
-}
-
-/// Whether a change gives a limit to a market order.
-fn is_limit_for_market(limit: Option<u32>, order: &Order) -> bool
-    ensures { result ≡ is_limit_for_market limit (Some order.now) }
-{
-    limit.is_some() && order.kind == OrderKind::Market
 }

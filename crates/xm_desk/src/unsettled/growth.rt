@@ -11,7 +11,8 @@ use crate::unsettled::{Ready, Unsettled};
 use std::alloc::Allocator;
 use std::snapshot::Snapshot;
 use xm_book::Place;
-use xm_rules::{OutOfMemory, Stop};
+use xm_memory::OutOfMemory;
+use xm_rules::Stop;
 
 impl<A: Allocator + Copy> Unsettled<A> {
     /// Reserves all that an accepted command may need. The state is unchanged.

@@ -3,7 +3,7 @@ ghost use Rattle.std.specs.Prelude.{◌≡◌, ◌+◌, ◌++◌, ◌<◌, ◌�
 ghost use Rattle.xm_desk.specs.Accepted.{IsAccepted};
 ghost use Rattle.xm_desk.specs.Growth.{ready_for};
 ghost use Rattle.xm_desk.specs.Made.{AreSized, IsCounted, Makes};
-ghost use Rattle.xm_desk.specs.Opening.{are_widths};
+ghost use Rattle.xm_rules.specs.Settings.{are_widths};
 ghost use Rattle.xm_desk.specs.Settled.{places_in};
 ghost use Rattle.xm_desk.specs.declared.tape.TheConstants.{MAX_TRADES};
 ghost use Rattle.xm_desk.specs.declared.unsettled.Ready.TheVariants.{Nothing};
@@ -23,11 +23,10 @@ use std::marker::Model;
 use std::snapshot::Snapshot;
 use xm_auction::auction_price;
 use xm_book::Book;
+use xm_memory::OutOfMemory;
 use xm_names::Seed;
 use xm_positions::Positions;
-use xm_rules::{
-    Command, DeskSettings, Order, OutOfMemory, Phase, Refusal, Reply, Side, Stop, Trade,
-};
+use xm_rules::{Command, DeskSettings, Order, Phase, Refusal, Reply, Side, Stop, Trade};
 use xm_stops::{Pending, Stops};
 use xm_ticks::Price;
 
@@ -88,6 +87,7 @@ impl<A: Allocator + Copy> Market<A> {
     }
 
     /// What a command will do, or why it is refused, memory aside.
+    #[inline(always)]
     pub fn check(&self, command: &Command) -> Result<Accepted, Refusal>
         ensures accepted { IfOk result (λ accepted. IsAccepted self.now.state accepted) }
         ensures command { IfOk result (λ accepted. accepted.command.value ≡ command.now) }
@@ -159,10 +159,10 @@ impl<A: Allocator + Copy> Market<A> {
     }
 
     /// The settings of the day.
-    pub fn settings(&self) -> DeskSettings
-        ensures { result ≡ self.now.state.settings }
+    pub fn settings(&self) -> &DeskSettings
+        ensures { result.now ≡ self.now.state.settings }
     {
-        self.inside.settings
+        &self.inside.settings
     }
 
     /// The trades, the first one first.

@@ -23,7 +23,7 @@ pub returns-in-Err-clause-memory : goal.returns-in-Err-clause-memory
 returns-in-Err-clause-memory g c =
     λ e.
     let refused : refusal_of (replay c.args.self.now) c.args.command.now ≡ Some c.in-Err.refusal = search rules in
-    let same : c.in-Err.refusal ≡ OutOfMemory = cc in
+    let same : c.in-Err.refusal ≡ OutOfMemory tt = cc in
     absurd (refusal-not_memory (replay c.args.self.now) c.args.command.now (refused ∙ ap Some same))
 
 -- what the desk holds, and what of it was there before the step

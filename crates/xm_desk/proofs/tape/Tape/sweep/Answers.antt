@@ -3,7 +3,7 @@ use Rattle.xm_book.specs.TimeList.{TimeList}
 use Rattle.xm_desk.proofs.Sweeping.{of-no-auction, same-sweep}
 use Rattle.xm_desk.proofs.Tapes.{last_auction_price-none}
 use Rattle.xm_desk.specs.Tape.{TapeView, swept_by}
-use Rattle.xm_match.specs.Meeting.{sweep_of}
+use Rattle.xm_match.specs.Meeting.{sweep_over}
 use Rattle.xm_rules.specs.State.{last_auction_price, last_price}
 use Rattle.xm_rules.specs.Sweep.{Sweep, filled, orders_after_sweep, rest_after, sweep_trades}
 use Rattle.xm_desk.proofs.tape.Tape.sweep.Given.{Over}
@@ -12,7 +12,7 @@ use Rattle.xm_desk.proofs.tape.Tape.sweep.Goals as goal
 pub invariant_of-self : goal.invariant_of-self
 invariant_of-self g c =
     let t = c.self.inside in
-    let w : Sweep = sweep_of c.args.book.now.orders c.args.incoming.now t.last t.last_auction c.args.widths.now in
+    let w : Sweep = sweep_over c.args.book.now.orders c.args.incoming.now t.last t.last_auction c.args.widths.now in
     let made = sweep_trades c.args.number w in
     let kept = last_auction_price-none t.opening t.trades.trades made (of-no-auction c.args.number w) in
     record {
@@ -22,7 +22,7 @@ invariant_of-self g c =
 
 -- the sweep is that of the tape
 same : (g : Over) (c : goal.After-self-1 g)
-    → sweep_of c.args.book.now.orders c.args.incoming.now c.self.inside.last c.self.inside.last_auction c.args.widths.now ≡ swept_by c.args.self.now c.args.book.now.orders c.args.incoming.now c.args.widths.now
+    → sweep_over c.args.book.now.orders c.args.incoming.now c.self.inside.last c.self.inside.last_auction c.args.widths.now ≡ swept_by c.args.self.now c.args.book.now.orders c.args.incoming.now c.args.widths.now
 same g c =
     let t = c.self.inside in
     let view : TapeView = record { opening = t.opening; trades = t.trades.trades; room = t.trades.room } in

@@ -1,11 +1,9 @@
 use Rattle.std.proofs.Common.{◌≡◌, subst, rules, arith}
-use Rattle.xm_desk.proofs.Actions.{CanDo, Does, does, done}
+use Rattle.xm_desk.proofs.Actions.{Does, does}
 use Rattle.xm_desk.proofs.Making.{makes-all_cancelled, makes-cancelled, makes-ended}
 use Rattle.xm_desk.specs.Accepted.{IsAccepted}
-use Rattle.xm_desk.specs.Settled.{Unsettled}
 use Rattle.xm_desk.specs.declared.accepted.Accepted.{Accepted}
 use Rattle.xm_desk.specs.declared.accepted.Action.{Action}
-use Rattle.xm_desk.specs.declared.unsettled.Ready.TheVariants.{Used}
 use Rattle.xm_rules.proofs.Accepted.{accepted-below}
 use Rattle.xm_rules.specs.State.{State}
 use Rattle.xm_desk.proofs.unsettled.Unsettled.act.Goals as goal

@@ -3,7 +3,6 @@ use Rattle.xm_desk.specs.Accepted.{action_of}
 use Rattle.xm_rules.proofs.Checks.{first_failing-append, first_failing-passed}
 use Rattle.xm_rules.specs.Commands.{member_of}
 use Rattle.xm_rules.specs.Refusals.{Check, first_failing, own_checks, is_ended, is_full, is_unknown_member, refusal_of}
-use Rattle.xm_rules.specs.declared.commands.Command.{Command}
 use Rattle.xm_rules.specs.declared.replies.Refusal.TheVariants.{JournalFull}
 use Rattle.xm_desk.proofs.unsettled.Unsettled.check.Goals as goal
 

@@ -2,8 +2,7 @@ use Rattle.std.proofs.Common.{◌≡◌, ◌∙◌, true, false, find, refl, Non
 use Rattle.xm_desk.proofs.Changing.{change-checks, checks_of}
 use Rattle.xm_rules.specs.Commands.{is_in_range}
 use Rattle.xm_rules.specs.Orders.{is_named}
-use Rattle.xm_rules.specs.Refusals.{first_failing, has_stop, is_given_in_range, is_limit_for_market, own_checks}
-use Rattle.xm_rules.specs.declared.commands.Command.TheVariants.{Change}
+use Rattle.xm_rules.specs.Refusals.{has_stop, is_given_in_range, is_limit_for_market}
 use Rattle.xm_rules.specs.declared.replies.Refusal.TheVariants.{BadPrice, BadQuantity, NotChangeable}
 use Rattle.xm_desk.proofs.unsettled.Unsettled.check_change.Goals as goal
 

@@ -1,4 +1,4 @@
-use Rattle.std.proofs.Common.{◌≡◌, ◌∙◌, List, ap, arith, length, not}
+use Rattle.std.proofs.Common.{◌∙◌, List, ap, arith, length, not}
 use Rattle.xm_book.specs.TimeList.{TimeList}
 use Rattle.xm_desk.proofs.Changing.{can-come-again, leaves-as-cancelled, without}
 use Rattle.xm_desk.proofs.Frames.{fewer}
