@@ -43,8 +43,8 @@ abbrev pub row_of : ℕ → Command → Row
 row_of security command = record { security = security; command = command }
 
 -- the row that `order_record` stands for
-abbrev pub entered : ℕ → Kind → Row
-entered security kind = row_of security (Enter 1 7 Sell kind 30 Day Free Plain)
+abbrev pub entered_row : ℕ → Kind → Row
+entered_row security kind = row_of security (Enter 1 7 Sell kind 30 Day Free Plain)
 
 -- one phase row, a row of each of two members, two phase rows, and one more row of a member
 abbrev pub round_rows : List Row

@@ -12,13 +12,13 @@ max_bytes = 16777216
 abbrev pub of_reading : FileCause → Bool
 of_reading ReadFailed = true
 of_reading TooLong = true
-of_reading OutOfMemory = true
+of_reading (OutOfMemory _) = true
 of_reading _ = false
 
 -- the reader and the memory decide, and not the bytes
 abbrev pub is_from_outside : FileCause → Bool
 is_from_outside ReadFailed = true
-is_from_outside OutOfMemory = true
+is_from_outside (OutOfMemory _) = true
 is_from_outside _ = false
 
 -- a fault at a line

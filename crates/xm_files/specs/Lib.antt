@@ -7,4 +7,5 @@ pub mod Orders
 pub mod Plain
 pub mod Rows
 pub mod Segment
+pub mod Steps
 pub mod Timetable

@@ -1,5 +1,5 @@
 -- The rows of one record of an order file.
-use Rattle.std.specs.Prelude.{ℕ, Bool, ◌&&◌, ◌||◌, if◌then◌else◌, nat_le, ◌==◌, List, [], ◌∷◌, length, map, Option, Some, None, option_map, option_and_then, get_or, slice_get, Result, Ok, Err, codes}
+use Rattle.std.specs.Prelude.{ℕ, Bool, ◌&&◌, ◌||◌, if◌then◌else◌, nat_le, ◌==◌, List, [], ◌∷◌, length, map, Option, Some, None, option_map, get_or, slice_get, Result, Ok, Err, codes}
 use Rattle.std.specs.List.{list_all, position_or_len, range_with_len}
 use Rattle.std.specs.Option.{option_map_or}
 use Rattle.std.specs.Str.{bytes_eq}
@@ -18,22 +18,18 @@ use Rattle.xm_rules.specs.declared.orders.Validity.TheVariants.{Day, TillDate, T
 use Rattle.xm_ticks.specs.Reading.{number_of, price_of}
 use Rattle.xm_ticks.specs.declared.reading.PriceFault.{PriceFault}
 use Rattle.xm_ticks.specs.declared.reading.PriceFault.TheVariants.{NotANumber}
+use Rattle.xm_files.specs.Steps.{◌>>=◌}
 use Rattle.xm_files.specs.Names.{NameLists}
 use Rattle.xm_files.specs.declared.columns.Column.{Column}
 use Rattle.xm_files.specs.declared.columns.Column.TheVariants as column
 use Rattle.xm_segment.specs.declared.config.SecurityConfig.{SecurityConfig}
 use Rattle.xm_segment.specs.declared.config.SegmentConfig.{SegmentConfig}
-use Rattle.xm_files.specs.declared.entries.Entry.{Entry}
-use Rattle.xm_files.specs.declared.entries.Entry.TheVariants.{One, Each}
+use Rattle.xm_files.specs.declared.entries.RecordEntry.{RecordEntry}
+use Rattle.xm_files.specs.declared.entries.RecordEntry.TheVariants.{One, Each}
 use Rattle.xm_files.specs.declared.entries.Word.{Word}
 use Rattle.xm_files.specs.declared.entries.Word.TheVariants as word
 use Rattle.xm_files.specs.declared.records.Fields.{Fields}
 use Rattle.xm_segment.specs.declared.rows.Row.{Row}
-
--- a step that asks for the value of the step before
-infixl 10 ◌>>=◌
-abbrev ◌>>=◌ : {A B : Type 0} → Option A → (A → Option B) → Option B
-value >>= next = option_and_then next value
 
 -- the columns, in their order
 abbrev pub columns : List Column
@@ -95,8 +91,8 @@ whole_of text = if nat_le (length text) 10 then number_of text >>= (λ n. if nat
 abbrev pub name_index : List (List ℕ) → List ℕ → Option ℕ
 name_index names text = if length text == 0 then None else Some (position_or_len (bytes_eq text) names)
 
-abbrev pub side_of : List ℕ → Option Side
-side_of text = if bytes_eq text (codes "buy") then Some Buy else (if bytes_eq text (codes "sell") then Some Sell else None)
+abbrev pub side_named : List ℕ → Option Side
+side_named text = if bytes_eq text (codes "buy") then Some Buy else (if bytes_eq text (codes "sell") then Some Sell else None)
 
 -- the raw price of a text that is a number; it is 0, which is refused later, where the number is no price
 abbrev pub raw_price : Result ℕ PriceFault → Option ℕ
@@ -159,7 +155,7 @@ condition_of text =
 abbrev pub order_command : ℕ → ℕ → List (List ℕ) → Option Command
 order_command tick member fields =
     whole_of (field column.Reference fields) >>= (λ reference.
-    side_of (field column.Side fields) >>= (λ side.
+    side_named (field column.Side fields) >>= (λ side.
     kind_in_record tick fields >>= (λ kind.
     whole_of (field column.Quantity fields) >>= (λ quantity.
     validity_of (field column.Validity fields) >>= (λ validity.
@@ -168,14 +164,14 @@ order_command tick member fields =
     Some (command.Enter member reference side kind quantity validity restriction condition))))))))
 
 -- a member's row, whose command the member's and the security's index make
-abbrev pub member_row : NameLists → List (List ℕ) → (ℕ → ℕ → Option Command) → Option Entry
+abbrev pub member_row : NameLists → List (List ℕ) → (ℕ → ℕ → Option Command) → Option RecordEntry
 member_row names fields make =
     name_index names.members (field column.Member fields) >>= (λ member.
     name_index names.securities (field column.Security fields) >>= (λ security.
     make member security >>= (λ made.
     Some (One (record { security = security; command = made })))))
 
-abbrev pub enter_entry : NameLists → List SecurityConfig → List (List ℕ) → Option Entry
+abbrev pub enter_entry : NameLists → List SecurityConfig → List (List ℕ) → Option RecordEntry
 enter_entry names securities fields = member_row names fields (λ member security. order_command (tick_of securities security) member fields)
 
 -- the limit that a change gives, where it gives one
@@ -193,7 +189,7 @@ change_command tick member fields =
 abbrev pub change_blank : List Column
 change_blank = column.Side ∷ column.Kind ∷ column.Trigger ∷ column.Validity ∷ column.Restriction ∷ column.Condition ∷ []
 
-abbrev pub change_entry : NameLists → List SecurityConfig → List (List ℕ) → Option Entry
+abbrev pub change_entry : NameLists → List SecurityConfig → List (List ℕ) → Option RecordEntry
 change_entry names securities fields =
     if are_empty change_blank fields then member_row names fields (λ member security. change_command (tick_of securities security) member fields) else None
 
@@ -201,7 +197,7 @@ change_entry names securities fields =
 abbrev pub cancel_blank : List Column
 cancel_blank = column.Side ∷ column.Kind ∷ column.Limit ∷ column.Trigger ∷ column.Quantity ∷ column.Validity ∷ column.Restriction ∷ column.Condition ∷ []
 
-abbrev pub cancel_entry : NameLists → List (List ℕ) → Option Entry
+abbrev pub cancel_entry : NameLists → List (List ℕ) → Option RecordEntry
 cancel_entry names fields =
     if are_empty cancel_blank fields
     then member_row names fields (λ member security. option_map (command.Cancel member) (whole_of (field column.Reference fields))) else None
@@ -210,7 +206,7 @@ cancel_entry names fields =
 abbrev pub cancel_all_blank : List Column
 cancel_all_blank = column.Reference ∷ cancel_blank
 
-abbrev pub cancel_all_entry : NameLists → List (List ℕ) → Option Entry
+abbrev pub cancel_all_entry : NameLists → List (List ℕ) → Option RecordEntry
 cancel_all_entry names fields =
     if are_empty cancel_all_blank fields then member_row names fields (λ member security. Some (command.CancelAll member)) else None
 
@@ -218,7 +214,7 @@ cancel_all_entry names fields =
 abbrev pub phase_blank : List Column
 phase_blank = column.Member ∷ cancel_all_blank
 
-abbrev pub phase_entry : Command → NameLists → List (List ℕ) → Option Entry
+abbrev pub phase_entry : Command → NameLists → List (List ℕ) → Option RecordEntry
 phase_entry phase names fields =
     if are_empty phase_blank fields
     then (if bytes_eq (field column.Security fields) (codes "*") then Some (Each phase)
@@ -239,7 +235,7 @@ word_of text =
     else (if bytes_eq text (codes "end") then Some word.End else None))))))))
 
 -- what a record with this command word says, if each of its fields is lawful
-abbrev pub entry_with : Option Word → NameLists → List SecurityConfig → List (List ℕ) → Option Entry
+abbrev pub entry_with : Option Word → NameLists → List SecurityConfig → List (List ℕ) → Option RecordEntry
 entry_with None names securities fields = None
 entry_with (Some word.Enter) names securities fields = enter_entry names securities fields
 entry_with (Some word.Change) names securities fields = change_entry names securities fields
@@ -251,11 +247,11 @@ entry_with (Some word.Close) names securities fields = phase_entry command.Start
 entry_with (Some word.Uncross) names securities fields = phase_entry command.Uncross names fields
 entry_with (Some word.End) names securities fields = phase_entry command.EndDay names fields
 
-abbrev pub record_entry : NameLists → List SecurityConfig → List (List ℕ) → Option Entry
+abbrev pub record_entry : NameLists → List SecurityConfig → List (List ℕ) → Option RecordEntry
 record_entry names securities fields = entry_with (word_of (field column.Command fields)) names securities fields
 
 -- the rows of an entry in a segment of so many securities: one, or one per security in index order
-abbrev pub rows_of_entry : ℕ → Entry → List Row
+abbrev pub rows_of_entry : ℕ → RecordEntry → List Row
 rows_of_entry count (One row) = row ∷ []
 rows_of_entry count (Each phase) = map (λ security. record { security = security; command = phase }) (range_with_len 0 count)
 

@@ -1,5 +1,5 @@
 -- What a segment file gives: its settings and its names, or its first fault.
-use Rattle.std.specs.Prelude.{ℕ, ℤ, pos, negsuc, ◌+◌, Bool, true, ◌&&◌, ◌||◌, not, if◌then◌else◌, nat_lt, nat_le, List, [], ◌∷◌, ◌++◌, length, Option, Some, None, is_some, option_map, option_and_then, Result, Ok, Err, codes}
+use Rattle.std.specs.Prelude.{ℕ, ℤ, pos, negsuc, ◌+◌, Bool, true, ◌&&◌, ◌||◌, not, if◌then◌else◌, nat_lt, nat_le, List, [], ◌∷◌, ◌++◌, length, Option, Some, None, is_some, option_map, Result, Ok, Err, codes}
 use Rattle.std.specs.List.{list_all, list_any}
 use Rattle.std.specs.Option.{ok_or}
 use Rattle.std.specs.Result.{result_ok}
@@ -8,6 +8,7 @@ use Rattle.toml.specs.Data.{Data, Items, no_items, item, Members, no_members, me
 use Rattle.toml.specs.Parse.{parse_document}
 use Rattle.xm_rules.specs.declared.settings.Widths.{Widths}
 use Rattle.xm_ticks.specs.Reading.{price_of}
+use Rattle.xm_files.specs.Steps.{◌>>=◌}
 use Rattle.xm_files.specs.FileFaults.{fault_at, max_bytes, result_then}
 use Rattle.xm_files.specs.Names.{NameLists, is_among}
 use Rattle.xm_segment.specs.declared.config.SecurityConfig.{SecurityConfig}
@@ -15,11 +16,6 @@ use Rattle.xm_segment.specs.declared.config.SegmentConfig.{SegmentConfig}
 use Rattle.xm_files.specs.declared.file_faults.FileCause.{FileCause}
 use Rattle.xm_files.specs.declared.file_faults.FileCause.TheVariants.{TooLong, Syntax, MissingKey, UnknownKey, BadValue, DuplicateName}
 use Rattle.xm_files.specs.declared.file_faults.FileFault.{FileFault}
-
--- a step that asks for the value of the step before
-infixl 10 ◌>>=◌
-abbrev ◌>>=◌ : {A B : Type 0} → Option A → (A → Option B) → Option B
-value >>= next = option_and_then next value
 
 -- the characters `A` to `Z` and `0` to `9`
 abbrev pub is_name_character : ℕ → Bool
@@ -132,7 +128,7 @@ are_distinct [] = true
 are_distinct (name ∷ names) = not (is_among name names) && are_distinct names
 
 -- the securities in index order: their names and their settings
-pub record Listing : Type 0 where
+pub record ListedSecurities : Type 0 where
   pub names : List (List ℕ)
   pub settings : List SecurityConfig
 
@@ -141,19 +137,19 @@ abbrev pub fault_after : List (List ℕ) → FileCause → FileFault
 fault_after names cause = fault_at (length names + 1) cause
 
 -- these securities and one more, whose name is not among theirs
-abbrev pub listed : Listing → Result Security FileCause → Result Listing FileFault
-listed done (Err cause) = Err (fault_after done.names cause)
-listed done (Ok security) =
+abbrev pub with_security : ListedSecurities → Result Security FileCause → Result ListedSecurities FileFault
+with_security done (Err cause) = Err (fault_after done.names cause)
+with_security done (Ok security) =
     if is_among security.name done.names then Err (fault_after done.names DuplicateName)
     else Ok (record { names = done.names ++ security.name ∷ []; settings = done.settings ++ security.settings ∷ [] })
 
 -- these securities and those of the tables, or the first fault
-abbrev pub securities_after : Listing → List Members → Result Listing FileFault
+abbrev pub securities_after : ListedSecurities → List Members → Result ListedSecurities FileFault
 securities_after done [] = Ok done
-securities_after done (table ∷ tables) = result_then (listed done (security_of table)) (λ more. securities_after more tables)
+securities_after done (table ∷ tables) = result_then (with_security done (security_of table)) (λ more. securities_after more tables)
 
 -- the settings and the names of a segment
-abbrev pub segment_from : Top → Listing → SegmentConfig × NameLists
+abbrev pub segment_from : Top → ListedSecurities → SegmentConfig × NameLists
 segment_from top securities =
     (record { today = top.today; members = length top.members; securities = securities.settings }, record { members = top.members; securities = securities.names })
 

@@ -3,10 +3,11 @@ ghost use Rattle.std.specs.Prelude.{◌≡◌, ◌+◌, ◌<◌, ◌≤◌, ◌�
 ghost use Rattle.xm_files.specs.Batches.{rows_so_far};
 
 use crate::orders::MAX_ROWS;
-use std::alloc::{AllocError, Global};
+use std::alloc::Global;
 use std::marker::Model;
 use std::mem;
 use std::snapshot::Snapshot;
+use xm_memory::OutOfMemory;
 use xm_segment::Row;
 
 /// The batches before one. A snapshot has no bytes.
@@ -86,7 +87,7 @@ impl Batch {
 
     /// Adds a row.
     #[inline(always)]
-    pub(crate) fn push(&mut self, row: Row) -> Result<(), AllocError>
+    pub(crate) fn push(&mut self, row: Row) -> Result<(), OutOfMemory>
         requires { length (rows_so_far self.old) < MAX_ROWS }
         ensures { OnOk result (self.new ≡ record self.old { rows = self.old.rows ++ row ∷ [] }) }
     {

@@ -5,6 +5,7 @@ ghost use Rattle.xm_files.specs.FileFaults.{of_reading};
 use crate::file_faults::FileCause;
 use std::alloc::Global;
 use std::io::Read;
+use xm_memory::OutOfMemory;
 
 /// The most bytes that a file may have.
 pub const MAX_BYTES: usize = 16_777_216;
@@ -33,7 +34,9 @@ pub fn read_whole<R: Read>(alloc: Global, reader: &mut R) -> Result<Vec<u8>, Fil
         if MAX_BYTES - bytes.len() < count {
             return Err(FileCause::TooLong);
         }
-        bytes.extend_from_slice(&buffer[..count])?;
+        bytes
+            .extend_from_slice(&buffer[..count])
+            .map_err(OutOfMemory::from)?;
     }
     unreachable!()
 }

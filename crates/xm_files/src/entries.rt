@@ -5,7 +5,7 @@ ghost use Rattle.xm_files.specs.Rows.{cancel_all_entry, cancel_entry, change_com
 
 use crate::columns::Column;
 use crate::fields::{condition, is_word, price, restriction, side, validity, whole};
-use crate::names::Names;
+use crate::names::SegmentNames;
 use crate::records::Fields;
 use xm_rules::{Command, Kind};
 use xm_segment::{Row, SecurityConfig, SegmentConfig};
@@ -13,7 +13,7 @@ use xm_ticks::TickSize;
 
 /// What a record says: one row, or a command for each security.
 #[derive(Clone, Copy, PartialEq, Eq, Debug)]
-pub(crate) enum Entry {
+pub(crate) enum RecordEntry {
     One(Row),
     Each(Command),
 }
@@ -33,7 +33,11 @@ enum Word {
 }
 
 /// What a record says, if each of its fields is lawful.
-pub(crate) fn parse_entry(fields: &Fields, names: &Names, config: &SegmentConfig) -> Option<Entry>
+pub(crate) fn parse_entry(
+    fields: &Fields,
+    names: &SegmentNames,
+    config: &SegmentConfig,
+) -> Option<RecordEntry>
     ensures { result ≡ record_entry names.now config.now.securities (texts_of fields.now) }
 {
     match parse_word(fields.text(Column::Command))? {
@@ -77,7 +81,7 @@ fn parse_word(text: &[u8]) -> Option<Word>
 }
 
 /// The index of the member in a record; an unknown name has the number of names as its index.
-fn member(fields: &Fields, names: &Names) -> Option<u32>
+fn member(fields: &Fields, names: &SegmentNames) -> Option<u32>
     ensures { result ≡ name_index names.now.members (field column.Member (texts_of fields.now)) }
 {
     let name = fields.text(Column::Member);
@@ -89,7 +93,7 @@ fn member(fields: &Fields, names: &Names) -> Option<u32>
 }
 
 /// The index of the security in a record; an unknown name has the number of names as its index.
-fn security(fields: &Fields, names: &Names) -> Option<u32>
+fn security(fields: &Fields, names: &SegmentNames) -> Option<u32>
     ensures { result ≡ name_index names.now.securities (field column.Security (texts_of fields.now)) }
 {
     let name = fields.text(Column::Security);
@@ -101,13 +105,17 @@ fn security(fields: &Fields, names: &Names) -> Option<u32>
 }
 
 /// The order that a record enters.
-fn enter(fields: &Fields, names: &Names, securities: &[SecurityConfig]) -> Option<Entry>
+fn enter(
+    fields: &Fields,
+    names: &SegmentNames,
+    securities: &[SecurityConfig],
+) -> Option<RecordEntry>
     ensures { result ≡ enter_entry names.now securities.now (texts_of fields.now) }
 {
     let member = member(fields, names)?;
     let security = security(fields, names)?;
     let command = order(fields, member, tick(securities, security))?;
-    Some(Entry::One(Row { security, command }))
+    Some(RecordEntry::One(Row { security, command }))
 }
 
 /// The tick of a security, and the finest one where the security is unknown.
@@ -202,7 +210,11 @@ fn limit(fields: &Fields, tick: TickSize) -> Option<Kind>
 }
 
 /// The change of an order that a record is.
-fn change(fields: &Fields, names: &Names, securities: &[SecurityConfig]) -> Option<Entry>
+fn change(
+    fields: &Fields,
+    names: &SegmentNames,
+    securities: &[SecurityConfig],
+) -> Option<RecordEntry>
     ensures { result ≡ change_entry names.now securities.now (texts_of fields.now) }
 {
     let blank = [
@@ -219,7 +231,7 @@ fn change(fields: &Fields, names: &Names, securities: &[SecurityConfig]) -> Opti
     let member = member(fields, names)?;
     let security = security(fields, names)?;
     let command = changed(fields, member, tick(securities, security))?;
-    Some(Entry::One(Row { security, command }))
+    Some(RecordEntry::One(Row { security, command }))
 }
 
 /// The change that a member makes in a security with this tick.
@@ -261,7 +273,7 @@ const CANCEL_BLANK: [Column; 8] = [
 ];
 
 /// The cancellation that a record is.
-fn cancel(fields: &Fields, names: &Names) -> Option<Entry>
+fn cancel(fields: &Fields, names: &SegmentNames) -> Option<RecordEntry>
     ensures { result ≡ cancel_entry names.now (texts_of fields.now) }
 {
     if !fields.are_empty(&CANCEL_BLANK) {
@@ -270,14 +282,14 @@ fn cancel(fields: &Fields, names: &Names) -> Option<Entry>
     let member = member(fields, names)?;
     let security = security(fields, names)?;
     let reference = whole(fields.text(Column::Reference))?;
-    Some(Entry::One(Row {
+    Some(RecordEntry::One(Row {
         security,
         command: Command::Cancel { member, reference },
     }))
 }
 
 /// The cancellation of all orders of a member that a record is.
-fn cancel_all(fields: &Fields, names: &Names) -> Option<Entry>
+fn cancel_all(fields: &Fields, names: &SegmentNames) -> Option<RecordEntry>
     ensures { result ≡ cancel_all_entry names.now (texts_of fields.now) }
 {
     if !fields.are_empty(&[Column::Reference]) || !fields.are_empty(&CANCEL_BLANK) {
@@ -285,22 +297,22 @@ fn cancel_all(fields: &Fields, names: &Names) -> Option<Entry>
     }
     let member = member(fields, names)?;
     let security = security(fields, names)?;
-    Some(Entry::One(Row {
+    Some(RecordEntry::One(Row {
         security,
         command: Command::CancelAll { member },
     }))
 }
 
 /// The phase command that a record gives to one security, or by `*` to each.
-fn phase(fields: &Fields, names: &Names, command: Command) -> Option<Entry>
+fn phase(fields: &Fields, names: &SegmentNames, command: Command) -> Option<RecordEntry>
     ensures { result ≡ phase_entry command names.now (texts_of fields.now) }
 {
     if !fields.are_empty(&[Column::Member, Column::Reference]) || !fields.are_empty(&CANCEL_BLANK) {
         return None;
     }
     if is_word(fields.text(Column::Security), "*") {
-        return Some(Entry::Each(command));
+        return Some(RecordEntry::Each(command));
     }
     let security = security(fields, names)?;
-    Some(Entry::One(Row { security, command }))
+    Some(RecordEntry::One(Row { security, command }))
 }

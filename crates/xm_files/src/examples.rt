@@ -1,8 +1,8 @@
 //! What the definitions give on worked examples. Each function promises one by its contract.
 ghost use Rattle.std.specs.Prelude.{◌≡◌, codes, map, [], ◌∷◌, Some, None, Ok, Err, true, false};
-ghost use Rattle.xm_files.specs.Examples.{change_record, entered, every_title, order_record, phase_record, record_names, record_settings, round_rows, row_of};
+ghost use Rattle.xm_files.specs.Examples.{change_record, entered_row, every_title, order_record, phase_record, record_names, record_settings, round_rows, row_of};
 ghost use Rattle.xm_files.specs.Orders.{with_record};
-ghost use Rattle.xm_files.specs.Rows.{columns, condition_of, is_header, name_index, restriction_of, rows_of_record, side_of, title_of, validity_of, whole_of};
+ghost use Rattle.xm_files.specs.Rows.{columns, condition_of, is_header, name_index, restriction_of, rows_of_record, side_named, title_of, validity_of, whole_of};
 ghost use Rattle.xm_files.specs.Segment.{are_distinct, is_name};
 ghost use Rattle.xm_files.specs.Timetable.{rounds_of, share_of};
 ghost use Rattle.xm_files.specs.declared.file_faults.FileCause.TheVariants.{BadField, BadHeader, Syntax};
@@ -23,7 +23,7 @@ pub fn titles()
 
 /// The words of sides, restrictions and conditions. An empty field is the plain case, and another word is none.
 pub fn words()
-    ensures sides { map side_of (codes "buy" ∷ codes "sell" ∷ codes "Buy" ∷ codes "" ∷ []) ≡ Some Buy ∷ Some Sell ∷ None ∷ None ∷ [] }
+    ensures sides { map side_named (codes "buy" ∷ codes "sell" ∷ codes "Buy" ∷ codes "" ∷ []) ≡ Some Buy ∷ Some Sell ∷ None ∷ None ∷ [] }
     ensures restrictions { map restriction_of (codes "" ∷ codes "free" ∷ codes "opening" ∷ codes "auctions" ∷ codes "closing" ∷ codes "open" ∷ [])
         ≡ Some Free ∷ Some Free ∷ Some OpeningOnly ∷ Some AuctionsOnly ∷ Some ClosingOnly ∷ None ∷ [] }
     ensures conditions { map condition_of (codes "" ∷ codes "plain" ∷ codes "ioc" ∷ codes "fok" ∷ codes "gtc" ∷ []) ≡ Some Plain ∷ Some Plain ∷ Some Ioc ∷ Some Fok ∷ None ∷ [] }
@@ -61,12 +61,12 @@ pub fn names()
 
 /// The rows of records that enter an order or a stop, at ticks of 50 in the first security.
 pub fn orders_entered()
-    ensures limit { rows_of_record record_names record_settings (order_record (codes "XYZ") (codes "limit") (codes "1.005") (codes "")) ≡ Some (entered 0 (Limit 201) ∷ []) }
-    ensures market { rows_of_record record_names record_settings (order_record (codes "UVW") (codes "market") (codes "") (codes "")) ≡ Some (entered 1 Market ∷ []) }
-    ensures stop_market { rows_of_record record_names record_settings (order_record (codes "XYZ") (codes "stop-market") (codes "") (codes "1")) ≡ Some (entered 0 (StopMarket 200) ∷ []) }
-    ensures stop_limit { rows_of_record record_names record_settings (order_record (codes "XYZ") (codes "stop-limit") (codes "1.005") (codes "1")) ≡ Some (entered 0 (StopLimit 200 201) ∷ []) }
-    ensures off_tick { rows_of_record record_names record_settings (order_record (codes "XYZ") (codes "limit") (codes "1.001") (codes "")) ≡ Some (entered 0 (Limit 0) ∷ []) }
-    ensures unknown_security { rows_of_record record_names record_settings (order_record (codes "ABC") (codes "limit") (codes "1.001") (codes "")) ≡ Some (entered 2 (Limit 10010) ∷ []) }
+    ensures limit { rows_of_record record_names record_settings (order_record (codes "XYZ") (codes "limit") (codes "1.005") (codes "")) ≡ Some (entered_row 0 (Limit 201) ∷ []) }
+    ensures market { rows_of_record record_names record_settings (order_record (codes "UVW") (codes "market") (codes "") (codes "")) ≡ Some (entered_row 1 Market ∷ []) }
+    ensures stop_market { rows_of_record record_names record_settings (order_record (codes "XYZ") (codes "stop-market") (codes "") (codes "1")) ≡ Some (entered_row 0 (StopMarket 200) ∷ []) }
+    ensures stop_limit { rows_of_record record_names record_settings (order_record (codes "XYZ") (codes "stop-limit") (codes "1.005") (codes "1")) ≡ Some (entered_row 0 (StopLimit 200 201) ∷ []) }
+    ensures off_tick { rows_of_record record_names record_settings (order_record (codes "XYZ") (codes "limit") (codes "1.001") (codes "")) ≡ Some (entered_row 0 (Limit 0) ∷ []) }
+    ensures unknown_security { rows_of_record record_names record_settings (order_record (codes "ABC") (codes "limit") (codes "1.001") (codes "")) ≡ Some (entered_row 2 (Limit 10010) ∷ []) }
     ensures no_number { rows_of_record record_names record_settings (order_record (codes "XYZ") (codes "limit") (codes "a") (codes "")) ≡ None }
     ensures no_limit { rows_of_record record_names record_settings (order_record (codes "XYZ") (codes "limit") (codes "") (codes "")) ≡ None }
     ensures trigger { rows_of_record record_names record_settings (order_record (codes "XYZ") (codes "limit") (codes "1") (codes "1")) ≡ None }

@@ -2,7 +2,7 @@
 ghost use Rattle.std.specs.Prelude.{◌≡◌};
 ghost use Rattle.std.specs.Str.{bytes_eq};
 ghost use Rattle.xm_ticks.specs.Reading.{price_of};
-ghost use Rattle.xm_files.specs.Rows.{condition_of, date_of, raw_price, restriction_of, side_of, validity_of, whole_of};
+ghost use Rattle.xm_files.specs.Rows.{condition_of, date_of, raw_price, restriction_of, side_named, validity_of, whole_of};
 
 use xm_rules::{Condition, Restriction, Side, Validity};
 use xm_ticks::{PriceFault, TickSize, read_number, read_price};
@@ -40,7 +40,7 @@ pub(crate) fn price(text: &[u8], tick: TickSize) -> Option<u32>
 
 /// The side that a text names.
 pub(crate) fn side(text: &[u8]) -> Option<Side>
-    ensures { result ≡ side_of text.now }
+    ensures { result ≡ side_named text.now }
 {
     if is_word(text, "buy") {
         Some(Side::Buy)

@@ -1,9 +1,10 @@
 //! What is wrong with a file.
-ghost use Rattle.std.specs.Prelude.{◌≡◌};
+ghost use Rattle.std.specs.Prelude.{◌≡◌, ◌≢◌};
+ghost use Rattle.toml.specs.Errors.{IsMemory};
 ghost use Rattle.xm_files.specs.declared.file_faults.FileCause.TheVariants.{OutOfMemory};
 
-use std::alloc::{AllocError, AllocFailed};
 use thiserror::Error;
+use xm_memory::OutOfMemory;
 
 /// What is wrong with a file, in the order of the checks.
 #[derive(Clone, Copy, PartialEq, Eq, Debug)]
@@ -31,7 +32,7 @@ pub enum FileCause {
     /// An order file has more than 1,000,000 rows.
     TooManyRows,
     /// A growth was refused.
-    OutOfMemory,
+    OutOfMemory(OutOfMemory),
 }
 
 /// What is wrong with a file, and where.
@@ -46,19 +47,26 @@ pub struct FileFault {
     pub cause: FileCause,
 }
 
-impl From<AllocError> for FileCause {
-    ghost from_gives = { λ _ cause. cause ≡ OutOfMemory };
-
-    fn from(_error: AllocError) -> FileCause {
-        FileCause::OutOfMemory
+impl FileCause {
+    /// The fault that a cause is at a line. Want of memory has none.
+    pub(crate) fn at(self, line: u32) -> FileFault
+        ensures cause { result.cause ≡ self }
+        ensures memory { self ≡ FileCause.OutOfMemory tt → result.line ≡ 0 }
+        ensures line { self ≢ FileCause.OutOfMemory tt → result.line ≡ line }
+    {
+        let line = match self {
+            FileCause::OutOfMemory(_) => 0,
+            _ => line,
+        };
+        FileFault { line, cause: self }
     }
 }
 
-impl<T: Drop> From<AllocFailed<T>> for FileCause {
-    ghost from_gives = { λ _ cause. cause ≡ OutOfMemory };
+impl From<OutOfMemory> for FileCause {
+    ghost from_gives = { λ _ cause. cause ≡ OutOfMemory tt };
 
-    fn from(_error: AllocFailed<T>) -> FileCause {
-        FileCause::OutOfMemory
+    fn from(error: OutOfMemory) -> FileCause {
+        FileCause::OutOfMemory(error)
     }
 }
 
@@ -71,18 +79,29 @@ impl From<FileCause> for FileFault {
     }
 }
 
-impl From<AllocError> for FileFault {
-    ghost from_gives = { λ _ fault. fault ≡ record { line = 0; cause = OutOfMemory } };
+impl From<OutOfMemory> for FileFault {
+    ghost from_gives = { λ _ fault. fault ≡ record { line = 0; cause = OutOfMemory tt } };
 
-    fn from(error: AllocError) -> FileFault {
+    fn from(error: OutOfMemory) -> FileFault {
         FileFault::from(FileCause::from(error))
     }
 }
 
-impl<T: Drop> From<AllocFailed<T>> for FileFault {
-    ghost from_gives = { λ _ fault. fault ≡ record { line = 0; cause = OutOfMemory } };
-
-    fn from(error: AllocFailed<T>) -> FileFault {
-        FileFault::from(FileCause::from(error))
+/// Why TOML refuses a text.
+pub(crate) fn parse_cause(error: &toml::de::Error) -> FileCause
+    ensures memory { IsMemory error.now → result ≡ FileCause.OutOfMemory tt }
+    ensures syntax { result ≢ FileCause.OutOfMemory tt → (result ≡ FileCause.Syntax) × ¬ (IsMemory error.now) }
+{
+    if error.is_memory() {
+        FileCause::from(OutOfMemory::told_by(error))
+    } else {
+        FileCause::Syntax
     }
+}
+
+/// Why CSV doesn't read a text on, whose records may have any length: memory was wanting.
+pub(crate) fn csv_fault(error: &csv::Error) -> FileFault
+    ensures { result ≡ record { line = 0; cause = FileCause.OutOfMemory tt } }
+{
+    FileFault::from(OutOfMemory::told_by(error))
 }

@@ -19,7 +19,7 @@ mod timetable;
 pub use crate::batch::Batch;
 pub use crate::bytes::MAX_BYTES;
 pub use crate::file_faults::{FileCause, FileFault};
-pub use crate::names::Names;
+pub use crate::names::SegmentNames;
 pub use crate::orders::{MAX_ROWS, RowReader, read_orders, read_rows};
 pub use crate::segment::read_segment;
 pub use crate::timetable::{Round, rounds, share};

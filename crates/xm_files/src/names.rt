@@ -11,6 +11,7 @@ use indexmap::IndexSet;
 use std::alloc::Global;
 use std::hash::{BuildHasherDefault, FoldHasher};
 use std::marker::Model;
+use xm_memory::{OutOfMemory, count_within};
 
 /// The most names of a kind, which is more than a file has room for.
 const MOST_NAMES: usize = MAX_BYTES;
@@ -117,15 +118,23 @@ impl NameList {
     pub(crate) fn add(&mut self, alloc: Global, name: &str) -> Result<(), FileCause>
         ensures fresh { OnOk result (is_among name.now self.old ≡ false) }
         ensures added { OnOk result (self.new ≡ self.old ++ name.now ∷ []) }
-        ensures causes { IfErr result (λ cause. cause ≢ FileCause.OutOfMemory → (cause ≡ FileCause.DuplicateName) × (is_among name.now self.old ≡ true)) }
+        ensures causes { IfErr result (λ cause. cause ≢ FileCause.OutOfMemory tt → (cause ≡ FileCause.DuplicateName) × (is_among name.now self.old ≡ true)) }
         ensures kept { OnErr result (self.new ≡ self.old) }
     {
         if self.names.contains(name) {
             return Err(FileCause::DuplicateName);
         }
-        if self.names.len() == MOST_NAMES {
-            return Err(FileCause::OutOfMemory);
-        }
+        self.push(alloc, name)?;
+        Ok(())
+    }
+
+    /// Adds a name that isn't there yet.
+    fn push(&mut self, alloc: Global, name: &str) -> Result<(), OutOfMemory>
+        requires { is_among name.now self.old ≡ false }
+        ensures added { OnOk result (self.new ≡ self.old ++ name.now ∷ []) }
+        ensures kept { OnErr result (self.new ≡ self.old) }
+    {
+        count_within(self.names.len() as u64, MOST_NAMES as u64 - 1)?;
         let (bytes, index) = (name.as_bytes(), self.len());
         let name = String::from_str(alloc, name)?;
         self.names.insert(name)?;
@@ -199,12 +208,12 @@ fn place_of(number: u128) -> usize
 /// The names of the members and the securities of a segment, in index order. A clause sees the
 /// lists of their bytes.
 #[derive(Drop)]
-pub struct Names {
+pub struct SegmentNames {
     members: NameList,
     securities: NameList,
 }
 
-impl Model for Names {
+impl Model for SegmentNames {
     ghost use Rattle.xm_files.specs.Names.{NameLists};
 
     ghost Value = { NameLists };
@@ -212,12 +221,12 @@ impl Model for Names {
     ghost view = { λ n. record { members = n.members; securities = n.securities } };
 }
 
-impl Names {
+impl SegmentNames {
     /// The names of these members and these securities.
-    pub(crate) fn new(members: NameList, securities: NameList) -> Names
+    pub(crate) fn new(members: NameList, securities: NameList) -> SegmentNames
         ensures { result ≡ record { members = members; securities = securities } }
     {
-        Names {
+        SegmentNames {
             members,
             securities,
         }

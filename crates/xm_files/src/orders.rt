@@ -13,15 +13,16 @@ ghost use Rattle.xm_files.specs.Rows.{is_header, rows_of_entry, rows_of_record, 
 
 use crate::batch::Batch;
 use crate::bytes::{MAX_BYTES, read_whole};
-use crate::entries::{Entry, parse_entry};
-use crate::file_faults::{FileCause, FileFault};
+use crate::entries::{RecordEntry, parse_entry};
+use crate::file_faults::{FileCause, FileFault, csv_fault};
 use crate::marks::Marks;
-use crate::names::Names;
+use crate::names::SegmentNames;
 use crate::records::Fields;
 use csv::{ByteRecord, ReaderBuilder};
-use std::alloc::{AllocError, Global};
+use std::alloc::Global;
 use std::io::Read;
 use std::marker::Model;
+use xm_memory::OutOfMemory;
 use xm_rules::Command;
 use xm_segment::{Row, SegmentConfig};
 
@@ -41,7 +42,7 @@ pub const MAX_ROWS: usize = 1_000_000;
 pub fn read_rows<R: Read>(
     alloc: Global,
     reader: &mut R,
-    names: &Names,
+    names: &SegmentNames,
     config: &SegmentConfig,
 ) -> Result<Vec<Row>, FileFault>
     requires securities { length names.now.securities ≡ length config.now.securities }
@@ -110,7 +111,7 @@ impl<'a> RowReader<'a> {
         alloc: Global,
         batch: &mut Batch,
         most: usize,
-        names: &Names,
+        names: &SegmentNames,
         config: &SegmentConfig,
     ) -> Result<bool, FileFault>
         ensures read { OnOk result (rows_from names.now config.now self.old (rows_so_far batch.old) ≡ rows_from names.now config.now self.new (rows_so_far batch.new)) }
@@ -120,7 +121,7 @@ impl<'a> RowReader<'a> {
         ensures full { result ≡ Ok true → most ≤ length batch.new.rows }
         ensures further { result ≡ Ok true → self.old.line < self.new.line }
         ensures bounded { self.new.line ≤ 16777218 }
-        ensures err { IfErr result (λ fault. fault.cause ≢ FileCause.OutOfMemory → rows_from names.now config.now self.old (rows_so_far batch.old) ≡ Err fault) }
+        ensures err { IfErr result (λ fault. fault.cause ≢ FileCause.OutOfMemory tt → rows_from names.now config.now self.old (rows_so_far batch.old) ≡ Err fault) }
         ensures memory { IfErr result (λ fault. OnTrue (is_from_outside fault.cause) (fault.line ≡ 0)) }
     {
         batch.begin();
@@ -145,14 +146,14 @@ fn add_records(
     batch: &mut Batch,
     text: &[u8],
     first: u32,
-    names: &Names,
+    names: &SegmentNames,
     config: &SegmentConfig,
 ) -> Result<(), FileFault>
     requires begun { 1 ≤ first }
     requires short { first + length text.now ≤ 16777218 }
     ensures ok { OnOk result (rows_after names.now config.now first (rows_so_far batch.old) (records default_config (strip_bom text.now)) ≡ Ok (rows_so_far batch.new)) }
     ensures earlier { OnOk result (batch.new.earlier ≡ batch.old.earlier) }
-    ensures err { IfErr result (λ fault. fault.cause ≢ FileCause.OutOfMemory → rows_after names.now config.now first (rows_so_far batch.old) (records default_config (strip_bom text.now)) ≡ Err fault) }
+    ensures err { IfErr result (λ fault. fault.cause ≢ FileCause.OutOfMemory tt → rows_after names.now config.now first (rows_so_far batch.old) (records default_config (strip_bom text.now)) ≡ Err fault) }
     ensures memory { IfErr result (λ fault. OnTrue (is_from_outside fault.cause) (fault.line ≡ 0)) }
 {
     let mut reader = ReaderBuilder::new()
@@ -170,7 +171,7 @@ fn add_records(
                 }
                 return Ok(());
             }
-            Err(_) => return Err(FileFault::from(FileCause::OutOfMemory)),
+            Err(error) => return Err(csv_fault(&error)),
         }
         add_fields(batch, line, &row, names, config)?;
         line += 1;
@@ -185,7 +186,7 @@ fn add_lines<'a>(
     text: &'a [u8],
     first: u32,
     most: usize,
-    names: &Names,
+    names: &SegmentNames,
     config: &SegmentConfig,
 ) -> Result<(&'a [u8], u32, bool), FileFault>
     requires begun { 1 ≤ first }
@@ -195,7 +196,7 @@ fn add_lines<'a>(
     ensures earlier { OnOk result (batch.new.earlier ≡ batch.old.earlier) }
     ensures lines { IfOk result (λ p. (1 ≤ p.1) × (p.1 + length p.0.now ≤ 16777218)) }
     ensures full { IfOk result (λ p. p.2 ≡ true → (most ≤ length batch.new.rows) × (first < p.1)) }
-    ensures err { IfErr result (λ fault. fault.cause ≢ FileCause.OutOfMemory → rows_after names.now config.now first (rows_so_far batch.old) (records default_config (strip_bom text.now)) ≡ Err fault) }
+    ensures err { IfErr result (λ fault. fault.cause ≢ FileCause.OutOfMemory tt → rows_after names.now config.now first (rows_so_far batch.old) (records default_config (strip_bom text.now)) ≡ Err fault) }
     ensures memory { IfErr result (λ fault. OnTrue (is_from_outside fault.cause) (fault.line ≡ 0)) }
 {
     let Some((mut marks, mut line)) = begin_lines(text, first) else {
@@ -207,7 +208,10 @@ fn add_lines<'a>(
         let Some(()) = fields.read_line(&mut marks) else {
             return Ok((left, line, false));
         };
-        add_record(batch, line, &fields, names, config)?;
+        match add_record(batch, line, &fields, names, config) {
+            Ok(()) => {}
+            Err(fault) => return Err(fault),
+        }
         line += 1;
         if batch.len() >= most {
             return Ok((marks.left(), line, true));
@@ -269,13 +273,13 @@ fn add_fields(
     batch: &mut Batch,
     line: u32,
     row: &ByteRecord,
-    names: &Names,
+    names: &SegmentNames,
     config: &SegmentConfig,
 ) -> Result<(), FileFault>
     requires line { 1 ≤ line }
     ensures ok { OnOk result (with_record names.now config.now line (rows_so_far batch.old) (fields_of row.now) ≡ Ok (rows_so_far batch.new)) }
     ensures earlier { OnOk result (batch.new.earlier ≡ batch.old.earlier) }
-    ensures err { IfErr result (λ fault. fault.cause ≢ FileCause.OutOfMemory → with_record names.now config.now line (rows_so_far batch.old) (fields_of row.now) ≡ Err fault) }
+    ensures err { IfErr result (λ fault. fault.cause ≢ FileCause.OutOfMemory tt → with_record names.now config.now line (rows_so_far batch.old) (fields_of row.now) ≡ Err fault) }
     ensures memory { IfErr result (λ fault. OnTrue (is_from_outside fault.cause) (fault.line ≡ 0)) }
 {
     match Fields::of(row) {
@@ -312,12 +316,12 @@ fn add_record(
     batch: &mut Batch,
     line: u32,
     fields: &Fields,
-    names: &Names,
+    names: &SegmentNames,
     config: &SegmentConfig,
 ) -> Result<(), FileFault>
     ensures ok { OnOk result (with_rows line (rows_so_far batch.old) (rows_of_record names.now config.now (texts_of fields.now)) ≡ Ok (rows_so_far batch.new)) }
     ensures earlier { OnOk result (batch.new.earlier ≡ batch.old.earlier) }
-    ensures err { IfErr result (λ fault. fault.cause ≢ FileCause.OutOfMemory → with_rows line (rows_so_far batch.old) (rows_of_record names.now config.now (texts_of fields.now)) ≡ Err fault) }
+    ensures err { IfErr result (λ fault. fault.cause ≢ FileCause.OutOfMemory tt → with_rows line (rows_so_far batch.old) (rows_of_record names.now config.now (texts_of fields.now)) ≡ Err fault) }
     ensures memory { IfErr result (λ fault. OnTrue (is_from_outside fault.cause) (fault.line ≡ 0)) }
 {
     let entry = parse_entry(fields, names, config).ok_or(fault_at(line, FileCause::BadField))?;
@@ -329,31 +333,31 @@ fn add_record(
 }
 
 /// How many rows an entry stands for in a segment of so many securities.
-fn count_of(entry: Entry, securities: u32) -> u32
+fn count_of(entry: RecordEntry, securities: u32) -> u32
     ensures { result ≡ length (rows_of_entry securities entry) }
 {
     match entry {
-        Entry::One(_) => 1,
-        Entry::Each(_) => securities,
+        RecordEntry::One(_) => 1,
+        RecordEntry::Each(_) => securities,
     }
 }
 
 /// Adds the rows of an entry in a segment of so many securities.
-fn add_entry(batch: &mut Batch, entry: Entry, securities: u32) -> Result<(), AllocError>
+fn add_entry(batch: &mut Batch, entry: RecordEntry, securities: u32) -> Result<(), OutOfMemory>
     requires { length (rows_so_far batch.old) + length (rows_of_entry securities entry) ≤ MAX_ROWS }
     ensures { OnOk result (batch.new ≡ record batch.old { rows = batch.old.rows ++ rows_of_entry securities entry }) }
 {
     match entry {
-        Entry::One(row) => {
+        RecordEntry::One(row) => {
             batch.push(row)?;
             Ok(())
         }
-        Entry::Each(command) => add_each(batch, command, securities),
+        RecordEntry::Each(command) => add_each(batch, command, securities),
     }
 }
 
 /// Adds one row per security.
-fn add_each(batch: &mut Batch, command: Command, securities: u32) -> Result<(), AllocError>
+fn add_each(batch: &mut Batch, command: Command, securities: u32) -> Result<(), OutOfMemory>
     requires { length (rows_so_far batch.old) + securities ≤ MAX_ROWS }
     ensures { OnOk result (batch.new ≡ record batch.old { rows = batch.old.rows ++ map (λ security. record { security = security; command = command }) (range_with_len 0 securities) }) }
 {

@@ -3,20 +3,20 @@ ghost use Rattle.std.specs.Prelude.{option_map, ◌≡◌, ◌≢◌, ℕ, ◌<�
 ghost use Rattle.std.specs.Bool.{OnTrue, OnFalse};
 ghost use Rattle.std.specs.List.{list_all};
 ghost use Rattle.toml.specs.Data.{get_member};
-ghost use Rattle.toml.specs.Errors.{IsMemory};
 ghost use Rattle.toml.specs.View.{table_view};
 ghost use Rattle.xm_files.specs.FileFaults.{is_from_outside};
-ghost use Rattle.xm_files.specs.Segment.{are_distinct, document_of, fault_after, listed, has_keys, has_only, securities_after, security_keys, security_of, security_values, segment_in, segment_of, segment_with, settings_in, top_keys, top_of, top_values, widths_in};
+ghost use Rattle.xm_files.specs.Segment.{are_distinct, document_of, fault_after, with_security, has_keys, has_only, securities_after, security_keys, security_of, security_values, segment_in, segment_of, segment_with, settings_in, top_keys, top_of, top_values, widths_in};
 
 use crate::bytes::read_whole;
-use crate::file_faults::{FileCause, FileFault};
-use crate::names::{NameList, Names};
+use crate::file_faults::{FileCause, FileFault, parse_cause};
+use crate::names::{NameList, SegmentNames};
 use crate::tables::{
     array_at, has_keys, has_only, name_at, names_in, number_at, price_at, tables_in,
 };
 use std::alloc::Global;
 use std::io::Read;
 use toml::Table;
+use xm_memory::OutOfMemory;
 use xm_rules::Widths;
 use xm_segment::{Securities, SecurityConfig, SegmentConfig};
 use xm_ticks::{JournalLimit, TickSize};
@@ -30,7 +30,7 @@ use xm_ticks::{JournalLimit, TickSize};
 pub fn read_segment<R: Read>(
     alloc: Global,
     reader: &mut R,
-) -> Result<(SegmentConfig, Names), FileFault>
+) -> Result<(SegmentConfig, SegmentNames), FileFault>
     ensures read { IfOk result (λ segment. IfSome (R.remaining reader.old) (λ bytes. segment_of bytes ≡ Ok segment)) }
     ensures members { IfOk result (λ segment. length segment.1.members ≡ segment.0.members) }
     ensures securities { IfOk result (λ segment. length segment.1.securities ≡ length segment.0.securities) }
@@ -43,12 +43,12 @@ pub fn read_segment<R: Read>(
 }
 
 /// The segment that a text writes.
-fn parse_segment(alloc: Global, text: &[u8]) -> Result<(SegmentConfig, Names), FileFault>
+fn parse_segment(alloc: Global, text: &[u8]) -> Result<(SegmentConfig, SegmentNames), FileFault>
     ensures read { IfOk result (λ segment. segment_in (document_of text.now) ≡ Ok segment) }
     ensures members { IfOk result (λ segment. length segment.1.members ≡ segment.0.members) }
     ensures securities { IfOk result (λ segment. length segment.1.securities ≡ length segment.0.securities) }
     ensures date { IfOk result (λ segment. segment.0.today ≤ 99999999) }
-    ensures fault { IfErr result (λ fault. fault.cause ≢ FileCause.OutOfMemory → segment_in (document_of text.now) ≡ Err fault) }
+    ensures fault { IfErr result (λ fault. fault.cause ≢ FileCause.OutOfMemory tt → segment_in (document_of text.now) ≡ Err fault) }
     ensures memory { IfErr result (λ fault. OnTrue (is_from_outside fault.cause) (fault.line ≡ 0)) }
 {
     let table = parse_table(alloc, text)?;
@@ -58,23 +58,11 @@ fn parse_segment(alloc: Global, text: &[u8]) -> Result<(SegmentConfig, Names), F
 /// The table that a text writes. The cause is `Syntax` or `OutOfMemory`.
 fn parse_table(alloc: Global, text: &[u8]) -> Result<Table, FileCause>
     ensures ok { IfOk result (λ table. document_of text.now ≡ Some (table_view table)) }
-    ensures err { IfErr result (λ cause. cause ≢ FileCause.OutOfMemory → (cause ≡ FileCause.Syntax) × (document_of text.now ≡ None)) }
+    ensures err { IfErr result (λ cause. cause ≢ FileCause.OutOfMemory tt → (cause ≡ FileCause.Syntax) × (document_of text.now ≡ None)) }
 {
     match toml::table_from_slice(alloc, text) {
         Ok(table) => Ok(table),
         Err(error) => Err(parse_cause(&error)),
-    }
-}
-
-/// Why TOML refuses a text.
-fn parse_cause(error: &toml::de::Error) -> FileCause
-    ensures memory { IsMemory error.now → result ≡ FileCause.OutOfMemory }
-    ensures syntax { result ≢ FileCause.OutOfMemory → (result ≡ FileCause.Syntax) × ¬ (IsMemory error.now) }
-{
-    if error.is_memory() {
-        FileCause::OutOfMemory
-    } else {
-        FileCause::Syntax
     }
 }
 
@@ -87,12 +75,15 @@ struct Top<'a> {
 }
 
 /// The segment that a table gives.
-fn segment_of_table(alloc: Global, table: &Table) -> Result<(SegmentConfig, Names), FileFault>
+fn segment_of_table(
+    alloc: Global,
+    table: &Table,
+) -> Result<(SegmentConfig, SegmentNames), FileFault>
     ensures read { IfOk result (λ segment. segment_with (top_of (table_view table.now)) ≡ Ok segment) }
     ensures members { IfOk result (λ segment. length segment.1.members ≡ segment.0.members) }
     ensures securities { IfOk result (λ segment. length segment.1.securities ≡ length segment.0.securities) }
     ensures date { IfOk result (λ segment. segment.0.today ≤ 99999999) }
-    ensures fault { IfErr result (λ fault. fault.cause ≢ FileCause.OutOfMemory → segment_with (top_of (table_view table.now)) ≡ Err fault) }
+    ensures fault { IfErr result (λ fault. fault.cause ≢ FileCause.OutOfMemory tt → segment_with (top_of (table_view table.now)) ≡ Err fault) }
     ensures memory { IfErr result (λ fault. OnTrue (is_from_outside fault.cause) (fault.line ≡ 0)) }
 {
     let top = top_of(alloc, table)?;
@@ -104,7 +95,7 @@ fn segment_of_table(alloc: Global, table: &Table) -> Result<(SegmentConfig, Name
             members: members.len(),
             securities: Securities::new(listing.settings),
         },
-        Names::new(members, listing.names),
+        SegmentNames::new(members, listing.names),
     ))
 }
 
@@ -112,7 +103,7 @@ fn segment_of_table(alloc: Global, table: &Table) -> Result<(SegmentConfig, Name
 fn top_of(alloc: Global, table: &Table) -> Result<Top<'_>, FileCause>
     ensures date { IfOk result (λ top. top.today ≤ 99999999) }
     ensures ok { IfOk result (λ top. top_of (table_view table.now) ≡ Ok (record { today = top.today; members = map (λ name. name.now) top.members.items; securities = map (λ t. table_view t.now) top.securities.items })) }
-    ensures err { IfErr result (λ cause. cause ≢ FileCause.OutOfMemory → top_of (table_view table.now) ≡ Err cause) }
+    ensures err { IfErr result (λ cause. cause ≢ FileCause.OutOfMemory tt → top_of (table_view table.now) ≡ Err cause) }
     ensures causes { IfErr result (λ cause. cause ≢ FileCause.ReadFailed) }
 {
     let keys = ["date", "members", "security"];
@@ -129,7 +120,7 @@ fn top_of(alloc: Global, table: &Table) -> Result<Top<'_>, FileCause>
 fn top_values(alloc: Global, table: &Table) -> Result<Top<'_>, FileCause>
     ensures date { IfOk result (λ top. top.today ≤ 99999999) }
     ensures ok { IfOk result (λ top. top_values (table_view table.now) ≡ Some (record { today = top.today; members = map (λ name. name.now) top.members.items; securities = map (λ t. table_view t.now) top.securities.items })) }
-    ensures err { IfErr result (λ cause. cause ≢ FileCause.OutOfMemory → (cause ≡ FileCause.BadValue) × (top_values (table_view table.now) ≡ None)) }
+    ensures err { IfErr result (λ cause. cause ≢ FileCause.OutOfMemory tt → (cause ≡ FileCause.BadValue) × (top_values (table_view table.now) ≡ None)) }
 {
     let today = number_at(table, "date", 0, 99_999_999).ok_or(FileCause::BadValue)?;
     let members = array_at(table, "members").ok_or(FileCause::BadValue)?;
@@ -147,7 +138,7 @@ fn top_values(alloc: Global, table: &Table) -> Result<Top<'_>, FileCause>
 fn list_members(alloc: Global, names: &[&str]) -> Result<NameList, FileCause>
     ensures ok { IfOk result (λ list. list ≡ map (λ name. name.now) names.now) }
     ensures distinct { IfOk result (λ list. are_distinct list ≡ true) }
-    ensures err { IfErr result (λ cause. cause ≢ FileCause.OutOfMemory → (cause ≡ FileCause.DuplicateName) × (are_distinct (map (λ name. name.now) names.now) ≡ false)) }
+    ensures err { IfErr result (λ cause. cause ≢ FileCause.OutOfMemory tt → (cause ≡ FileCause.DuplicateName) × (are_distinct (map (λ name. name.now) names.now) ≡ false)) }
 {
     let mut list = NameList::new(alloc);
     for name in names {
@@ -158,19 +149,19 @@ fn list_members(alloc: Global, names: &[&str]) -> Result<NameList, FileCause>
 
 /// The securities in index order: their names and their settings.
 #[derive(Drop)]
-struct Listing {
+struct ListedSecurities {
     names: NameList,
     settings: Vec<SecurityConfig>,
 }
 
 /// The securities of these tables.
-fn list_securities(alloc: Global, tables: &[&Table]) -> Result<Listing, FileFault>
+fn list_securities(alloc: Global, tables: &[&Table]) -> Result<ListedSecurities, FileFault>
     ensures each { IfOk result (λ listing. length listing.names ≡ length listing.settings.items) }
     ensures ok { IfOk result (λ listing. securities_after (record { names = []; settings = [] }) (map (λ t. table_view t.now) tables.now) ≡ Ok (record { names = listing.names; settings = listing.settings.items })) }
-    ensures err { IfErr result (λ fault. fault.cause ≢ FileCause.OutOfMemory → securities_after (record { names = []; settings = [] }) (map (λ t. table_view t.now) tables.now) ≡ Err fault) }
+    ensures err { IfErr result (λ fault. fault.cause ≢ FileCause.OutOfMemory tt → securities_after (record { names = []; settings = [] }) (map (λ t. table_view t.now) tables.now) ≡ Err fault) }
     ensures memory { IfErr result (λ fault. OnTrue (is_from_outside fault.cause) (fault.line ≡ 0)) }
 {
-    let mut listing = Listing {
+    let mut listing = ListedSecurities {
         names: NameList::new(alloc),
         settings: Vec::new(alloc),
     };
@@ -181,11 +172,15 @@ fn list_securities(alloc: Global, tables: &[&Table]) -> Result<Listing, FileFaul
 }
 
 /// Adds the security of a table to those before it.
-fn add_security(alloc: Global, listing: &mut Listing, table: &Table) -> Result<(), FileFault>
+fn add_security(
+    alloc: Global,
+    listing: &mut ListedSecurities,
+    table: &Table,
+) -> Result<(), FileFault>
     requires { length listing.old.names ≡ length listing.old.settings.items }
     ensures each { OnOk result (length listing.new.names ≡ length listing.new.settings.items) }
-    ensures ok { IfOk result (λ _. listed (record { names = listing.old.names; settings = listing.old.settings.items }) (security_of (table_view table.now)) ≡ Ok (record { names = listing.new.names; settings = listing.new.settings.items })) }
-    ensures err { IfErr result (λ fault. fault.cause ≢ FileCause.OutOfMemory → listed (record { names = listing.old.names; settings = listing.old.settings.items }) (security_of (table_view table.now)) ≡ Err fault) }
+    ensures ok { IfOk result (λ _. with_security (record { names = listing.old.names; settings = listing.old.settings.items }) (security_of (table_view table.now)) ≡ Ok (record { names = listing.new.names; settings = listing.new.settings.items })) }
+    ensures err { IfErr result (λ fault. fault.cause ≢ FileCause.OutOfMemory tt → with_security (record { names = listing.old.names; settings = listing.old.settings.items }) (security_of (table_view table.now)) ≡ Err fault) }
     ensures memory { IfErr result (λ fault. OnTrue (is_from_outside fault.cause) (fault.line ≡ 0)) }
 {
     let line = listing.names.len() + 1;
@@ -195,10 +190,12 @@ fn add_security(alloc: Global, listing: &mut Listing, table: &Table) -> Result<(
     };
     match listing.names.add(alloc, security.name) {
         Ok(()) => {}
-        Err(FileCause::OutOfMemory) => return Err(FileFault::from(FileCause::OutOfMemory)),
-        Err(cause) => return Err(FileFault { line, cause }),
+        Err(cause) => return Err(cause.at(line)),
     }
-    listing.settings.push(security.settings)?;
+    listing
+        .settings
+        .push(security.settings)
+        .map_err(OutOfMemory::from)?;
     Ok(())
 }
 

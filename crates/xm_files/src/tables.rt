@@ -12,6 +12,7 @@ use crate::file_faults::FileCause;
 use std::alloc::Global;
 use toml::value::Array;
 use toml::{Table, Value};
+use xm_memory::OutOfMemory;
 use xm_ticks::{Price, TickSize, read_price};
 
 /// The value of a key.
@@ -74,36 +75,22 @@ pub(crate) fn number_at(table: &Table, key: &str, low: u32, high: u32) -> Option
     ensures low { IfSome result (λ n. low ≤ n) }
     ensures high { IfSome result (λ n. n ≤ high) }
 {
-    match value_at(table, key) {
-        Some(value) => match value.as_integer() {
-            Some(number) => within(number, low, high),
-            None => None,
-        },
-        None => None,
-    }
+    within(value_at(table, key)?.as_integer()?, low, high)
 }
 
 /// The price that the text of a key is, with this tick.
 pub(crate) fn price_at(table: &Table, key: &str, tick: TickSize) -> Option<Price>
     ensures { result ≡ price_at key.now tick (table_view table.now) }
 {
-    match value_at(table, key) {
-        Some(value) => match value.as_str() {
-            Some(text) => read_price(text.as_bytes(), tick).ok(),
-            None => None,
-        },
-        None => None,
-    }
+    let text = value_at(table, key)?.as_str()?;
+    read_price(text.as_bytes(), tick).ok()
 }
 
 /// The array that the value of a key is.
 pub(crate) fn array_at<'a>(table: &'a Table, key: &str) -> Option<&'a Array>
     ensures { option_map (λ v. array_view v.now) result ≡ array_at key.now (table_view table.now) }
 {
-    match value_at(table, key) {
-        Some(value) => value.as_array(),
-        None => None,
-    }
+    value_at(table, key)?.as_array()
 }
 
 /// Whether a text has 1 to 12 of the characters `A` to `Z` and `0` to `9`.
@@ -131,15 +118,11 @@ fn is_name_character(byte: u8) -> bool
 pub(crate) fn name_in(value: &Value) -> Option<&str>
     ensures { option_map (λ name. name.now) result ≡ name_in (view value.now) }
 {
-    match value.as_str() {
-        Some(text) => {
-            if is_name(text.as_bytes()) {
-                Some(text)
-            } else {
-                None
-            }
-        }
-        None => None,
+    let text = value.as_str()?;
+    if is_name(text.as_bytes()) {
+        Some(text)
+    } else {
+        None
     }
 }
 
@@ -147,22 +130,19 @@ pub(crate) fn name_in(value: &Value) -> Option<&str>
 pub(crate) fn name_at<'a>(table: &'a Table, key: &str) -> Option<&'a str>
     ensures { option_map (λ name. name.now) result ≡ option_and_then name_in (get_member key.now (table_view table.now)) }
 {
-    match value_at(table, key) {
-        Some(value) => name_in(value),
-        None => None,
-    }
+    name_in(value_at(table, key)?)
 }
 
 /// The names that the values of an array are. `BadValue` says that one isn't a name.
 pub(crate) fn names_in(alloc: Global, values: &Array) -> Result<Vec<&str>, FileCause>
     ensures ok { IfOk result (λ names. all_in name_in (array_view values.now) ≡ Some (map (λ name. name.now) names.items)) }
     ensures bad { result ≡ Err FileCause.BadValue → all_in name_in (array_view values.now) ≡ None }
-    ensures causes { IfErr result (λ cause. (cause ≢ FileCause.OutOfMemory) → cause ≡ FileCause.BadValue) }
+    ensures causes { IfErr result (λ cause. (cause ≢ FileCause.OutOfMemory tt) → cause ≡ FileCause.BadValue) }
 {
     let mut names = Vec::new(alloc);
     for value in values {
         let name = name_in(value).ok_or(FileCause::BadValue)?;
-        names.push(name)?;
+        names.push(name).map_err(OutOfMemory::from)?;
     }
     Ok(names)
 }
@@ -171,12 +151,12 @@ pub(crate) fn names_in(alloc: Global, values: &Array) -> Result<Vec<&str>, FileC
 pub(crate) fn tables_in(alloc: Global, values: &Array) -> Result<Vec<&Table>, FileCause>
     ensures ok { IfOk result (λ tables. all_in as_table (array_view values.now) ≡ Some (map (λ table. table_view table.now) tables.items)) }
     ensures bad { result ≡ Err FileCause.BadValue → all_in as_table (array_view values.now) ≡ None }
-    ensures causes { IfErr result (λ cause. (cause ≢ FileCause.OutOfMemory) → cause ≡ FileCause.BadValue) }
+    ensures causes { IfErr result (λ cause. (cause ≢ FileCause.OutOfMemory tt) → cause ≡ FileCause.BadValue) }
 {
     let mut tables = Vec::new(alloc);
     for value in values {
         let table = value.as_table().ok_or(FileCause::BadValue)?;
-        tables.push(table)?;
+        tables.push(table).map_err(OutOfMemory::from)?;
     }
     Ok(tables)
 }

@@ -25,5 +25,5 @@ returns-else-line-eq1-clause-err c =
     let read = given-back (fields_of c.args.row.now) (texts_of c.in-Some.fields) c.in-Some.ensures in
     let same = row-record c.args.names.now c.args.config.now c.args.line (rows_so_far c.args.batch.now) (fields_of c.args.row.now) later read.0
     ∙ ap (λ (f : List (List ℕ)). with_rows c.args.line (rows_so_far c.args.batch.now) (rows_of_record c.args.names.now c.args.config.now f)) (sym read.1) in
-    let Gives : Result (List Row) FileFault → Type 0 = λ r. IfErr c.add_record.result (λ fault. fault.cause ≢ OutOfMemory → r ≡ Err fault) in
+    let Gives : Result (List Row) FileFault → Type 0 = λ r. IfErr c.add_record.result (λ fault. fault.cause ≢ OutOfMemory tt → r ≡ Err fault) in
     subst Gives (sym same) c.add_record.ensures.err

@@ -1,6 +1,5 @@
 use Rattle.std.proofs.Common.{◌+◌, length, refl, ap, arith, ◌∙◌}
 use Rattle.xm_files.proofs.LineRecords.{line-shorter}
-use Rattle.xm_files.proofs.PassedErrors.{if_passed}
 use Rattle.xm_files.proofs.Progress.{lines-begin, lines-end, lines-fault, lines-more}
 use Rattle.xm_files.specs.Batches.{rows_so_far}
 use Rattle.xm_files.specs.Plain.{rest_of}
@@ -19,13 +18,12 @@ pub returns-in_default-read_line-clause-ok : goal.returns-in_default-read_line-c
 returns-in_default-read_line-clause-ok c =
     lines-end c.args.names.now c.args.config.now _ c.left-left.result.now (rest_of c.lines.marks) c.lines.line (rows_so_far c.lines.batch) c.lines.invariant.read (c.left-left.ensures ∙ c.lines.invariant.behind)
 
-pub returns-in_err-add_record-clause-err : goal.returns-in_err-add_record-clause-err
-returns-in_err-add_record-clause-err c =
+pub returns-in-Err-clause-err : goal.returns-in-Err-clause-err
+returns-in-Err-clause-err c =
     let read = c.in-Some-read_line in
-    let fault = c.in_err-add_record.field-0.0 in
-    if_passed _ c.from_residual.result fault c.from_residual.ensures.1
-    (λ h. lines-fault c.args.names.now c.args.config.now _ (rest_of c.lines.marks) (rest_of c.read_line.new.line) c.lines.line (rows_so_far c.lines.batch) (texts_of c.read_line.new.self) fault c.lines.invariant.read read.ensures.line refl
-    (c.in_err-add_record.ensures.err h))
+    let fault = c.in-Err.fault in
+    λ h. lines-fault c.args.names.now c.args.config.now _ (rest_of c.lines.marks) (rest_of c.read_line.new.line) c.lines.line (rows_so_far c.lines.batch) (texts_of c.read_line.new.self) fault c.lines.invariant.read read.ensures.line refl
+    (c.in-Err.ensures.err h)
 
 pub lines-smaller : goal.lines-smaller
 lines-smaller c =
@@ -38,9 +36,9 @@ lines-preserved c =
     let onward = c.lines.invariant.onward in
     record {
       read = lines-more c.args.names.now c.args.config.now _ (rest_of c.lines.marks) (rest_of c.read_line.new.line) c.lines.line (rows_so_far c.lines.batch) (rows_so_far c.add_record.new.batch) (texts_of c.read_line.new.self) c.lines.invariant.read read.ensures.line refl
-          c.in_ok-add_record.ensures.ok;
+          c.in-Ok.ensures.ok;
       behind = read.ensures.behind;
-      earlier = c.in_ok-add_record.ensures.earlier ∙ c.lines.invariant.earlier;
+      earlier = c.in-Ok.ensures.earlier ∙ c.lines.invariant.earlier;
       onward = omega (arith, onward);
     }
 
@@ -48,7 +46,7 @@ pub returns-then-len-most-clause-ok : goal.returns-then-len-most-clause-ok
 returns-then-len-most-clause-ok c =
     let read = c.in-Some-read_line in
     let more = lines-more c.args.names.now c.args.config.now _ (rest_of c.lines.marks) (rest_of c.read_line.new.line) c.lines.line (rows_so_far c.lines.batch) (rows_so_far c.add_record.new.batch) (texts_of c.read_line.new.self) c.lines.invariant.read read.ensures.line refl
-    c.in_ok-add_record.ensures.ok in
+    c.in-Ok.ensures.ok in
     lines-end c.args.names.now c.args.config.now _ c.left.result.now (rest_of c.read_line.new.line) (c.lines.line + 1) (rows_so_far c.add_record.new.batch) more (c.left.ensures ∙ read.ensures.behind)
 
 pub returns-then-len-most-clause-lines : goal.returns-then-len-most-clause-lines

@@ -1,0 +1,45 @@
+-- A segment without a fault.
+use Rattle.std.proofs.Common.{◌≡◌, ◌≢◌, refl, ℕ, ◌<◌, nat_lt, Bool, true, false, not, ◌||◌, if◌then◌else◌, List, length, get_or, Option, None, Some}
+use Rattle.std.specs.List.{list_all}
+use Rattle.std.proofs.lemmas.List.Folds.{list_all_at}
+use Rattle.xm_desk.specs.Opening.{open_fault}
+use Rattle.xm_rules.specs.Settings.{are_widths}
+use Rattle.xm_desk.specs.declared.opening.OpenFault.{OpenFault}
+use Rattle.xm_desk.specs.declared.opening.OpenFault.TheVariants.{NoSecurity, TooMany, BadWidths, OutOfMemory}
+use Rattle.xm_segment.specs.Opening.{segment_fault, settings_of}
+use Rattle.xm_segment.specs.declared.config.SecurityConfig.{SecurityConfig}
+use Rattle.xm_segment.specs.declared.config.SegmentConfig.{SegmentConfig}
+
+holds-if : {X : Type 0} (p : X → Bool) (xs : List X) (i : ℕ) (d : X) (b : Bool) → i < length xs → list_all p xs ≡ true → p (get_or xs i d) ≡ b → b ≡ true
+holds-if p xs i d true within all is = refl
+holds-if p xs i d false within all is = let some = list_all_at p xs i d within is in cc
+
+-- what holds of each holds at an index
+holds-at : {X : Type 0} (p : X → Bool) (xs : List X) (i : ℕ) (d : X) → i < length xs → list_all p xs ≡ true → p (get_or xs i d) ≡ true
+holds-at p xs i d within all = holds-if p xs i d (p (get_or xs i d)) within all refl
+
+sound-if : (some many members widths : Bool) → (if not some then Some NoSecurity else (if many || members then Some TooMany else (if widths then None else Some BadWidths))) ≡ None → (members ≡ false) × (widths ≡ true)
+sound-if true false false true is = (refl, refl)
+sound-if true false false false is = cc
+sound-if true false true widths is = cc
+sound-if true true members widths is = cc
+sound-if false many members widths is = cc
+
+opens-if : (members widths : Bool) → members ≡ false → widths ≡ true → (if members then Some TooMany else (if widths then None else Some BadWidths)) ≡ None
+opens-if false true few lawful = refl
+opens-if false false few lawful = cc
+opens-if true widths few lawful = cc
+
+-- the settings of each of its securities open a desk
+pub sound-opens : (config : SegmentConfig) (i : ℕ) (security : SecurityConfig) → segment_fault config ≡ None → i < length config.securities → open_fault (settings_of config (get_or config.securities i security)) ≡ None
+sound-opens config i security sound within =
+    let lawful : SecurityConfig → Bool = λ s. are_widths s.widths in
+    let parts = sound-if (nat_lt 0 (length config.securities)) (nat_lt 8 (length config.securities)) (nat_lt 1000 config.members) (list_all lawful config.securities) sound in
+    opens-if (nat_lt 1000 config.members) (lawful (get_or config.securities i security)) parts.0 (holds-at lawful config.securities i security within parts.1)
+
+-- what no settings of a desk refuse is want of memory
+pub is-memory : (fault : OpenFault) (refused : Option OpenFault) → refused ≡ None → (fault ≢ OutOfMemory tt → refused ≡ Some fault) → fault ≡ OutOfMemory tt
+is-memory (OutOfMemory _) refused none unless = refl
+is-memory NoSecurity refused none unless = let some = unless (λ is. absurd (cc)) in absurd (cc)
+is-memory TooMany refused none unless = let some = unless (λ is. absurd (cc)) in absurd (cc)
+is-memory BadWidths refused none unless = let some = unless (λ is. absurd (cc)) in absurd (cc)

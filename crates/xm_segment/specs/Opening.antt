@@ -1,0 +1,33 @@
+-- What opens the desks of a segment.
+use Rattle.std.specs.Prelude.{ℕ, [], ◌||◌, not, if◌then◌else◌, nat_lt, length, Option, Some, None}
+use Rattle.std.specs.List.{list_all}
+use Rattle.xm_desk.specs.declared.opening.OpenFault.{OpenFault}
+use Rattle.xm_desk.specs.declared.opening.OpenFault.TheVariants.{NoSecurity, TooMany, BadWidths}
+use Rattle.xm_rules.specs.Settings.{are_widths}
+use Rattle.xm_rules.specs.Step.{Journal}
+use Rattle.xm_rules.specs.declared.settings.DeskSettings.{DeskSettings}
+use Rattle.xm_segment.specs.declared.config.SecurityConfig.{SecurityConfig}
+use Rattle.xm_segment.specs.declared.config.SegmentConfig.{SegmentConfig}
+
+-- the settings that the desk of a security is opened with
+abbrev pub settings_of : SegmentConfig → SecurityConfig → DeskSettings
+settings_of config security =
+    record { today = config.today; members = config.members; tick = security.tick; reference = security.reference; widths = security.widths; limit = security.limit }
+
+-- the journal that the desk of a security begins
+abbrev pub journal_of : SegmentConfig → SecurityConfig → Journal
+journal_of config security = record { settings = settings_of config security; commands = [] }
+
+-- the most securities and the most members of a segment
+abbrev pub max_securities : ℕ
+max_securities = 8
+
+abbrev pub max_members : ℕ
+max_members = 1000
+
+-- what is wrong with a segment, if anything is: it has no security; too many, or too many members; the widths of one
+abbrev pub segment_fault : SegmentConfig → Option OpenFault
+segment_fault config =
+    if not (nat_lt 0 (length config.securities)) then Some NoSecurity
+    else (if nat_lt max_securities (length config.securities) || nat_lt max_members config.members then Some TooMany
+    else (if list_all (λ (security : SecurityConfig). are_widths security.widths) config.securities then None else Some BadWidths))

@@ -1,0 +1,94 @@
+//! The desks of a segment, opened.
+ghost use Rattle.std.specs.Prelude.{◌≡◌, ◌≢◌, map, Err, IfErr, IfOk, None, OnOk, Some};
+ghost use Rattle.std.specs.List.{list_all};
+ghost use Rattle.xm_rules.specs.Settings.{are_widths};
+ghost use Rattle.xm_segment.specs.Opening.{journal_of, segment_fault, settings_of};
+
+use crate::config::{SecurityConfig, SegmentConfig};
+use std::alloc::Allocator;
+use xm_desk::{Desk, MAX_MEMBERS, OpenFault};
+use xm_memory::OutOfMemory;
+use xm_names::Seed;
+use xm_rules::DeskSettings;
+
+/// The most securities of a segment.
+pub const MAX_SECURITIES: usize = 8;
+
+/// Opens a desk for each security of a segment, in index order.
+///
+/// The fault is the first of the segment's own: no security, more than `MAX_SECURITIES` of them or `MAX_MEMBERS` members,
+/// and widths of a security that aren't lawful. It is `OutOfMemory` where a growth was refused.
+pub fn open_desks<A: Allocator + Copy>(
+    alloc: A,
+    seed: Seed,
+    config: &SegmentConfig,
+) -> Result<Vec<Desk<A>, A>, OpenFault>
+    ensures opened { IfOk result (λ desks. desks.items ≡ map (journal_of config.now) config.now.securities) }
+    ensures sound { OnOk result (segment_fault config.now ≡ None) }
+    ensures refused { IfErr result (λ fault. fault ≢ OpenFault.OutOfMemory tt → segment_fault config.now ≡ Some fault) }
+    ensures memory { result ≡ Err (OpenFault.OutOfMemory tt) → segment_fault config.now ≡ None }
+{
+    if let Some(fault) = config.segment_fault() {
+        return Err(fault);
+    }
+    desks_of(alloc, seed, config)
+}
+
+/// The desks of a segment without a fault, unless memory is wanting.
+fn desks_of<A: Allocator + Copy>(
+    alloc: A,
+    seed: Seed,
+    config: &SegmentConfig,
+) -> Result<Vec<Desk<A>, A>, OpenFault>
+    requires { segment_fault config.now ≡ None }
+    ensures memory { IfErr result (λ fault. fault ≡ OpenFault.OutOfMemory tt) }
+    ensures opened { IfOk result (λ desks. desks.items ≡ map (journal_of config.now) config.now.securities) }
+{
+    let mut desks = Vec::new(alloc);
+    for security in config.securities.as_slice() {
+        let desk = Desk::open(alloc, seed, config.settings_of(security))?;
+        desks.push(desk).map_err(OutOfMemory::from)?;
+    }
+    Ok(desks)
+}
+
+impl SegmentConfig {
+    /// The settings that the desk of a security is opened with.
+    pub fn settings_of(&self, security: &SecurityConfig) -> DeskSettings
+        ensures { result ≡ settings_of self.now security.now }
+    {
+        DeskSettings {
+            today: self.today,
+            members: self.members,
+            tick: security.tick,
+            reference: security.reference,
+            widths: security.widths,
+            limit: security.limit,
+        }
+    }
+
+    /// What is wrong with the segment, if anything is.
+    pub fn segment_fault(&self) -> Option<OpenFault>
+        ensures { result ≡ segment_fault self.now }
+    {
+        let securities = self.securities.as_slice();
+        if securities.is_empty() {
+            Some(OpenFault::NoSecurity)
+        } else if securities.len() > MAX_SECURITIES || self.members > MAX_MEMBERS {
+            Some(OpenFault::TooMany)
+        } else if have_widths(securities) {
+            None
+        } else {
+            Some(OpenFault::BadWidths)
+        }
+    }
+}
+
+/// Whether the widths of each security are lawful.
+fn have_widths(securities: &[SecurityConfig]) -> bool
+    ensures { result ≡ list_all (λ security. are_widths security.widths) securities.now }
+{
+    securities
+        .iter()
+        .all(|security| security.widths.are_widths())
+}
