@@ -7,7 +7,7 @@ use Rattle.std.proofs.Math.Nat.{mul-le-mul}
 use Rattle.std.proofs.lemmas.List.{take_more, map-append}
 use Rattle.xm_rules.specs.State.{State}
 use Rattle.xm_rules.specs.Step.{Journal, replay}
-use Rattle.xm_day.specs.Statement.{cash, total_cash}
+use Rattle.xm_day.specs.Statement.{cash_in, total_cash}
 
 -- a difference in another unit
 pub scaled : (z : ℤ) (a b size : ℕ) → z ≡ pos a -ℤ pos b → z *ℤ pos size ≡ pos (a * size) -ℤ pos (b * size)
@@ -29,13 +29,13 @@ summed a b c = omega (arith, ints)
 with_none : (a : ℤ) → a +ℤ pos 0 ≡ pos 0 +ℤ a
 with_none a = omega (arith, ints)
 
-in_turn : (states : List State) (s : State) (member : ℕ) → total_cash (states ++ s ∷ []) member ≡ total_cash states member +ℤ cash s member
-in_turn [] s member = with_none (cash s member)
-in_turn (t ∷ ts) s member = ap (λ (rest : ℤ). cash t member +ℤ rest) (in_turn ts s member) ∙ summed (cash t member) (total_cash ts member) (cash s member)
+in_turn : (states : List State) (s : State) (member : ℕ) → total_cash (states ++ s ∷ []) member ≡ total_cash states member +ℤ cash_in s member
+in_turn [] s member = with_none (cash_in s member)
+in_turn (t ∷ ts) s member = ap (λ (rest : ℤ). cash_in t member +ℤ rest) (in_turn ts s member) ∙ summed (cash_in t member) (total_cash ts member) (cash_in s member)
 
 -- the cash in the securities up to one, and in it
 pub total_cash-taken : (member : ℕ) (js : List Journal) (i : ℕ) (j : Journal) → i < length js → j ≡ get_or js i j
-    → total_cash (map replay (take (i + 1) js)) member ≡ total_cash (map replay (take i js)) member +ℤ cash (replay j) member
+    → total_cash (map replay (take (i + 1) js)) member ≡ total_cash (map replay (take i js)) member +ℤ cash_in (replay j) member
 total_cash-taken member js i j within is =
     let more = take_more js i j within ∙ ap (λ (k : Journal). take i js ++ k ∷ []) (sym is) in
     ap (λ (ks : List Journal). total_cash (map replay ks) member) more

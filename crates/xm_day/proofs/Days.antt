@@ -2,7 +2,7 @@
 use Rattle.std.proofs.Common.{◌≡◌, ℕ, ◌+◌, ◌<◌, ◌≤◌, List, [], ◌∷◌, ◌++◌, length, map, slice_get, set, get_or, take, drop, take-append-drop, suc, arith, Some, None, option_map, refl, ap, sym, subst, ◌∙◌}
 use Rattle.std.proofs.Math.Seq.{drop-cons, take-length}
 use Rattle.std.proofs.Math.ListN.{drop_of_length-le}
-use Rattle.std.proofs.lemmas.List.{append-nil, map-set, take_more}
+use Rattle.std.proofs.lemmas.List.{append-nil, append_assoc, map-set, take_more}
 use Rattle.std.proofs.lemmas.Option.{slice_get-map, slice_get_past}
 use Rattle.xm_rules.proofs.Journals.{replay-opening, replay-push}
 use Rattle.xm_rules.specs.Refusals.{refusal_of}
@@ -10,13 +10,22 @@ use Rattle.xm_rules.specs.State.{State, opening}
 use Rattle.xm_rules.specs.Step.{Journal, replay, step}
 use Rattle.xm_rules.specs.declared.commands.Command.{Command}
 use Rattle.xm_rules.specs.declared.replies.Refusal.{Refusal}
-use Rattle.xm_day.specs.Day.{Accepts, Day as TheDay, LacksMemoryAt, after_row, after_rows, answered, day, day_of, journal_of, on_security, settings_of}
+use Rattle.xm_rules.specs.declared.replies.Refusal.TheVariants.{UnknownSecurity}
+use Rattle.xm_day.specs.Day.{Accepts, Day as TheDay, LacksMemoryAt, after_row, after_rows, answered, day, day_of, on_security, refusal_on, row_refusal}
+use Rattle.xm_segment.specs.Opening.{journal_of, settings_of}
 use Rattle.xm_segment.specs.declared.config.SecurityConfig.{SecurityConfig}
 use Rattle.xm_segment.specs.declared.config.SegmentConfig.{SegmentConfig}
 use Rattle.xm_segment.specs.declared.rows.Row.{Row}
 
 abbrev pub with_command : Journal → Command → Journal
 with_command j c = record j { commands = j.commands ++ c ∷ [] }
+
+-- a row of an unknown security is refused as such, and one of a known security as its desk refuses the command
+pub refuses-unknown : (js : List Journal) (row : Row) → length js ≤ row.security → row_refusal (map replay js) row ≡ Some UnknownSecurity
+refuses-unknown js row past = ap (refusal_on row) (slice_get-map replay js row.security ∙ ap (option_map replay) (slice_get_past js row.security past))
+
+pub refuses-known : (js : List Journal) (row : Row) (j : Journal) → slice_get js row.security ≡ Some j → row_refusal (map replay js) row ≡ refusal_of (replay j) row.command
+refuses-known js row j is = ap (refusal_on row) (slice_get-map replay js row.security ∙ ap (option_map replay) is)
 
 pub on_unknown : (js : List Journal) (row : Row) (a r : ℕ) → length js ≤ row.security → after_row (day_of js a r) row ≡ day_of js a (r + 1)
 on_unknown js row a r past =
@@ -63,6 +72,28 @@ rows-lack begun desks rows i row a r within so_far accepts =
       more = drop (suc i) rows;
       rows_are = ap (λ (xs : List Row). take i rows ++ xs) (sym (drop-cons rows i row within)) ∙ take-append-drop i rows;
       accepts = subst At so_far accepts;
+    }
+
+-- memory that is wanting at one of some rows is so where more come after them
+pub lacks-more : (d : TheDay) (rows more : List Row) → LacksMemoryAt d rows → LacksMemoryAt d (rows ++ more)
+lacks-more d rows more lacks = record {
+  before = lacks.before;
+  row = lacks.row;
+  more = lacks.more ++ more;
+  rows_are = sym (append_assoc lacks.before (lacks.row ∷ lacks.more) more) ∙ ap (λ (xs : List Row). xs ++ more) lacks.rows_are;
+  accepts = lacks.accepts;
+}
+
+-- and where others were taken before them
+pub lacks-later : (d : TheDay) (taken rows : List Row) → LacksMemoryAt (after_rows d taken) rows → LacksMemoryAt d (taken ++ rows)
+lacks-later d taken rows lacks =
+    let At : TheDay → Type 0 = λ later. Accepts later lacks.row in
+    record {
+      before = taken ++ lacks.before;
+      row = lacks.row;
+      more = lacks.more;
+      rows_are = append_assoc taken lacks.before (lacks.row ∷ lacks.more) ∙ ap (λ (xs : List Row). taken ++ xs) lacks.rows_are;
+      accepts = subst At (sym (after_rows-append d taken lacks.before)) lacks.accepts;
     }
 
 -- a desk that is known

@@ -1,15 +1,18 @@
 -- How a run of a day ends.
-use Rattle.std.proofs.Common.{◌≡◌, refl, ℕ, ◌<◌, ◌≤◌, nat_lt, Bool, true, false, not, if◌then◌else◌, List, [], length, Option, None, Some, Result, Ok, Err, IfSome, ap, sym, subst, ◌∙◌}
+use Rattle.std.proofs.Common.{◌≡◌, refl, ℕ, ◌<◌, ◌≤◌, nat_lt, Bool, true, false, not, if◌then◌else◌, List, [], ◌++◌, length, Option, None, Some, Result, Ok, Err, IfSome, ap, sym, subst, ◌∙◌}
 use Rattle.std.specs.Bool.{OnFalse}
+use Rattle.std.specs.Result.{IsErrAnd}
 use Rattle.std.proofs.lemmas.Bool.{le-ltb, ltb-true}
 use Rattle.xm_desk.specs.declared.opening.OpenFault.{OpenFault}
+use Rattle.xm_day.proofs.Days.{lacks-more}
 use Rattle.xm_day.specs.Answers.{AreRowsOf, HasTaken, OrdersEnd, RowsRun, statement_of}
 use Rattle.xm_day.specs.declared.desks.OpenDay.{OpenDay}
 use Rattle.xm_files.specs.Batches.{RowsLeft, rows_from}
 use Rattle.xm_files.specs.FileFaults.{is_from_outside}
 use Rattle.xm_files.specs.Orders.{orders_of}
 use Rattle.xm_files.specs.declared.file_faults.FileFault.{FileFault}
-use Rattle.xm_day.specs.Day.{day, segment_fault}
+use Rattle.xm_day.specs.Day.{LacksMemoryAt, day, opening_day}
+use Rattle.xm_segment.specs.Opening.{segment_fault}
 use Rattle.xm_day.specs.Answers.{IsOfWriting}
 use Rattle.xm_files.specs.Names.{NameLists}
 use Rattle.xm_segment.specs.declared.config.SegmentConfig.{SegmentConfig}
@@ -23,17 +26,30 @@ pub OrdersEnd-of_writing : (config : SegmentConfig) (names : NameLists) (rows : 
     → AreRowsOf orders config names rows → segment_fault config ≡ None → IsOfWriting fault
     → (fault ≡ WriteFailed → AppendsPrefix old new (statement_of names (day config rows)))
     → OrdersEnd config names orders old new (Err fault)
-OrdersEnd-of_writing config names rows orders old new OutOfMemory read sound is failed = (rows, read, sound)
+OrdersEnd-of_writing config names rows orders old new (OutOfMemory _) read sound is failed = (rows, read, sound)
 OrdersEnd-of_writing config names rows orders old new WriteFailed read sound is failed = (rows, read, (sound, failed refl))
 OrdersEnd-of_writing config names rows orders old new (Segment fault) read sound is failed = absurd is
 OrdersEnd-of_writing config names rows orders old new (Orders fault) read sound is failed = absurd is
 OrdersEnd-of_writing config names rows orders old new (Open fault) read sound is failed = absurd is
 
+-- what went wrong at some rows is so where more come after them
+pub taken-more : (config : SegmentConfig) (rows more : List Row) (fault : DayFault) → HasTaken config rows (Err fault) → HasTaken config (rows ++ more) (Err fault)
+taken-more config rows more (Open fault) has = has
+taken-more config rows more (OutOfMemory _) has = (has.0, lacks-more (opening_day config) rows more has.1)
+taken-more config rows more WriteFailed has = absurd has
+taken-more config rows more (Segment fault) has = absurd has
+taken-more config rows more (Orders fault) has = absurd has
+
+-- want of memory is told as such
+pub if_memory : (config : SegmentConfig) (rows : List Row) (result : Result OpenDay DayFault) → IsErrAnd result (λ fault. fault ≡ OutOfMemory tt) → segment_fault config ≡ None → LacksMemoryAt (opening_day config) rows → HasTaken config rows result
+if_memory config rows (Ok d) is sound lacks = absurd is
+if_memory config rows (Err fault) is sound lacks = subst (λ (f : DayFault). HasTaken config rows (Err f)) (sym is) (sound, lacks)
+
 -- the rows of a file were read, and taken where that could be
 pub run-done : (config : SegmentConfig) (names : NameLists) (file : RowsLeft) (result : Result OpenDay DayFault) (rows : List Row) → rows_from names config file [] ≡ Ok rows → HasTaken config rows result → RowsRun config names file result
 run-done config names file (Ok d) rows read has = (rows, read, has)
 run-done config names file (Err (Open fault)) rows read has = (rows, read, has)
-run-done config names file (Err OutOfMemory) rows read has = (rows, read, has)
+run-done config names file (Err (OutOfMemory _)) rows read has = (rows, read, has)
 run-done config names file (Err WriteFailed) rows read has = absurd has
 run-done config names file (Err (Segment fault)) rows read has = absurd has
 run-done config names file (Err (Orders fault)) rows read has = absurd has
@@ -55,7 +71,7 @@ pub run-ended : (config : SegmentConfig) (names : NameLists) (orders old new : O
     → RowsRun config names left (Err fault) → OrdersEnd config names orders old new (Err fault)
 run-ended config names orders old new left (Orders fault) gives run = record { of_bytes = if-inside (is_from_outside fault.cause) run.0 (gives (Err fault)); from_outside = run.1 }
 run-ended config names orders old new left (Open fault) gives run = (run.0, gives (Ok run.0) run.1, run.2)
-run-ended config names orders old new left OutOfMemory gives run = (run.0, gives (Ok run.0) run.1, run.2)
+run-ended config names orders old new left (OutOfMemory _) gives run = (run.0, gives (Ok run.0) run.1, run.2.0)
 run-ended config names orders old new left WriteFailed gives run = absurd run.2
 run-ended config names orders old new left (Segment fault) gives run = absurd run.2
 

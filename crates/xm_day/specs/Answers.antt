@@ -2,7 +2,8 @@
 use Rattle.std.specs.Prelude.{◌≡◌, ℕ, ◌+◌, List, [], length, Option, None, Some, Result, Ok, Err, IfSome}
 use Rattle.std.specs.Bool.{OnFalse, OnTrue}
 use Rattle.std.specs.Io.KnownBytes.{Appends}
-use Rattle.xm_day.specs.Day.{Day, day, day_of, segment_fault}
+use Rattle.xm_day.specs.Day.{Day, LacksMemoryAt, day, day_of, opening_day}
+use Rattle.xm_segment.specs.Opening.{segment_fault}
 use Rattle.xm_day.specs.declared.desks.OpenDay.{OpenDay}
 use Rattle.xm_files.specs.Batches.{RowsLeft, rows_from}
 use Rattle.xm_files.specs.FileFaults.{is_from_outside}
@@ -35,7 +36,7 @@ pub record IsFileFault {A : Type 0} (reads : List ℕ → Result A FileFault) (f
 
 -- the first limit that the segment does not keep, or memory is wanting where it keeps them all
 abbrev pub IsOpenFault : SegmentConfig → OpenFault → Type 0
-IsOpenFault config opening.OutOfMemory = segment_fault config ≡ None
+IsOpenFault config (opening.OutOfMemory _) = segment_fault config ≡ None
 IsOpenFault config fault = segment_fault config ≡ Some fault
 
 abbrev pub statement_of : NameLists → Day → List ℕ
@@ -47,12 +48,12 @@ pub record WritesDay (config : SegmentConfig) (names : NameLists) (rows : List R
   pub accepted : report.accepted ≡ (day config rows).accepted
   pub refused : report.refused ≡ (day config rows).refused
 
--- the desks have taken these rows, unless the segment can't be opened or memory is wanting
+-- the desks have taken these rows, unless the segment can't be opened or memory is wanting at one of them
 abbrev pub HasTaken : SegmentConfig → List Row → Result OpenDay DayFault → Type 0
 HasTaken config rows (Ok d) =
     (segment_fault config ≡ None) × (length d.desks.items ≡ length config.securities) × (day_of d.desks.items d.report.accepted d.report.refused ≡ day config rows) × (d.report.accepted + d.report.refused ≡ length rows)
 HasTaken config rows (Err (Open fault)) = IsOpenFault config fault
-HasTaken config rows (Err OutOfMemory) = segment_fault config ≡ None
+HasTaken config rows (Err (OutOfMemory _)) = (segment_fault config ≡ None) × LacksMemoryAt (opening_day config) rows
 HasTaken config rows (Err fault) = ⊥
 
 -- the desks have taken the rows of an order file, if it has no fault
@@ -64,7 +65,7 @@ RowsRun config names file result = (rows : List Row) × (rows_from names config 
 abbrev pub RowsEnd : SegmentConfig → NameLists → List Row → Option (List ℕ) → Option (List ℕ) → Result DayReport DayFault → Type 0
 RowsEnd config names rows old new (Ok report) = (segment_fault config ≡ None) × WritesDay config names rows report old new
 RowsEnd config names rows old new (Err (Open fault)) = IsOpenFault config fault
-RowsEnd config names rows old new (Err OutOfMemory) = segment_fault config ≡ None
+RowsEnd config names rows old new (Err (OutOfMemory _)) = segment_fault config ≡ None
 RowsEnd config names rows old new (Err WriteFailed) = (segment_fault config ≡ None) × AppendsPrefix old new (statement_of names (day config rows))
 RowsEnd config names rows old new (Err (Segment fault)) = ⊥
 RowsEnd config names rows old new (Err (Orders fault)) = ⊥
@@ -82,6 +83,6 @@ DayEnds segment orders old new result =
 
 -- a statement isn't written for want of memory, or because the writer failed
 abbrev pub IsOfWriting : DayFault → Type 0
-IsOfWriting OutOfMemory = Unit {0}
+IsOfWriting (OutOfMemory _) = Unit {0}
 IsOfWriting WriteFailed = Unit {0}
 IsOfWriting _ = ⊥

@@ -1,14 +1,11 @@
 -- The day of a segment: its rows taken one after another.
-use Rattle.std.specs.Prelude.{◌≡◌, ℕ, ◌+◌, ◌||◌, not, if◌then◌else◌, nat_lt, List, [], ◌∷◌, ◌++◌, length, map, slice_get, slice_set, Option, Some, None}
-use Rattle.std.specs.List.{list_all}
-use Rattle.xm_desk.specs.Opening.{are_widths}
-use Rattle.xm_desk.specs.declared.opening.OpenFault.{OpenFault}
-use Rattle.xm_desk.specs.declared.opening.OpenFault.TheVariants.{NoSecurity, TooMany, BadWidths}
+use Rattle.std.specs.Prelude.{◌≡◌, ℕ, ◌+◌, List, [], ◌∷◌, ◌++◌, map, slice_get, slice_set, Option, Some, None}
 use Rattle.xm_rules.specs.Refusals.{refusal_of}
 use Rattle.xm_rules.specs.State.{State, opening}
 use Rattle.xm_rules.specs.Step.{Journal, replay, step}
 use Rattle.xm_rules.specs.declared.replies.Refusal.{Refusal}
-use Rattle.xm_rules.specs.declared.settings.DeskSettings.{DeskSettings}
+use Rattle.xm_rules.specs.declared.replies.Refusal.TheVariants.{UnknownSecurity}
+use Rattle.xm_segment.specs.Opening.{settings_of}
 use Rattle.xm_segment.specs.declared.config.SecurityConfig.{SecurityConfig}
 use Rattle.xm_segment.specs.declared.config.SegmentConfig.{SegmentConfig}
 use Rattle.xm_segment.specs.declared.rows.Row.{Row}
@@ -18,11 +15,6 @@ pub record Day : Type 0 where
   pub states : List State
   pub accepted : ℕ
   pub refused : ℕ
-
--- the settings that the desk of a security is opened with
-abbrev pub settings_of : SegmentConfig → SecurityConfig → DeskSettings
-settings_of config security =
-    record { today = config.today; members = config.members; tick = security.tick; reference = security.reference; widths = security.widths; limit = security.limit }
 
 abbrev pub opening_day : SegmentConfig → Day
 opening_day config = record { states = map (λ (security : SecurityConfig). opening (settings_of config security)) config.securities; accepted = 0; refused = 0 }
@@ -44,6 +36,19 @@ abbrev pub after_rows : Day → List Row → Day
 after_rows d [] = d
 after_rows d (row ∷ rows) = after_rows (after_row d row) rows
 
+abbrev pub refusal_on : Row → Option State → Option Refusal
+refusal_on row None = Some UnknownSecurity
+refusal_on row (Some s) = refusal_of s row.command
+
+-- why these securities refuse a row, if they do
+abbrev pub row_refusal : List State → Row → Option Refusal
+row_refusal states row = refusal_on row (slice_get states row.security)
+
+-- the day with one row more counted, which met this refusal, if any
+abbrev pub counted : Day → Option Refusal → Day
+counted d None = record d { accepted = d.accepted + 1 }
+counted d (Some refusal) = record d { refused = d.refused + 1 }
+
 -- the day would accept the row: its security is known, and nothing refuses its command
 pub record Accepts (d : Day) (row : Row) : Type 0 where
   pub state : State
@@ -62,24 +67,6 @@ pub record LacksMemoryAt (d : Day) (rows : List Row) : Type 0 where
 abbrev pub day : SegmentConfig → List Row → Day
 day config rows = after_rows (opening_day config) rows
 
--- the journal that the desk of a security begins
-abbrev pub journal_of : SegmentConfig → SecurityConfig → Journal
-journal_of config security = record { settings = settings_of config security; commands = [] }
-
 -- the day of desks, seen as their journals, and of these counts
 abbrev pub day_of : List Journal → ℕ → ℕ → Day
 day_of desks accepted refused = record { states = map replay desks; accepted = accepted; refused = refused }
-
--- the most securities and the most members of a segment
-abbrev pub max_securities : ℕ
-max_securities = 8
-
-abbrev pub max_members : ℕ
-max_members = 1000
-
--- what is wrong with a segment, if anything is: it has no security; too many, or too many members; the widths of one
-abbrev pub segment_fault : SegmentConfig → Option OpenFault
-segment_fault config =
-    if not (nat_lt 0 (length config.securities)) then Some NoSecurity
-    else (if nat_lt max_securities (length config.securities) || nat_lt max_members config.members then Some TooMany
-    else (if list_all (λ (security : SecurityConfig). are_widths security.widths) config.securities then None else Some BadWidths))

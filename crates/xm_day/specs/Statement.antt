@@ -1,9 +1,9 @@
 -- The text of the end-of-day statement.
-use Rattle.std.specs.Prelude.{codes, ℕ, ℤ, pos, ◌+◌, ◌-◌, ◌*◌, ◌+ℤ◌, ◌-ℤ◌, if◌then◌else◌, nat_lt, List, [], ◌∷◌, ◌++◌, length, replicate, slice_get, unwrap_or}
+use Rattle.std.specs.Prelude.{codes, ℕ, ℤ, pos, ◌+◌, ◌-◌, ◌*◌, ◌+ℤ◌, ◌-ℤ◌, if◌then◌else◌, List, [], ◌∷◌, ◌++◌, length, replicate, slice_get, unwrap_or}
 use Rattle.std.specs.Fmt.{decimal, signed_decimal}
 use Rattle.std.specs.List.{flat_map, range_with_len}
 use Rattle.xm_rules.specs.State.{State, ref1, ref2}
-use Rattle.xm_rules.specs.Sums.{bought, sold, paid, received, total_quantity, total_money}
+use Rattle.xm_rules.specs.Sums.{has_traded, net, paid, received, total_quantity, total_money}
 use Rattle.xm_rules.specs.declared.orders.Order.{Order}
 use Rattle.xm_rules.specs.declared.orders.OrderKind.{OrderKind}
 use Rattle.xm_rules.specs.declared.orders.OrderKind.TheVariants.{Market, Limit}
@@ -94,12 +94,8 @@ stop_line names tick s =
     ++ codes " " ++ limit_text tick s.becomes ++ codes " " ++ decimal s.quantity ++ codes " " ++ validity_text s.validity ++ codes "\n"
 
 -- in ten-thousandths of a euro: what a member received in a security less what it paid
-abbrev pub cash : State → ℕ → ℤ
-cash s member = pos (received member s.trades * s.settings.tick) -ℤ pos (paid member s.trades * s.settings.tick)
-
--- in units: what a member bought of a security less what it sold
-abbrev pub net : State → ℕ → ℤ
-net s member = pos (bought member s.trades) -ℤ pos (sold member s.trades)
+abbrev pub cash_in : State → ℕ → ℤ
+cash_in s member = pos (received member s.trades * s.settings.tick) -ℤ pos (paid member s.trades * s.settings.tick)
 
 abbrev pub net_position_line : List ℕ → ℤ → ℤ → List ℕ
 net_position_line name units amount = codes "NET " ++ name ++ codes " " ++ signed_decimal units ++ codes " " ++ money_text amount ++ codes "\n"
@@ -107,7 +103,7 @@ net_position_line name units amount = codes "NET " ++ name ++ codes " " ++ signe
 -- a member has a line in a security where it bought or sold a unit
 abbrev pub net_line : NameLists → State → ℕ → List ℕ
 net_line names s member =
-    if nat_lt 0 (bought member s.trades + sold member s.trades) then net_position_line (name_at names.members member) (net s member) (cash s member) else []
+    if has_traded member s.trades then net_position_line (name_at names.members member) (net member s.trades) (cash_in s member) else []
 
 -- the indices of the members
 abbrev pub member_indices : NameLists → List ℕ
@@ -144,7 +140,7 @@ securities_text names index (s ∷ ss) = security_text names index s ++ securiti
 -- a member's cash over all securities
 abbrev pub total_cash : List State → ℕ → ℤ
 total_cash [] member = pos 0
-total_cash (s ∷ ss) member = cash s member +ℤ total_cash ss member
+total_cash (s ∷ ss) member = cash_in s member +ℤ total_cash ss member
 
 abbrev pub cash_line : List ℕ → ℤ → List ℕ
 cash_line name amount = codes "MEMBER " ++ name ++ codes " " ++ money_text amount ++ codes "\n"

@@ -8,7 +8,7 @@ use crate::report::DayReport;
 use crate::statements::statement;
 use std::alloc::Global;
 use std::io;
-use xm_files::{Batch, Names, RowReader, read_orders, read_segment};
+use xm_files::{Batch, RowReader, SegmentNames, read_orders, read_segment};
 use xm_names::Seed;
 use xm_segment::SegmentConfig;
 
@@ -25,7 +25,7 @@ pub fn run_orders<R: io::Read, W: io::Write>(
     alloc: Global,
     seed: Seed,
     config: &SegmentConfig,
-    names: &Names,
+    names: &SegmentNames,
     orders: &mut R,
     out: &mut W,
 ) -> Result<DayReport, DayFault>
@@ -50,7 +50,7 @@ fn run_rows(
     alloc: Global,
     seed: Seed,
     config: &SegmentConfig,
-    names: &Names,
+    names: &SegmentNames,
     file: &mut RowReader<'_>,
 ) -> Result<OpenDay, DayFault>
     ensures { RowsRun config.now names.now file.old result }

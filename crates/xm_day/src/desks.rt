@@ -1,97 +1,19 @@
-//! The desks of a segment, and the rows that they take.
-ghost use Rattle.std.specs.Prelude.{◌≡◌, ◌≢◌, ◌+◌, ◌<◌, ◌^◌, ◌++◌, List, [], All, Err, IfErr, IfOk, None, OnErr, OnOk, Some, false, length, map, true};
-ghost use Rattle.std.specs.List.{list_all};
+//! The rows that the desks of a segment take.
+ghost use Rattle.std.specs.Prelude.{ℕ, ◌≡◌, ◌≢◌, ◌+◌, ◌<◌, ◌^◌, ◌++◌, List, [], All, Err, IfErr, IfOk, None, OnErr, OnOk, Some, false, length, map, true};
 ghost use Rattle.xm_day.specs.Answers.{HasTaken};
-ghost use Rattle.xm_day.specs.Day.{Accepts, LacksMemoryAt, after_row, after_rows, day_of, journal_of, segment_fault};
-ghost use Rattle.xm_desk.specs.Opening.{are_widths};
+ghost use Rattle.xm_day.specs.Day.{Accepts, LacksMemoryAt, after_row, after_rows, counted, day_of, row_refusal};
 ghost use Rattle.xm_rules.specs.Step.{replay};
 ghost use Rattle.xm_segment.specs.declared.config.SegmentConfig.{SegmentConfig};
 ghost use Rattle.xm_segment.specs.declared.rows.Row.{Row};
 
 use crate::faults::DayFault;
 use crate::report::DayReport;
-use std::alloc::{AllocError, Allocator, Global};
-use xm_desk::{Desk, MAX_MEMBERS, OpenFault, are_widths};
+use std::alloc::{Allocator, Global};
+use xm_desk::Desk;
+use xm_memory::OutOfMemory;
 use xm_names::Seed;
-use xm_rules::{DeskSettings, OutOfMemory, Refusal};
-use xm_segment::{Row, SecurityConfig, SegmentConfig};
-
-/// The most securities of a segment.
-pub const MAX_SECURITIES: usize = 8;
-
-/// Opens a desk for each security of a segment.
-pub fn open_desks(
-    alloc: Global,
-    seed: Seed,
-    config: &SegmentConfig,
-) -> Result<Vec<Desk<Global>>, OpenFault>
-    ensures opened { IfOk result (λ desks. desks.items ≡ map (journal_of config.now) config.now.securities) }
-    ensures sound { OnOk result (segment_fault config.now ≡ None) }
-    ensures refused { IfErr result (λ fault. fault ≢ OpenFault.OutOfMemory → segment_fault config.now ≡ Some fault) }
-    ensures memory { result ≡ Err OpenFault.OutOfMemory → segment_fault config.now ≡ None }
-{
-    if let Some(fault) = segment_fault(config) {
-        return Err(fault);
-    }
-    desks_of(alloc, seed, config).map_err(|_| OpenFault::OutOfMemory)
-}
-
-/// The desks of a segment without a fault.
-fn desks_of(
-    alloc: Global,
-    seed: Seed,
-    config: &SegmentConfig,
-) -> Result<Vec<Desk<Global>>, AllocError>
-    ensures { IfOk result (λ desks. desks.items ≡ map (journal_of config.now) config.now.securities) }
-{
-    let mut desks = Vec::new(alloc);
-    for security in config.securities.as_slice() {
-        match Desk::open(alloc, seed, settings_of(config, security)) {
-            Ok(desk) => desks.push(desk)?,
-            Err(_) => return Err(AllocError),
-        }
-    }
-    Ok(desks)
-}
-
-/// The settings that the desk of a security is opened with.
-fn settings_of(config: &SegmentConfig, security: &SecurityConfig) -> DeskSettings
-    ensures { record { settings = result; commands = [] } ≡ journal_of config.now security.now }
-{
-    DeskSettings {
-        today: config.today,
-        members: config.members,
-        tick: security.tick,
-        reference: security.reference,
-        widths: security.widths,
-        limit: security.limit,
-    }
-}
-
-/// What is wrong with a segment, if anything is.
-fn segment_fault(config: &SegmentConfig) -> Option<OpenFault>
-    ensures { result ≡ segment_fault config.now }
-{
-    let securities = config.securities.as_slice();
-    if securities.is_empty() {
-        Some(OpenFault::NoSecurity)
-    } else if securities.len() > MAX_SECURITIES || config.members > MAX_MEMBERS {
-        Some(OpenFault::TooMany)
-    } else if have_widths(securities) {
-        None
-    } else {
-        Some(OpenFault::BadWidths)
-    }
-}
-
-/// Whether the widths of each security are lawful.
-fn have_widths(securities: &[SecurityConfig]) -> bool
-    ensures { result ≡ list_all (λ security. are_widths security.widths) securities.now }
-{
-    securities
-        .iter()
-        .all(|security| are_widths(&security.widths))
-}
+use xm_rules::Refusal;
+use xm_segment::{Row, SegmentConfig, open_desks};
 
 /// The desks of a segment, and how many rows they accepted and refused.
 #[derive(Drop)]
@@ -140,40 +62,38 @@ fn take_rows<A: Allocator + Copy>(
 {
     let mut report = before;
     for row in rows {
-        report = take_row(desks, row, report)?;
+        report = report.counted(take_row(desks, row)?);
     }
     Ok(report)
 }
 
-/// Takes a row, and counts it in a report. One of an unknown security is refused. `OutOfMemory`
-/// comes only where nothing else refuses it.
+/// Takes a row, and answers why it is refused, if it is. `OutOfMemory` comes only where nothing else refuses it.
 #[inline(always)]
 fn take_row<A: Allocator + Copy>(
     desks: &mut [Desk<A>],
     row: &Row,
-    report: DayReport,
-) -> Result<DayReport, OutOfMemory>
-    requires room { report.accepted + report.refused + 1 < 2 ^ 64 }
-    ensures taken { IfOk result (λ counted. after_row (day_of desks.old report.accepted report.refused) row.now ≡ day_of desks.new counted.accepted counted.refused) }
-    ensures counted { IfOk result (λ counted. counted.accepted + counted.refused ≡ report.accepted + report.refused + 1) }
-    ensures memory { OnErr result (Accepts (day_of desks.old report.accepted report.refused) row.now) }
+) -> Result<Option<Refusal>, OutOfMemory>
+    ensures refusal { IfOk result (λ refusal. refusal ≡ row_refusal (map replay desks.old) row.now) }
+    ensures taken { IfOk result (λ refusal. (accepted refused : ℕ) → after_row (day_of desks.old accepted refused) row.now ≡ counted (day_of desks.new accepted refused) refusal) }
+    ensures memory { OnErr result ((accepted refused : ℕ) → Accepts (day_of desks.old accepted refused) row.now) }
 {
-    let refused = DayReport {
-        accepted: report.accepted,
-        refused: report.refused + 1,
-    };
     let index = row.security as usize;
     if index >= desks.len() {
-        return Ok(refused);
+        return Ok(Some(Refusal::UnknownSecurity));
     }
     match desks[index].apply(&row.command) {
-        Ok(_) => Ok(DayReport {
-            accepted: report.accepted + 1,
-            refused: report.refused,
-        }),
-        Err(refusal) => match refusal {
-            Refusal::OutOfMemory => Err(OutOfMemory),
-            _ => Ok(refused),
-        },
+        Ok(_) => Ok(None),
+        Err(refusal) => Ok(Some(by_rule(refusal)?)),
+    }
+}
+
+/// A refusal by a rule, or the want of memory that it is.
+fn by_rule(refusal: Refusal) -> Result<Refusal, OutOfMemory>
+    ensures rule { IfOk result (λ same. (same ≡ refusal) × (refusal ≢ Refusal.OutOfMemory tt)) }
+    ensures memory { OnErr result (refusal ≡ Refusal.OutOfMemory tt) }
+{
+    match refusal {
+        Refusal::OutOfMemory(error) => Err(error),
+        _ => Ok(refusal),
     }
 }

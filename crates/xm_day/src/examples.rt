@@ -2,7 +2,8 @@
 #![tactic(auto, unfolding(xm_rules::specs::Refusals::refusal_of, xm_rules::specs::Step::step))]
 
 ghost use Rattle.std.specs.Prelude.{◌≡◌, codes, map, negsuc, pos, None, Some, [], ◌∷◌};
-ghost use Rattle.xm_day.specs.Day.{day, opening_day, segment_fault};
+ghost use Rattle.xm_day.specs.Day.{day, opening_day};
+ghost use Rattle.xm_segment.specs.Opening.{segment_fault};
 ghost use Rattle.xm_day.specs.Examples.{broad_security, cascade_rows, cascade_state, cascade_text, every_phase, every_phase_word, every_restriction, every_restriction_word, every_trade_kind, every_trade_word, every_validity, every_validity_text, example_config, example_names, open_row, penny_state, sized_config};
 ghost use Rattle.xm_day.specs.Statement.{day_line, limit_text, member_line, phase_word, restriction_word, side_word, statement, stop_line, total_cash, trade_word, validity_text};
 ghost use Rattle.xm_desk.specs.declared.opening.OpenFault.TheVariants.{BadWidths, NoSecurity, TooMany};

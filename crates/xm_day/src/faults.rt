@@ -5,7 +5,7 @@ ghost use Rattle.xm_day.specs.declared.faults.DayFault.TheVariants as day;
 use thiserror::Error;
 use xm_desk::OpenFault;
 use xm_files::FileFault;
-use xm_rules::OutOfMemory;
+use xm_memory::OutOfMemory;
 
 /// Why a day has no statement, in the order of the checks.
 #[derive(Clone, Copy, PartialEq, Eq, Debug, Error)]
@@ -21,7 +21,7 @@ pub enum DayFault {
     Open(OpenFault),
     /// A growth was refused.
     #[error("out of memory")]
-    OutOfMemory,
+    OutOfMemory(OutOfMemory),
     /// The writer failed, or took no byte.
     #[error("write failed")]
     WriteFailed,
@@ -36,9 +36,9 @@ impl From<OpenFault> for DayFault {
 }
 
 impl From<OutOfMemory> for DayFault {
-    ghost from_gives = { λ _ fault. fault ≡ day.OutOfMemory };
+    ghost from_gives = { λ _ fault. fault ≡ day.OutOfMemory tt };
 
-    fn from(_error: OutOfMemory) -> DayFault {
-        DayFault::OutOfMemory
+    fn from(error: OutOfMemory) -> DayFault {
+        DayFault::OutOfMemory(error)
     }
 }

@@ -8,15 +8,16 @@ use crate::texts::{push_money, push_number, push_party, push_price, push_text};
 use crate::words::{restriction_word, side_word};
 use itoa::Buffer;
 use std::alloc::Allocator;
-use xm_files::Names;
-use xm_rules::{Order, OrderKind, OutOfMemory, Stop, Validity};
+use xm_files::SegmentNames;
+use xm_memory::OutOfMemory;
+use xm_rules::{Order, OrderKind, Stop, Validity};
 use xm_ticks::TickSize;
 
 /// The lines of some orders.
 pub(crate) fn push_orders<A: Allocator>(
     text: &mut Vec<u8, A>,
     orders: &[Order],
-    names: &Names,
+    names: &SegmentNames,
     tick: TickSize,
 ) -> Result<(), OutOfMemory>
     ensures { OnOk result (text.new.items ≡ text.old.items ++ flat_map (order_line names.now tick) orders.now) }
@@ -31,7 +32,7 @@ pub(crate) fn push_orders<A: Allocator>(
 fn push_order<A: Allocator>(
     text: &mut Vec<u8, A>,
     order: &Order,
-    names: &Names,
+    names: &SegmentNames,
     tick: TickSize,
 ) -> Result<(), OutOfMemory>
     ensures { OnOk result (text.new.items ≡ text.old.items ++ order_line names.now tick order.now) }
@@ -55,7 +56,7 @@ fn push_order<A: Allocator>(
 pub(crate) fn push_stops<A: Allocator>(
     text: &mut Vec<u8, A>,
     stops: &[Stop],
-    names: &Names,
+    names: &SegmentNames,
     tick: TickSize,
 ) -> Result<(), OutOfMemory>
     ensures { OnOk result (text.new.items ≡ text.old.items ++ flat_map (stop_line names.now tick) stops.now) }
@@ -70,7 +71,7 @@ pub(crate) fn push_stops<A: Allocator>(
 fn push_stop<A: Allocator>(
     text: &mut Vec<u8, A>,
     stop: &Stop,
-    names: &Names,
+    names: &SegmentNames,
     tick: TickSize,
 ) -> Result<(), OutOfMemory>
     ensures { OnOk result (text.new.items ≡ text.old.items ++ stop_line names.now tick stop.now) }

@@ -1,8 +1,34 @@
 //! What a day counts.
+ghost use Rattle.std.specs.Prelude.{List, ◌≡◌, ◌+◌, ◌<◌, ◌^◌};
+ghost use Rattle.xm_day.specs.Day.{counted};
+ghost use Rattle.xm_rules.specs.State.{State};
+
+use xm_rules::Refusal;
 
 /// How many rows of a day were accepted and refused.
 #[derive(Clone, Copy, PartialEq, Eq, Debug)]
 pub struct DayReport {
     pub accepted: u64,
     pub refused: u64,
+}
+
+impl DayReport {
+    /// The report with one row more, which met this refusal, if any.
+    #[inline(always)]
+    pub(crate) fn counted(self, refusal: Option<Refusal>) -> DayReport
+        requires room { self.accepted + self.refused + 1 < 2 ^ 64 }
+        ensures counted { (states : List State) → record { states = states; accepted = result.accepted; refused = result.refused } ≡ counted (record { states = states; accepted = self.accepted; refused = self.refused }) refusal }
+        ensures one { result.accepted + result.refused ≡ self.accepted + self.refused + 1 }
+    {
+        match refusal {
+            None => DayReport {
+                accepted: self.accepted + 1,
+                refused: self.refused,
+            },
+            Some(_) => DayReport {
+                accepted: self.accepted,
+                refused: self.refused + 1,
+            },
+        }
+    }
 }

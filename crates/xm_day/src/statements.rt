@@ -15,8 +15,9 @@ use crate::words::phase_word;
 use std::alloc::Allocator;
 use std::io;
 use xm_desk::Desk;
-use xm_files::Names;
-use xm_rules::{OutOfMemory, Phase};
+use xm_files::SegmentNames;
+use xm_memory::OutOfMemory;
+use xm_rules::Phase;
 use xm_ticks::{Price, TickSize, write_whole};
 
 /// Writes the statement of the desks of a segment, which are in index order.
@@ -26,7 +27,7 @@ use xm_ticks::{Price, TickSize, write_whole};
 pub fn statement<A: Allocator, B: Allocator + Copy, W: io::Write>(
     alloc: A,
     desks: &[Desk<B>],
-    names: &Names,
+    names: &SegmentNames,
     report: &DayReport,
     out: &mut W,
 ) -> Result<(), DayFault>
@@ -34,7 +35,7 @@ pub fn statement<A: Allocator, B: Allocator + Copy, W: io::Write>(
     requires names { length names.now.securities ≡ length desks.now }
     ensures ok { OnOk result (Appends (W.contents out.old) (W.contents out.new)
         (statement names.now (map replay desks.now) report.now.accepted report.now.refused)) }
-    ensures memory { result ≡ Err DayFault.OutOfMemory → out.new ≡ out.old }
+    ensures memory { result ≡ Err (DayFault.OutOfMemory tt) → out.new ≡ out.old }
     ensures failed { result ≡ Err DayFault.WriteFailed → AppendsPrefix (W.contents out.old) (W.contents out.new)
         (statement names.now (map replay desks.now) report.now.accepted report.now.refused) }
     ensures faults { IfErr result IsOfWriting }
@@ -50,7 +51,7 @@ pub fn statement<A: Allocator, B: Allocator + Copy, W: io::Write>(
 fn statement_text<A: Allocator, B: Allocator + Copy>(
     alloc: A,
     desks: &[Desk<B>],
-    names: &Names,
+    names: &SegmentNames,
     report: &DayReport,
 ) -> Result<Vec<u8, A>, OutOfMemory>
     requires some { 0 < length desks.now }
@@ -89,7 +90,7 @@ fn push_rows<A: Allocator>(text: &mut Vec<u8, A>, report: &DayReport) -> Result<
 fn push_securities<A: Allocator, B: Allocator + Copy>(
     text: &mut Vec<u8, A>,
     desks: &[Desk<B>],
-    names: &Names,
+    names: &SegmentNames,
 ) -> Result<(), OutOfMemory>
     requires { length names.now.securities ≡ length desks.now }
     ensures text { OnOk result (text.new.items ≡ text.old.items ++ securities_text names.now 0 (map replay desks.now)) }
@@ -105,7 +106,7 @@ fn push_securities<A: Allocator, B: Allocator + Copy>(
 fn push_security<A: Allocator, B: Allocator + Copy>(
     text: &mut Vec<u8, A>,
     desk: &Desk<B>,
-    names: &Names,
+    names: &SegmentNames,
     index: u32,
 ) -> Result<(), OutOfMemory>
     ensures { OnOk result (text.new.items ≡ text.old.items ++ security_text names.now index (replay desk.now)) }
@@ -126,7 +127,7 @@ fn push_security<A: Allocator, B: Allocator + Copy>(
 fn push_heading<A: Allocator, B: Allocator + Copy>(
     text: &mut Vec<u8, A>,
     desk: &Desk<B>,
-    names: &Names,
+    names: &SegmentNames,
     index: u32,
 ) -> Result<(), OutOfMemory>
     ensures { OnOk result (text.new.items ≡ text.old.items ++ heading_text (name_at names.now.securities index) (replay desk.now)) }

@@ -1,6 +1,6 @@
 //! The cash of members, in ten-thousandths of a euro.
 ghost use Rattle.std.specs.Prelude.{◌≡◌, ◌^◌, ◌<◌, ◌≤◌, length, map, unsigned_abs};
-ghost use Rattle.xm_day.specs.Statement.{cash, total_cash};
+ghost use Rattle.xm_day.specs.Statement.{cash_in, total_cash};
 ghost use Rattle.xm_rules.specs.Step.{replay};
 
 use std::alloc::Allocator;
@@ -8,7 +8,7 @@ use xm_desk::Desk;
 
 /// What a member received in a security less what it paid, in ten-thousandths of a euro.
 pub(crate) fn cash_in<A: Allocator + Copy>(desk: &Desk<A>, member: u32) -> i128
-    ensures cash { result ≡ cash (replay desk.now) member }
+    ensures cash { result ≡ cash_in (replay desk.now) member }
     ensures little { unsigned_abs result ≤ 2 ^ 80 }
 {
     match desk.cash(member) {

@@ -1,13 +1,14 @@
 //! The pieces that the lines of the statement are put together from.
-ghost use Rattle.std.specs.Prelude.{◌≡◌, ◌++◌, OnOk};
+ghost use Rattle.std.specs.Prelude.{◌≡◌, ◌++◌, Ok, OnOk};
 ghost use Rattle.std.specs.Fmt.{decimal};
 ghost use Rattle.xm_day.specs.Statement.{name_at, party_text};
 ghost use Rattle.xm_ticks.specs.Writing.{money_text, price_text};
 
 use itoa::Buffer;
 use std::alloc::Allocator;
-use xm_files::Names;
-use xm_rules::OutOfMemory;
+use std::io;
+use xm_files::SegmentNames;
+use xm_memory::OutOfMemory;
 use xm_ticks::{Price, TickSize, write_money, write_price};
 
 /// A number.
@@ -29,10 +30,7 @@ pub(crate) fn push_price<A: Allocator>(
 ) -> Result<(), OutOfMemory>
     ensures { OnOk result (text.new.items ≡ text.old.items ++ price_text price tick) }
 {
-    match write_price(text, price, tick) {
-        Ok(()) => Ok(()),
-        Err(_) => Err(OutOfMemory),
-    }
+    written(write_price(text, price, tick))
 }
 
 /// Ten-thousandths of a euro, in euros.
@@ -42,16 +40,23 @@ pub(crate) fn push_money<A: Allocator>(
 ) -> Result<(), OutOfMemory>
     ensures { OnOk result (text.new.items ≡ text.old.items ++ money_text money) }
 {
-    match write_money(text, money) {
+    written(write_money(text, money))
+}
+
+/// What a text answers that is written to, whose only error is that its growth was refused.
+pub(crate) fn written(answer: io::Result<()>) -> Result<(), OutOfMemory>
+    ensures { OnOk result (answer ≡ Ok tt) }
+{
+    match answer {
         Ok(()) => Ok(()),
-        Err(_) => Err(OutOfMemory),
+        Err(error) => Err(OutOfMemory::told_by(&error)),
     }
 }
 
 /// A member's name and the reference that it gave an order.
 pub(crate) fn push_party<A: Allocator>(
     text: &mut Vec<u8, A>,
-    names: &Names,
+    names: &SegmentNames,
     member: u32,
     reference: u32,
 ) -> Result<(), OutOfMemory>
@@ -71,7 +76,7 @@ pub(crate) fn push_text<A: Allocator>(text: &mut Vec<u8, A>, more: &str) -> Resu
 }
 
 /// The name of a member, or no text where there is none.
-pub(crate) fn member_name(names: &Names, member: u32) -> &str
+pub(crate) fn member_name(names: &SegmentNames, member: u32) -> &str
     ensures { result.now ≡ name_at names.now.members member }
 {
     match names.member(member) {
@@ -81,7 +86,7 @@ pub(crate) fn member_name(names: &Names, member: u32) -> &str
 }
 
 /// The name of a security, or no text where there is none.
-pub(crate) fn security_name(names: &Names, security: u32) -> &str
+pub(crate) fn security_name(names: &SegmentNames, security: u32) -> &str
     ensures { result.now ≡ name_at names.now.securities security }
 {
     match names.security(security) {

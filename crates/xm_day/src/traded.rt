@@ -6,20 +6,23 @@ ghost use Rattle.xm_rules.specs.Step.{replay};
 ghost use Rattle.xm_rules.specs.Sums.{total_money, total_quantity};
 
 use crate::sums::{cash_in, total_cash};
-use crate::texts::{member_name, push_money, push_number, push_party, push_price, push_text};
+use crate::texts::{
+    member_name, push_money, push_number, push_party, push_price, push_text, written,
+};
 use crate::words::trade_word;
 use std::alloc::Allocator;
 use std::io::Write;
 use xm_desk::Desk;
-use xm_files::Names;
-use xm_rules::{OutOfMemory, Trade};
+use xm_files::SegmentNames;
+use xm_memory::OutOfMemory;
+use xm_rules::Trade;
 use xm_ticks::TickSize;
 
 /// The lines of some trades.
 pub(crate) fn push_trades<A: Allocator>(
     text: &mut Vec<u8, A>,
     trades: &[Trade],
-    names: &Names,
+    names: &SegmentNames,
     tick: TickSize,
 ) -> Result<(), OutOfMemory>
     ensures { OnOk result (text.new.items ≡ text.old.items ++ flat_map (trade_line names.now tick) trades.now) }
@@ -34,7 +37,7 @@ pub(crate) fn push_trades<A: Allocator>(
 fn push_trade<A: Allocator>(
     text: &mut Vec<u8, A>,
     trade: &Trade,
-    names: &Names,
+    names: &SegmentNames,
     tick: TickSize,
 ) -> Result<(), OutOfMemory>
     ensures { OnOk result (text.new.items ≡ text.old.items ++ trade_line names.now tick trade.now) }
@@ -58,7 +61,7 @@ fn push_trade<A: Allocator>(
 pub(crate) fn push_nets<A: Allocator, B: Allocator + Copy>(
     text: &mut Vec<u8, A>,
     desk: &Desk<B>,
-    names: &Names,
+    names: &SegmentNames,
 ) -> Result<(), OutOfMemory>
     ensures { OnOk result (text.new.items ≡ text.old.items ++ flat_map (net_line names.now (replay desk.now)) (member_indices names.now)) }
 {
@@ -72,7 +75,7 @@ pub(crate) fn push_nets<A: Allocator, B: Allocator + Copy>(
 fn push_net<A: Allocator, B: Allocator + Copy>(
     text: &mut Vec<u8, A>,
     desk: &Desk<B>,
-    names: &Names,
+    names: &SegmentNames,
     member: u32,
 ) -> Result<(), OutOfMemory>
     ensures { OnOk result (text.new.items ≡ text.old.items ++ net_line names.now (replay desk.now) member) }
@@ -94,9 +97,7 @@ fn push_net_position<A: Allocator>(
 ) -> Result<(), OutOfMemory>
     ensures { OnOk result (text.new.items ≡ text.old.items ++ net_position_line name.now units amount) }
 {
-    let Ok(()) = write!(text, "NET {name} {units} ") else {
-        return Err(OutOfMemory);
-    };
+    written(write!(text, "NET {name} {units} "))?;
     push_money(text, amount)?;
     push_text(text, "\n")
 }
@@ -121,7 +122,7 @@ pub(crate) fn push_total<A: Allocator, B: Allocator + Copy>(
 pub(crate) fn push_members<A: Allocator, B: Allocator + Copy>(
     text: &mut Vec<u8, A>,
     desks: &[Desk<B>],
-    names: &Names,
+    names: &SegmentNames,
 ) -> Result<(), OutOfMemory>
     requires { length desks.now < 2 ^ 32 }
     ensures { OnOk result (text.new.items ≡ text.old.items ++ flat_map (member_line names.now (map replay desks.now)) (member_indices names.now)) }
@@ -136,7 +137,7 @@ pub(crate) fn push_members<A: Allocator, B: Allocator + Copy>(
 fn push_member<A: Allocator, B: Allocator + Copy>(
     text: &mut Vec<u8, A>,
     desks: &[Desk<B>],
-    names: &Names,
+    names: &SegmentNames,
     member: u32,
 ) -> Result<(), OutOfMemory>
     requires { length desks.now < 2 ^ 32 }

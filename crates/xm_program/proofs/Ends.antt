@@ -1,13 +1,13 @@
 -- What words lead to, by what is done for them.
 use Rattle.std.proofs.Common.{◌≡◌, ◌≢◌, ◌⊎◌, ℕ, List, [], Option, Some, Result, Ok, Err, OnOk, OnErr, inl, inr, refl}
 use Rattle.clap.specs.Values.{kind_of}
-use Rattle.clap.specs.Words.{IsAmong, Kinds, Text}
+use Rattle.clap.specs.Words.{Kinds, Text}
 use Rattle.clap.specs.declared.error.Error.{Error}
 use Rattle.xm_day.specs.declared.faults.DayFault.{DayFault}
 use Rattle.xm_day.specs.declared.faults.DayFault.TheVariants.{Segment, Orders, Open, OutOfMemory, WriteFailed}
 use Rattle.xm_program.specs.Days.{RunEnds}
 use Rattle.xm_program.specs.Ends.{AsksHelp, HasRun, IsDone}
-use Rattle.xm_program.specs.Requests.{AnswersWords, IsTold, is_mistake}
+use Rattle.xm_program.specs.Requests.{AnswersWords, IsTold}
 use Rattle.xm_program.specs.declared.requests.Failure.{Failure}
 use Rattle.xm_program.specs.declared.requests.Failure.TheVariants.{Day, Words}
 use Rattle.xm_program.specs.declared.requests.Request.TheVariants.{Help}
@@ -35,7 +35,7 @@ module _ (faults : Kinds) (paths : Option (Text × Text)) (files : Text × Text)
   fault-done (Segment of_file) none named run kept = (has-run (Err (Segment of_file)) none named run, kept (λ e. absurd (cc)))
   fault-done (Orders of_file) none named run kept = (has-run (Err (Orders of_file)) none named run, kept (λ e. absurd (cc)))
   fault-done (Open opening) none named run kept = (has-run (Err (Open opening)) none named run, kept (λ e. absurd (cc)))
-  fault-done OutOfMemory none named run kept = kept (λ e. absurd (cc))
+  fault-done (OutOfMemory _) none named run kept = kept (λ e. absurd (cc))
   fault-done WriteFailed none named run kept = inl (has-run (Err WriteFailed) none named run)
 
 -- a text that was written, or a part of it

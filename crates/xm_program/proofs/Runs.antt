@@ -9,7 +9,7 @@ use Rattle.clap.specs.declared.error.kind.ErrorKind.TheVariants as kind
 use Rattle.clap.proofs.OnLiterals.{clap_on_literals}
 use Rattle.xm_day.specs.declared.faults.DayFault.TheVariants as day
 use Rattle.xm_program.specs.declared.requests.Failure.TheVariants.{Day}
-use Rattle.xm_program.specs.Requests.{AnswersWords, AsksRun, IsOfWords, answer_at, answer_of, day_app, is_plain, paths_of}
+use Rattle.xm_program.specs.Requests.{AnswersWords, AsksRun, IsOfWords, answer_at, answer_of, day_app, is_plain_word, paths_of}
 
 false_of : (b : Bool) → not b ≡ true → b ≡ false
 false_of true h = absurd (cc)
@@ -27,7 +27,7 @@ right (Some p) = p.1
 pub some_pair : (o : Option (Text × Text)) (a b x y : Text) → o ≡ Some (a, b) → o ≡ Some (x, y) → (a ≡ x) × (b ≡ y)
 some_pair o a b x y e f = (sym (ap left e) ∙ ap left f, sym (ap right e) ∙ ap right f)
 
-pub answer-memory : (error : Error) → kind_of error ≡ kind.OutOfMemory → answer_of error ≡ Err (Day day.OutOfMemory)
+pub answer-memory : (error : Error) → kind_of error ≡ kind.OutOfMemory → answer_of error ≡ Err (Day (day.OutOfMemory tt))
 answer-memory error e = rw e refl
 
 -- words that are a run are taken, and name these two files
@@ -35,11 +35,11 @@ pub record IsTaken (words : List Text) (segment orders : Text) : Type 0 where
   pub taken : takes day_app words ≡ true
   pub paths : paths_of words ≡ Some (segment, orders)
 
-no_hyphen : (word : Text) → is_plain word ≡ true → strip_byte 45 word ≡ None
+no_hyphen : (word : Text) → is_plain_word word ≡ true → strip_byte 45 word ≡ None
 no_hyphen [] h = refl
 no_hyphen (x ∷ word) h = rw (false_of (x == 45) h) refl
 
-no_hyphens : (word : Text) → is_plain word ≡ true → bytes_eq word (45 ∷ 45 ∷ []) ≡ false
+no_hyphens : (word : Text) → is_plain_word word ≡ true → bytes_eq word (45 ∷ 45 ∷ []) ≡ false
 no_hyphens [] h = refl
 no_hyphens (x ∷ word) h = rw (false_of (x == 45) h) refl
 

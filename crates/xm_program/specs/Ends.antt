@@ -4,7 +4,6 @@ use Rattle.std.specs.Io.KnownBytes.{Appends}
 use Rattle.clap.specs.Values.{kind_of}
 use Rattle.clap.specs.Words.{IsAmong, Kinds, Text}
 use Rattle.clap.specs.declared.error.kind.ErrorKind.{ErrorKind}
-use Rattle.clap.specs.declared.error.kind.ErrorKind.TheVariants as kind
 use Rattle.xm_day.specs.declared.faults.DayFault.{DayFault}
 use Rattle.xm_day.specs.declared.faults.DayFault.TheVariants.{OutOfMemory, WriteFailed}
 use Rattle.xm_program.specs.Days.{RunEnds}
@@ -32,7 +31,7 @@ pub record AsksHelp (faults : Kinds) : Type 0 where
 -- else; after a mistake, and after a fault, nothing was written, but where writing failed
 abbrev pub IsDone : Kinds → Option (Text × Text) → Option (List ℕ) → Option (List ℕ) → Result (Unit {0}) Failure → Type 0
 IsDone faults paths old new (Ok done) = HasRun faults paths old new (Ok done) ⊎ AsksHelp faults
-IsDone faults paths old new (Err (Day OutOfMemory)) = new ≡ old
+IsDone faults paths old new (Err (Day (OutOfMemory _))) = new ≡ old
 IsDone faults paths old new (Err (Day WriteFailed)) = HasRun faults paths old new (Err WriteFailed) ⊎ AsksHelp faults
 IsDone faults paths old new (Err (Day fault)) = HasRun faults paths old new (Err fault) × (new ≡ old)
 IsDone faults paths old new (Err (Words error)) = IsOfWords faults paths error × (is_mistake (kind_of error) ≡ true) × (new ≡ old)

@@ -21,14 +21,14 @@ cause_name file.DuplicateName = codes "DuplicateName"
 cause_name file.BadHeader = codes "BadHeader"
 cause_name file.BadField = codes "BadField"
 cause_name file.TooManyRows = codes "TooManyRows"
-cause_name file.OutOfMemory = codes "OutOfMemory"
+cause_name (file.OutOfMemory _) = codes "OutOfMemory"
 
 -- why a segment is not opened, by its name
 abbrev pub open_name : OpenFault → List ℕ
 open_name opening.NoSecurity = codes "NoSecurity"
 open_name opening.TooMany = codes "TooMany"
 open_name opening.BadWidths = codes "BadWidths"
-open_name opening.OutOfMemory = codes "OutOfMemory"
+open_name (opening.OutOfMemory _) = codes "OutOfMemory"
 
 -- a fault of a file: the file, the line and the cause
 abbrev pub file_line : List ℕ → FileFault → List ℕ
@@ -39,7 +39,7 @@ abbrev pub fault_text : DayFault → List ℕ
 fault_text (day.Segment fault) = file_line (codes "segment") fault
 fault_text (day.Orders fault) = file_line (codes "orders") fault
 fault_text (day.Open fault) = codes "open: " ++ open_name fault
-fault_text day.OutOfMemory = codes "out of memory"
+fault_text (day.OutOfMemory _) = codes "out of memory"
 fault_text day.WriteFailed = codes "write failed"
 
 -- the line of a fault, with its line feed
@@ -48,11 +48,11 @@ fault_line fault = codes "xetra-day: " ++ fault_text fault ++ codes "\n"
 
 -- want of memory is told in one way, wherever it was met
 abbrev pub told_for : DayFault → FileCause → DayFault
-told_for fault file.OutOfMemory = day.OutOfMemory
+told_for fault (file.OutOfMemory _) = day.OutOfMemory tt
 told_for fault _ = fault
 
 abbrev pub told : DayFault → DayFault
 told (day.Segment fault) = told_for (day.Segment fault) fault.cause
 told (day.Orders fault) = told_for (day.Orders fault) fault.cause
-told (day.Open opening.OutOfMemory) = day.OutOfMemory
+told (day.Open (opening.OutOfMemory _)) = day.OutOfMemory tt
 told fault = fault

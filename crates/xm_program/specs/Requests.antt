@@ -50,22 +50,22 @@ paths_of words = paths_in (subcommand_of day_app words)
 -- ---- the answer
 
 -- a word that is taken as it stands: it does not begin with a hyphen
-abbrev pub is_plain : Text → Bool
-is_plain [] = true
-is_plain (first ∷ rest) = not (first == 45)
+abbrev pub is_plain_word : Text → Bool
+is_plain_word [] = true
+is_plain_word (first ∷ rest) = not (first == 45)
 
 -- the words are the program's name, `run` and two paths
 pub record AsksRun (words : List Text) (segment orders : Text) : Type 0 where
   pub program : Text
   pub words_are : words ≡ program ∷ codes "run" ∷ segment ∷ orders ∷ []
-  pub segment_is_plain : is_plain segment ≡ true
-  pub orders_is_plain : is_plain orders ≡ true
+  pub segment_is_plain : is_plain_word segment ≡ true
+  pub orders_is_plain : is_plain_word orders ≡ true
 
 -- the run of these two files, or want of memory
 abbrev pub IsRun : Result Request Failure → Text → Text → Type 0
 IsRun (Ok (Run s o)) segment orders = (s.now ≡ segment) × (o.now ≡ orders)
 IsRun (Ok (Help error)) segment orders = ⊥
-IsRun (Err failure) segment orders = failure ≡ Day day.OutOfMemory
+IsRun (Err failure) segment orders = failure ≡ Day (day.OutOfMemory tt)
 
 -- a run is one of the files that the words name
 abbrev pub IsOfPaths : Option (Text × Text) → Request → Type 0
@@ -75,7 +75,7 @@ IsOfPaths paths (Help error) = ⊤
 abbrev pub answer_at : Error → ErrorKind → Result Request Failure
 answer_at error kind.DisplayHelp = Ok (Help error)
 answer_at error kind.DisplayVersion = Ok (Help error)
-answer_at error kind.OutOfMemory = Err (Day day.OutOfMemory)
+answer_at error kind.OutOfMemory = Err (Day (day.OutOfMemory tt))
 answer_at error _ = Err (Words error)
 
 -- what is answered where no run was asked for: a help text, want of memory, or a mistake in the words
@@ -105,17 +105,17 @@ IsOfWords faults paths error = (kind_of error ≡ kind.OutOfMemory) ⊎ (IsAmong
 abbrev pub AnswersWords : Kinds → Option (Text × Text) → Result Request Failure → Type 0
 AnswersWords faults paths (Ok (Run segment orders)) = faults ≡ []
 AnswersWords faults paths (Ok (Help error)) = (is_mistake (kind_of error) ≡ false) × IsAmong (kind_of error) faults
-AnswersWords faults paths (Err (Day fault)) = fault ≡ day.OutOfMemory
+AnswersWords faults paths (Err (Day fault)) = fault ≡ day.OutOfMemory tt
 AnswersWords faults paths (Err (Words error)) = IsOfWords faults paths error
 
 -- words that are not text are a mistake, or memory is wanting
 abbrev pub RefusesBytes : Failure → Type 0
-RefusesBytes (Day fault) = fault ≡ day.OutOfMemory
+RefusesBytes (Day fault) = fault ≡ day.OutOfMemory tt
 RefusesBytes (Words error) = kind_of error ≡ kind.ValueValidation
 
 -- why words were not read: one is not text, where that was the cause, or memory is wanting
 abbrev pub IsUnread : ReadKind → Failure → Type 0
-IsUnread cause (Day fault) = fault ≡ day.OutOfMemory
+IsUnread cause (Day fault) = fault ≡ day.OutOfMemory tt
 IsUnread cause (Words error) = (cause ≡ reading.InvalidData) × (kind_of error ≡ kind.ValueValidation)
 
 -- the status that the program ends with after a failure: 1 where the day has no statement, 2 where the words were mistaken

@@ -1,5 +1,5 @@
 //! The line that tells why a day has no statement.
-ghost use Rattle.std.specs.Prelude.{◌≡◌, ◌+◌, ◌≤◌, ◌++◌, length};
+ghost use Rattle.std.specs.Prelude.{◌≡◌, ◌+◌, ◌≤◌, ◌++◌, length, option_map, unwrap_or};
 ghost use Rattle.xm_program.specs.FaultLines.{cause_name, fault_line, file_line, open_name, told};
 
 use arrayvec::ArrayVec;
@@ -7,6 +7,7 @@ use itoa::Buffer;
 use xm_day::DayFault;
 use xm_desk::OpenFault;
 use xm_files::{FileCause, FileFault};
+use xm_memory::OutOfMemory;
 
 /// The line by which the program tells of a fault. It fits 64 bytes, so that want of memory is told without any.
 pub fn fault_line(fault: DayFault) -> ArrayVec<u8, 64>
@@ -21,7 +22,7 @@ pub fn fault_line(fault: DayFault) -> ArrayVec<u8, 64>
             push_text(&mut line, "open: ");
             push_text(&mut line, open_name(fault));
         }
-        DayFault::OutOfMemory => push_text(&mut line, "out of memory"),
+        DayFault::OutOfMemory(_) => push_text(&mut line, "out of memory"),
         DayFault::WriteFailed => push_text(&mut line, "write failed"),
     }
     line.push(b'\n');
@@ -54,13 +55,23 @@ fn push_text(line: &mut ArrayVec<u8, 64>, text: &str)
 pub fn told(fault: DayFault) -> DayFault
     ensures { result ≡ told fault }
 {
+    match want_of_memory(&fault) {
+        Some(error) => DayFault::OutOfMemory(error),
+        None => fault,
+    }
+}
+
+/// The want of memory that a fault of a file or of the opening is.
+fn want_of_memory(fault: &DayFault) -> Option<OutOfMemory>
+    ensures { told fault.now ≡ unwrap_or (option_map (λ error. DayFault.OutOfMemory error) result) fault.now }
+{
     match fault {
         DayFault::Segment(of_file) | DayFault::Orders(of_file) => match of_file.cause {
-            FileCause::OutOfMemory => DayFault::OutOfMemory,
-            _ => fault,
+            FileCause::OutOfMemory(error) => Some(error),
+            _ => None,
         },
-        DayFault::Open(OpenFault::OutOfMemory) => DayFault::OutOfMemory,
-        _ => fault,
+        DayFault::Open(OpenFault::OutOfMemory(error)) => Some(*error),
+        _ => None,
     }
 }
 
@@ -79,7 +90,7 @@ fn cause_name(cause: FileCause) -> &'static str
         FileCause::BadHeader => "BadHeader",
         FileCause::BadField => "BadField",
         FileCause::TooManyRows => "TooManyRows",
-        FileCause::OutOfMemory => "OutOfMemory",
+        FileCause::OutOfMemory(_) => "OutOfMemory",
     }
 }
 
@@ -91,6 +102,6 @@ fn open_name(fault: OpenFault) -> &'static str
         OpenFault::NoSecurity => "NoSecurity",
         OpenFault::TooMany => "TooMany",
         OpenFault::BadWidths => "BadWidths",
-        OpenFault::OutOfMemory => "OutOfMemory",
+        OpenFault::OutOfMemory(_) => "OutOfMemory",
     }
 }

@@ -4,7 +4,7 @@ ghost use Rattle.std.specs.Process.{exit_status};
 ghost use Rattle.clap.specs.Words.{fault_of};
 ghost use Rattle.xm_program.specs.Days.{RunEnds};
 ghost use Rattle.xm_program.specs.Ends.{CallEnds, IsDone, IsToldAs};
-ghost use Rattle.xm_program.specs.Requests.{IsUnread, RefusesBytes, day_app, end_status, paths_of};
+ghost use Rattle.xm_program.specs.Requests.{RefusesBytes, day_app, end_status, paths_of};
 
 use crate::complaints::Complaints;
 use crate::fault_lines::{fault_line, told};
@@ -18,6 +18,7 @@ use std::random::RandomSource;
 use std::rt::{Env, Files};
 use std::{env, fs, io};
 use xm_day::DayFault;
+use xm_memory::OutOfMemory;
 use xm_names::Seed;
 use xm_ticks::write_whole;
 
@@ -90,21 +91,8 @@ fn read_command_line<R: Env + AllocGlobal>(rt: &R) -> Result<Vec<String>, Failur
     ensures { IfErr result RefusesBytes }
 {
     match env::args(rt) {
-        Ok(words) => Ok(words.collect(rt.alloc())?),
-        Err(error) => Err(unread_words(rt.alloc(), error.kind())),
-    }
-}
-
-/// Why the words of the command line weren't read: one isn't text, or memory is wanting.
-fn unread_words(alloc: Global, cause: io::ErrorKind) -> Failure
-    ensures { IsUnread cause result }
-{
-    if cause != io::ErrorKind::InvalidData {
-        return Failure::Day(DayFault::OutOfMemory);
-    }
-    match requests::bytes_error(alloc) {
-        Ok(error) => Failure::Words(error),
-        Err(error) => Failure::from(error),
+        Ok(words) => Ok(words.collect(rt.alloc()).map_err(OutOfMemory::from)?),
+        Err(error) => Err(requests::unread_words(rt.alloc(), error.kind())),
     }
 }
 

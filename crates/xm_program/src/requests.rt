@@ -3,12 +3,14 @@ ghost use Rattle.std.specs.Prelude.{◌≡◌, List, [], ℕ, IfOk, IfErr, IsSom
 ghost use Rattle.clap.specs.Words.{app_of, fault_of, kind_of, subcommand_rows_of, takes};
 ghost use Rattle.clap.specs.declared.builder.command.Command.TheViews.{out-Command as fields_of};
 ghost use Rattle.clap.specs.declared.error.kind.ErrorKind.TheVariants as kind;
-ghost use Rattle.xm_program.specs.Requests.{AnswersWords, AsksRun, IsOfPaths, IsOfWords, IsRun, IsTold, answer_of, day_app, failure_status, paths_in, paths_of, run_app};
+ghost use Rattle.xm_program.specs.Requests.{AnswersWords, AsksRun, IsOfPaths, IsOfWords, IsRun, IsTold, IsUnread, answer_of, day_app, failure_status, paths_in, paths_of, run_app};
 
 use clap::error::ErrorKind;
 use clap::{Arg, ArgAction, ArgMatches, Command, Error};
-use std::alloc::{AllocError, Global};
+use std::alloc::Global;
+use std::io;
 use xm_day::DayFault;
+use xm_memory::OutOfMemory;
 
 /// What `--version` prints behind the name; the script `xetra-day` reads it here.
 const VERSION: &str = "0.1.0";
@@ -87,14 +89,14 @@ impl Failure {
     }
 }
 
-impl From<AllocError> for Failure {
+impl From<OutOfMemory> for Failure {
     ghost use Rattle.xm_program.specs.declared.requests.Failure.TheVariants.{Day};
     ghost use Rattle.xm_day.specs.declared.faults.DayFault.TheVariants.{OutOfMemory};
 
-    ghost from_gives = { λ _ failure. failure ≡ Day OutOfMemory };
+    ghost from_gives = { λ _ failure. failure ≡ Day (OutOfMemory tt) };
 
-    fn from(_error: AllocError) -> Failure {
-        Failure::Day(DayFault::OutOfMemory)
+    fn from(error: OutOfMemory) -> Failure {
+        Failure::Day(DayFault::OutOfMemory(error))
     }
 }
 
@@ -118,7 +120,7 @@ pub fn read_words<'a>(alloc: Global, words: &'a [String]) -> Result<Request<'a>,
     ensures run { (segment orders : List ℕ) → AsksRun (map string_bytes words.entry.now) segment orders
         → IsRun result segment orders }
 {
-    match read_paths(alloc, words) {
+    match read_paths(command_line(alloc)?, words) {
         Ok((segment, orders)) => Ok(Request::Run { segment, orders }),
         Err(error) => answer(error),
     }
@@ -130,20 +132,23 @@ fn answer<'a>(error: Error) -> Result<Request<'a>, Failure>
 {
     match error.kind() {
         ErrorKind::DisplayHelp | ErrorKind::DisplayVersion => Ok(Request::Help(error)),
-        ErrorKind::OutOfMemory => Err(Failure::Day(DayFault::OutOfMemory)),
+        ErrorKind::OutOfMemory => Err(Failure::from(OutOfMemory::told_by(&error))),
         _ => Err(Failure::Words(error)),
     }
 }
 
 /// The two paths of a run.
-fn read_paths<'a>(alloc: Global, words: &'a [String]) -> Result<(&'a str, &'a str), Error>
+fn read_paths<'a>(
+    mut command: Command<'a>,
+    words: &'a [String],
+) -> Result<(&'a str, &'a str), Error>
+    requires { app_of command ≡ day_app }
     ensures ok { IfOk result (λ p. paths_of (map string_bytes words.entry.now) ≡ Some (p.0.now, p.1.now)) }
     ensures err { IfErr result (λ e. takes day_app (map string_bytes words.entry.now) ≡ true
         → IsSome (paths_of (map string_bytes words.entry.now)) → kind_of e ≡ kind.OutOfMemory) }
     ensures faultless { IfOk result (λ _. fault_of day_app (map string_bytes words.entry.now) ≡ []) }
     ensures fault { IfErr result (IsOfWords (fault_of day_app (map string_bytes words.entry.now)) (paths_of (map string_bytes words.entry.now))) }
 {
-    let mut command = command_line(alloc)?;
     let matches = command.try_get_matches_from_mut(words)?;
     match paths_in(&matches) {
         Some(paths) => Ok(paths),
@@ -164,19 +169,33 @@ fn paths_in<'a>(matches: &ArgMatches<'a>) -> Option<(&'a str, &'a str)>
     Some((segment, orders))
 }
 
+/// Why the words of the command line weren't read: one isn't text, or memory is wanting.
+pub(crate) fn unread_words(alloc: Global, cause: io::ErrorKind) -> Failure
+    ensures { IsUnread cause result }
+{
+    if cause != io::ErrorKind::InvalidData {
+        return Failure::from(OutOfMemory::told_by(&cause));
+    }
+    match bytes_error(alloc) {
+        Ok(error) => Failure::Words(error),
+        Err(error) => Failure::from(error),
+    }
+}
+
 /// The mistake of words that are not text.
-pub fn bytes_error(alloc: Global) -> Result<Error, AllocError>
+fn bytes_error(alloc: Global) -> Result<Error, OutOfMemory>
     ensures { IfOk result (λ error. kind_of error ≡ kind.ValueValidation) }
 {
     let message = "a word of the command line is not UTF-8 text";
-    command_line(alloc)?.error(ErrorKind::ValueValidation, message)
+    let mut command = command_line(alloc)?;
+    Ok(command.error(ErrorKind::ValueValidation, message)?)
 }
 
 /// The command line of the program.
-fn command_line<'a>(alloc: Global) -> Result<Command<'a>, AllocError>
+fn command_line<'a>(alloc: Global) -> Result<Command<'a>, OutOfMemory>
     ensures { IfOk result (λ command. app_of command ≡ day_app) }
 {
-    Command::new(alloc, "xetra-day")
+    let command = Command::new(alloc, "xetra-day")
         .bin_name("xetra-day")?
         .version(VERSION)
         .about("Replays a trading day of a segment of securities and writes its statement")
@@ -184,11 +203,12 @@ fn command_line<'a>(alloc: Global) -> Result<Command<'a>, AllocError>
         .after_help(STATUS_HELP)
         .subcommand_required(true)
         .arg_required_else_help(true)
-        .subcommand(run_command(alloc)?)
+        .subcommand(run_command(alloc)?)?;
+    Ok(command)
 }
 
 /// The part of the command line that runs a day.
-fn run_command<'a>(alloc: Global) -> Result<Command<'a>, AllocError>
+fn run_command<'a>(alloc: Global) -> Result<Command<'a>, OutOfMemory>
     ensures app { IfOk result (λ command. app_of command ≡ run_app) }
     ensures local { IfOk result (λ command. (fields_of command).has_globals ≡ false) }
 {
@@ -200,10 +220,11 @@ fn run_command<'a>(alloc: Global) -> Result<Command<'a>, AllocError>
         .required(true)
         .action(ArgAction::Set)
         .help("The order file (CSV): a header, then one command a row, in the order of the day");
-    Command::new(alloc, RUN)
+    let command = Command::new(alloc, RUN)
         .about("Runs the day of two files and writes its statement to standard output")
         .long_about(RUN_HELP)
         .after_help(STATUS_HELP)
         .arg(segment)?
-        .arg(orders)
+        .arg(orders)?;
+    Ok(command)
 }

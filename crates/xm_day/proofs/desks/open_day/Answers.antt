@@ -1,7 +1,7 @@
 use Rattle.std.proofs.Common.{refl, length, ap, ◌∙◌}
 use Rattle.std.proofs.lemmas.List.{length-map}
 use Rattle.xm_day.proofs.Days.{day-opened}
-use Rattle.xm_day.specs.Day.{journal_of}
+use Rattle.xm_segment.specs.Opening.{journal_of}
 use Rattle.xm_day.proofs.desks.open_day.Goals as goal
 
 pub returns : goal.returns

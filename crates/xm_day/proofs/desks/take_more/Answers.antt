@@ -1,9 +1,10 @@
-use Rattle.std.proofs.Common.{List, length, ap, sym, subst, ◌∙◌, arith}
+use Rattle.std.proofs.Common.{List, ◌++◌, length, ap, sym, subst, ◌∙◌, arith}
 use Rattle.std.proofs.lemmas.List.{length-append}
 use Rattle.xm_rules.specs.Step.{Journal}
-use Rattle.xm_day.proofs.Days.{after_rows-append, lent_back}
+use Rattle.xm_day.proofs.Days.{after_rows-append, lacks-later, lent_back}
+use Rattle.xm_day.proofs.Endings.{if_memory}
 use Rattle.xm_day.specs.Answers.{HasTaken}
-use Rattle.xm_day.specs.Day.{Day, after_rows, day_of, opening_day}
+use Rattle.xm_day.specs.Day.{Day, LacksMemoryAt, after_rows, day_of, opening_day}
 use Rattle.xm_day.proofs.desks.take_more.Goals as goal
 
 pub returns : goal.returns
@@ -27,3 +28,13 @@ returns c = λ config taken has.
           ∙ sym (after_rows-append (opening_day config) taken rows),
       omega (arith, both, counted, count),
     )
+
+pub returns-in_err-report : goal.returns-in_err-report
+returns-in_err-report c = λ config taken has.
+    let old = c.in_ok-desks.field-0 in
+    let rows = c.args.rows.now in
+    let before = subst (HasTaken config taken) c.in_ok-desks.was has in
+    let day = ap (λ (js : List Journal). day_of js old.report.accepted old.report.refused) c.as_mut_slice.ensures.value ∙ before.2 in
+    let Lacks : Day → Type 0 = λ d. LacksMemoryAt d rows in
+    let lacks = lacks-later (opening_day config) taken rows (subst Lacks day c.in_err-report.ensures.memory) in
+    if_memory config (taken ++ rows) c.from_residual-in_err-report.result c.from_residual-in_err-report.ensures.1 before.0 lacks

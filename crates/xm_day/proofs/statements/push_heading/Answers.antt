@@ -13,7 +13,7 @@ returns g c =
     let name = name_at c.args.names.now.securities c.args.index in
     let line = security_line name s.phase in
     c.in_ok-push_references.ensures
-    ∙ ap (λ (t : List ℕ). t ++ references_line c.settings.result.tick c.ref1.result c.ref2.result)
+    ∙ ap (λ (t : List ℕ). t ++ references_line c.settings.result.now.tick c.ref1.result c.ref2.result)
     (c.in_ok-push_security_line.ensures ∙ ap (λ (n : List ℕ). text ++ security_line n c.phase.result) c.security_name.ensures ∙ ap (λ (p : Phase). text ++ security_line name p) c.phase.ensures)
     ∙ ap (λ (settings : DeskSettings). (text ++ line) ++ references_line settings.tick c.ref1.result c.ref2.result) c.settings.ensures.kept
     ∙ ap (λ (p : ℕ). (text ++ line) ++ references_line s.settings.tick p c.ref2.result) c.ref1.ensures

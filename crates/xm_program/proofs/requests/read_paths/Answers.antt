@@ -7,16 +7,16 @@ use Rattle.xm_program.proofs.requests.read_paths.Goals as goal
 
 pub returns-in_err-matches-clause-err : goal.returns-in_err-matches-clause-err
 returns-in_err-matches-clause-err c =
-    let app : app_of c.in_ok-command.command ≡ day_app = c.in_ok-command.ensures in
+    let app : app_of c.args.command ≡ day_app = c.requires in
     let passes : takes day_app (map string_bytes c.args.words.now) ≡ true → kind_of c.in_err-matches.field-0.0 ≡ kind.OutOfMemory =
     λ t. c.in_err-matches.ensures.passes (ap (λ (a : App). takes a (map string_bytes c.args.words.now)) app ∙ t) in
-    err_from _ c.in_err-matches.field-0.0 _ c.from_residual-in_err-matches.ensures.1 (λ t named. passes t)
+    err_from _ c.in_err-matches.field-0.0 _ c.from_residual.ensures.1 (λ t named. passes t)
 
 pub returns-in_err-matches-clause-fault : goal.returns-in_err-matches-clause-fault
 returns-in_err-matches-clause-fault c =
     let words = map string_bytes c.args.words.now in
-    let met = fault-met _ words c.in_err-matches.field-0.0 c.in_ok-command.ensures c.in_err-matches.ensures.kinds in
-    err_from _ c.in_err-matches.field-0.0 _ c.from_residual-in_err-matches.ensures.1 (of_words (fault_of day_app words) (paths_of words) c.in_err-matches.field-0.0 met)
+    let met = fault-met _ words c.in_err-matches.field-0.0 c.requires c.in_err-matches.ensures.kinds in
+    err_from _ c.in_err-matches.field-0.0 _ c.from_residual.ensures.1 (of_words (fault_of day_app words) (paths_of words) c.in_err-matches.field-0.0 met)
 
 pub returns-in-Some-clause-faultless : goal.returns-in-Some-clause-faultless
-returns-in-Some-clause-faultless c = no_fault _ (map string_bytes c.args.words.now) c.in_ok-command.ensures c.in_ok-matches.ensures.kinds
+returns-in-Some-clause-faultless c = no_fault _ (map string_bytes c.args.words.now) c.requires c.in_ok-matches.ensures.kinds

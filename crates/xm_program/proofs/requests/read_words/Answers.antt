@@ -1,9 +1,16 @@
-use Rattle.std.proofs.Common.{◌≡◌, Some, refl, map, string_bytes}
+use Rattle.std.proofs.Common.{rules, ◌≡◌, Some, Err, refl, map, string_bytes}
 use Rattle.clap.specs.Words.{fault_of, kind_of}
 use Rattle.clap.specs.declared.error.kind.ErrorKind.TheVariants as kind
+use Rattle.xm_day.specs.declared.faults.DayFault.TheVariants.{OutOfMemory}
 use Rattle.xm_program.specs.Requests.{day_app, paths_of}
+use Rattle.xm_program.specs.declared.requests.Failure.TheVariants.{Day}
 use Rattle.xm_program.proofs.Runs.{answer-memory, answered, some_pair, taken}
 use Rattle.xm_program.proofs.requests.read_words.Goals as goal
+
+pub returns-in_err-command_line-clause-run : goal.returns-in_err-command_line-clause-run
+returns-in_err-command_line-clause-run c = λ segment orders asks.
+    let is : c.from_residual.result ≡ Err (Day (OutOfMemory tt)) = search rules in
+    rw is refl
 
 pub returns-in-Ok-clause-run : goal.returns-in-Ok-clause-run
 returns-in-Ok-clause-run c = λ segment orders asks.

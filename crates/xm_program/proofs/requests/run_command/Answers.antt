@@ -1,5 +1,4 @@
 use Rattle.std.proofs.Common.{rules, ap, ap₂, ◌≡◌, ◌∙◌, ◌||◌, Bool, false, codes}
-use Rattle.std.proofs.lemmas.Result.{IfOk-weaker}
 use Rattle.clap.specs.Words.{app_of, new_app, rule_of, with_rule}
 use Rattle.clap.specs.Simple.{app_of_fields}
 use Rattle.clap.specs.declared.builder.command.Command.TheViews.{out-Command as fields_of}
@@ -12,7 +11,7 @@ returns-clause-app c =
     let orders_is : rule_of c.help-orders.result ≡ path_rule (codes "ORDERS") = search rules in
     let start_is : app_of c.after_help.result ≡ new_app (codes "run") = ap app_of_fields c.after_help.ensures ∙ ap app_of_fields c.long_about.ensures ∙ ap app_of_fields c.about.ensures ∙ c.new-3.ensures.app in
     let first_is : app_of c.in_ok-arg.field-0 ≡ with_rule (new_app (codes "run")) (path_rule (codes "SEGMENT")) = c.in_ok-arg.ensures.shape (search rules) ∙ ap₂ with_rule start_is segment_is in
-    IfOk-weaker c.arg-2.result _ _ (λ r h. h.shape (search rules) ∙ ap₂ with_rule first_is orders_is) c.arg-2.ensures
+    c.in_ok-command.ensures.shape (search rules) ∙ ap₂ with_rule first_is orders_is
 
 pub returns-clause-local : goal.returns-clause-local
 returns-clause-local c =
@@ -20,4 +19,4 @@ returns-clause-local c =
     let segment_local : c.help-segment.result.global ≡ false = search rules in
     let orders_local : c.help-orders.result.global ≡ false = search rules in
     let first : (fields_of c.in_ok-arg.field-0).has_globals ≡ false = c.in_ok-arg.ensures.globals ∙ ap₂ (λ (x y : Bool). x || y) start segment_local in
-    IfOk-weaker c.arg-2.result _ _ (λ r h. h.globals ∙ ap₂ (λ (x y : Bool). x || y) first orders_local) c.arg-2.ensures
+    c.in_ok-command.ensures.globals ∙ ap₂ (λ (x y : Bool). x || y) first orders_local
