@@ -1,19 +1,23 @@
-//! The load of a book: orders that come, are looked for, change and go, for books of several shapes.
+//! The load of a book: orders that come, are looked for, change and go, for books of several shapes and sizes.
+ghost use Rattle.xm_book.specs.declared.places.TheConstants.{MAX_PLACES};
 ghost use Rattle.std.specs.Prelude.{◌≡◌, ◌+◌, ◌≤◌, ◌<◌, ◌^◌, IsTrue, false, length};
-ghost use Rattle.xm_book.specs.TimeList.{is_known};
 ghost use Rattle.xm_rules.specs.Commands.{is_in_range};
 
+use crate::lines::{now, tell_figure, tell_figures, tell_text, tell_time};
 use crate::loads::{LoadFault, mixed};
+use linked_list_allocator::LocalHeap;
 use std::alloc::Allocator;
 use std::marker::Model;
+use std::rt::Clock;
 use xm_book::{Book, Place};
+use xm_memory::OutOfMemory;
 use xm_names::Seed;
-use xm_rules::{Order, OrderKind, OutOfMemory, Phase, Restriction, Side, Validity};
+use xm_rules::{Order, OrderKind, Phase, Restriction, Side, Validity};
 use xm_ticks::Price;
 
 /// How the orders of a book lie.
-#[derive(Clone, Copy, Debug)]
-pub enum Shape {
+#[derive(Clone, Copy)]
+enum Shape {
     ManyLimits,
     /// References are multiples of 65,536, then the numbers one above them, and so on.
     ChosenReferences,
@@ -25,27 +29,22 @@ pub enum Shape {
     Reserved,
 }
 
-pub const SHAPES: [Shape; 6] = [
-    Shape::ManyLimits,
-    Shape::ChosenReferences,
-    Shape::TenLimits,
-    Shape::OneLimit,
-    Shape::Inactive,
-    Shape::Reserved,
+const SHAPES: [(Shape, &str); 6] = [
+    (Shape::ManyLimits, "10,000 limits"),
+    (Shape::ChosenReferences, "chosen references"),
+    (Shape::TenLimits, "10 limits"),
+    (Shape::OneLimit, "one limit"),
+    (Shape::Inactive, "behind inactive orders"),
+    (Shape::Reserved, "behind reserved places"),
 ];
 
-impl Shape {
-    pub fn name(self) -> &'static str {
-        match self {
-            Shape::ManyLimits => "10,000 limits",
-            Shape::ChosenReferences => "10,000 limits, chosen references",
-            Shape::TenLimits => "10 limits",
-            Shape::OneLimit => "one limit",
-            Shape::Inactive => "10,000 limits behind inactive orders",
-            Shape::Reserved => "10,000 limits behind reserved places",
-        }
-    }
+/// How many orders a book has.
+const MEASURED: [u32; 4] = [1_000, 10_000, 100_000, 400_000];
 
+/// The bytes that a book may take whose orders are weighed.
+const HEAP: usize = 1_000_000_000;
+
+impl Shape {
     /// The reference of the order of this place: another for each.
     fn reference(self, place: u32) -> u32 {
         match self {
@@ -89,9 +88,11 @@ fn buy(member: u32, reference: u32, limit: u32, restriction: Restriction) -> Ord
     }
 }
 
-/// What is done with each of the orders of a book in turn.
-#[derive(Clone, Copy, Debug)]
-pub enum Step {
+/// What is done for each of the orders of a book in turn.
+#[derive(Clone, Copy)]
+enum Step {
+    /// What lies in front of the orders comes in.
+    Prepare,
     Enter,
     Best,
     Reduce,
@@ -101,7 +102,8 @@ pub enum Step {
 }
 
 /// The steps of a load, which leaves no order. The second time, orders enter into memory that the book has kept.
-pub const STEPS: [Step; 7] = [
+const STEPS: [Step; 8] = [
+    Step::Prepare,
     Step::Enter,
     Step::Best,
     Step::Reduce,
@@ -111,21 +113,11 @@ pub const STEPS: [Step; 7] = [
     Step::CancelAll,
 ];
 
-impl Step {
-    pub fn name(self) -> &'static str {
-        match self {
-            Step::Enter => "enter",
-            Step::Best => "best",
-            Step::Reduce => "reduce",
-            Step::ChangeLimit => "change limit",
-            Step::Cancel => "cancel",
-            Step::CancelAll => "cancel all",
-        }
-    }
-}
+const HEAD: &str =
+    "book                            orders    prepare ns      enter ns       best ns     reduce ns     change ns     cancel ns   enter again cancel all ns         bytes";
 
 /// A book under load. A clause sees nothing of it, as of `Loaded`. What it checks is what a book asks of its calls.
-pub struct Shelf<A: Allocator + Copy> {
+pub struct LoadedBook<A: Allocator + Copy> {
     book: Book<A>,
     // At least as many as there were adds, and as there are reserved places.
     adds: u64,
@@ -133,9 +125,9 @@ pub struct Shelf<A: Allocator + Copy> {
 }
 
 // In a function of its own, so that whoever drops one proves one call.
-impl<A: Allocator + Copy> Drop for Shelf<A> {
+impl<A: Allocator + Copy> Drop for LoadedBook<A> {
     fn drop(self) {
-        let Shelf {
+        let LoadedBook {
             book: _book,
             adds: _adds,
             places: _places,
@@ -143,7 +135,7 @@ impl<A: Allocator + Copy> Drop for Shelf<A> {
     }
 }
 
-impl<A: Allocator + Copy> Model for Shelf<A> {
+impl<A: Allocator + Copy> Model for LoadedBook<A> {
     ghost use Rattle.std.specs.Prelude.{◌≤◌, length};
 
     ghost Value = { Unit };
@@ -156,33 +148,17 @@ impl<A: Allocator + Copy> Model for Shelf<A> {
     } };
 }
 
-impl<A: Allocator + Copy> Shelf<A> {
-    pub fn new(alloc: A) -> Shelf<A> {
-        Shelf {
+impl<A: Allocator + Copy> LoadedBook<A> {
+    fn new(alloc: A) -> LoadedBook<A> {
+        LoadedBook {
             book: Book::new(alloc, Seed::fixed()),
             adds: 0,
             places: 0,
         }
     }
 
-    /// Puts in what lies in front of the orders of a shape.
-    pub fn prepare(&mut self, shape: Shape, orders: u32) -> Result<(), LoadFault> {
-        for place in 0..orders {
-            let limit = mixed(place, 10_000).wrapping_add(20_001);
-            let done = match shape {
-                Shape::Inactive => self.enter(&buy(1, place, limit, Restriction::AuctionsOnly)),
-                Shape::Reserved => self.reserve(&buy(1, place, limit, Restriction::Free)),
-                _ => true,
-            };
-            if !done {
-                return Err(LoadFault);
-            }
-        }
-        Ok(())
-    }
-
-    /// Does a step with each of so many orders.
-    pub fn take(&mut self, shape: Shape, step: Step, orders: u32) -> Result<(), LoadFault> {
+    /// Does a step for each of so many orders.
+    fn take(&mut self, shape: Shape, step: Step, orders: u32) -> Result<(), LoadFault> {
         for place in 0..orders {
             if !self.take_one(shape, step, place, orders) {
                 return Err(LoadFault);
@@ -191,13 +167,14 @@ impl<A: Allocator + Copy> Shelf<A> {
         Ok(())
     }
 
-    /// Does a step with the order of this place, and answers whether it could. All are cancelled at the first place.
+    /// Does a step for the order of this place, and answers whether it could. All are cancelled at the first place.
     fn take_one(&mut self, shape: Shape, step: Step, place: u32, orders: u32) -> bool {
         match step {
-            Step::Enter => self.enter(&shape.order(place, 0)),
+            Step::Prepare => self.prepare(shape, place),
+            Step::Enter => self.put(&shape.order(place, 0)),
             Step::Best => self.book.best(Side::Buy, Phase::Continuous).is_some(),
             Step::Reduce => self.reduce(shape.reference(place)),
-            Step::ChangeLimit => self.replace(&shape.order(place, 1)),
+            Step::ChangeLimit => self.put(&shape.order(place, 1)),
             Step::Cancel => {
                 let reference = shape.reference(mixed(place, orders));
                 self.book.remove(0, reference).is_some()
@@ -206,20 +183,18 @@ impl<A: Allocator + Copy> Shelf<A> {
         }
     }
 
-    /// Puts in an order, where no order has its name.
-    fn enter(&mut self, order: &Order) -> bool
-        requires { IsTrue (is_in_range order.now.rest) }
-    {
-        let known = self.book.find(order.member, order.reference).is_some();
-        if known || is_full(&self.book, self.adds, self.places) {
-            return false;
+    /// Puts in what lies in front of the orders of a shape.
+    fn prepare(&mut self, shape: Shape, place: u32) -> bool {
+        let limit = mixed(place, 10_000).wrapping_add(20_001);
+        match shape {
+            Shape::Inactive => self.put(&buy(1, place, limit, Restriction::AuctionsOnly)),
+            Shape::Reserved => self.reserve(&buy(1, place, limit, Restriction::Free)),
+            _ => true,
         }
-        self.adds += 1;
-        join(&mut self.book, order).is_ok()
     }
 
-    /// Puts in an order in place of the one of its name.
-    fn replace(&mut self, order: &Order) -> bool
+    /// Puts in an order, in place of the one of its name if there is one.
+    fn put(&mut self, order: &Order) -> bool
         requires { IsTrue (is_in_range order.now.rest) }
     {
         if is_full(&self.book, self.adds, self.places) {
@@ -261,24 +236,10 @@ fn is_full<A: Allocator + Copy>(book: &Book<A>, adds: u64, places: usize) -> boo
     adds >= 1_000_000_000 || places >= 900_000 || book.len() >= 900_000
 }
 
-/// An order joins whose name no order has.
-fn join<A: Allocator + Copy>(book: &mut Book<A>, order: &Order) -> Result<(), OutOfMemory>
-    requires name { is_known order.now.member order.now.reference book.old ≡ false }
-    requires rest { IsTrue (is_in_range order.now.rest) }
-    requires room { length book.old.orders + length book.old.reserved < 2000000 }
-    requires adds { book.old.adds < 2 ^ 63 }
-    ensures adds { book.new.adds ≤ book.old.adds + 1 }
-    ensures places { length book.new.reserved ≡ length book.old.reserved }
-{
-    book.reserve_for(&Place::of(order))?;
-    book.add(*order);
-    Ok(())
-}
-
-/// An order takes the place of the one of its name.
+/// An order comes in, in place of the one of its name if there is one.
 fn exchange<A: Allocator + Copy>(book: &mut Book<A>, order: &Order) -> Result<(), OutOfMemory>
     requires rest { IsTrue (is_in_range order.now.rest) }
-    requires room { length book.old.orders + length book.old.reserved < 2000000 }
+    requires room { length book.old.orders + length book.old.reserved < MAX_PLACES }
     requires adds { book.old.adds < 2 ^ 63 }
     ensures adds { book.new.adds ≤ book.old.adds + 1 }
     ensures places { length book.new.reserved ≡ length book.old.reserved }
@@ -287,4 +248,55 @@ fn exchange<A: Allocator + Copy>(book: &mut Book<A>, order: &Order) -> Result<()
     book.remove(order.member, order.reference);
     book.add(*order);
     Ok(())
+}
+
+/// Prints the nanoseconds that each step of a load took for an order, and the bytes that an order took.
+pub fn measure<R: AllocGlobal + Print + Clock>(rt: &R) -> Result<(), LoadFault> {
+    tell_text(rt, HEAD)?;
+    for (shape, name) in &SHAPES {
+        measure_shape(rt, *shape, name)?;
+    }
+    Ok(())
+}
+
+fn measure_shape<R: AllocGlobal + Print + Clock>(
+    rt: &R,
+    shape: Shape,
+    name: &str,
+) -> Result<(), LoadFault> {
+    for orders in &MEASURED {
+        tell_figures(rt, name, &[u64::from(*orders)])?;
+        tell_steps(rt, shape, *orders)?;
+        tell_figure(rt, weigh(rt, shape, *orders)?)?;
+        tell_text(rt, "")?;
+    }
+    Ok(())
+}
+
+fn tell_steps<R: AllocGlobal + Print + Clock>(
+    rt: &R,
+    shape: Shape,
+    orders: u32,
+) -> Result<(), LoadFault> {
+    let mut loaded = LoadedBook::new(rt.alloc());
+    for step in &STEPS {
+        let start = now(rt)?;
+        loaded.take(shape, *step, orders)?;
+        tell_time(rt, &start, orders)?;
+    }
+    Ok(())
+}
+
+/// The bytes that an order takes in a book.
+fn weigh<R: AllocGlobal>(rt: &R, shape: Shape, orders: u32) -> Result<u64, LoadFault> {
+    match LocalHeap::new(rt.alloc(), HEAP) {
+        Ok(heap) => bytes_of(&heap, shape, orders),
+        Err(_) => Err(LoadFault),
+    }
+}
+
+fn bytes_of(heap: &LocalHeap, shape: Shape, orders: u32) -> Result<u64, LoadFault> {
+    let mut loaded = LoadedBook::new(heap);
+    loaded.take(shape, Step::Enter, orders)?;
+    Ok(heap.used() as u64 / u64::from(orders.max(1)))
 }

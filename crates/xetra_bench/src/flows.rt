@@ -12,9 +12,6 @@ use xm_rules::{
 /// How many members enter orders.
 const MEMBERS: u32 = 100;
 
-/// The last price of the day before, to which the market comes back.
-const REFERENCE: u32 = 10_000;
-
 /// Where the generator begins.
 const SEED: u64 = 20260107;
 
@@ -29,8 +26,23 @@ const YOUNG: usize = 64;
 /// After how many commands the book is counted.
 const COUNT_EVERY: usize = 1_000;
 
+/// The units of a lot.
+const LOT: u32 = 10;
+
 /// The greatest distance of a limit that is drawn, in ticks.
 const FARTHEST: u32 = 1_000;
+
+/// What the desk of a day is opened with.
+pub const OPENING: Opening = Opening {
+    members: MEMBERS,
+    reference: 10_000,
+    widths: Widths {
+        dynamic: 50,
+        statics: 150,
+        wide: 100,
+    },
+    limit: 1_000_000,
+};
 
 /// How orders come.
 #[derive(Clone, Copy)]
@@ -39,69 +51,27 @@ pub enum Shape {
     Passive,
     /// Many orders cross the spread.
     Crossing,
-    /// Orders that cross trade with four others on average, most with two to five.
-    Several,
-    /// Large orders go through many levels.
-    Large,
-    /// Immediate and fill-or-kill orders, of which half are killed.
-    Immediate,
-    /// Large orders that leave narrow ranges: interruptions, and their calls.
-    Interrupted,
     /// Large calls, one after the other.
     Auction,
-    /// All but the large orders, in turn.
+    /// Orders of all conditions and restrictions, in continuous trading and in few calls.
     Mixed,
 }
 
-pub const SHAPES: [Shape; 8] = [
-    Shape::Passive,
-    Shape::Crossing,
-    Shape::Several,
-    Shape::Large,
-    Shape::Immediate,
-    Shape::Interrupted,
-    Shape::Auction,
-    Shape::Mixed,
+/// The shapes with their names.
+pub const SHAPES: [(Shape, &str); 4] = [
+    (Shape::Passive, "passive"),
+    (Shape::Crossing, "crossing"),
+    (Shape::Auction, "auction"),
+    (Shape::Mixed, "mixed"),
 ];
 
 impl Shape {
-    pub fn name(self) -> &'static str {
+    /// One in how many commands of continuous trading starts a call; in none of 0.
+    fn commands_between_calls(self) -> u32 {
         match self {
-            Shape::Passive => "passive",
-            Shape::Crossing => "crossing",
-            Shape::Several => "several",
-            Shape::Large => "large",
-            Shape::Immediate => "immediate",
-            Shape::Interrupted => "interrupted",
-            Shape::Auction => "auction",
-            Shape::Mixed => "mixed",
-        }
-    }
-
-    /// What the desk of a day is opened with.
-    pub fn opening(self) -> Opening {
-        let (dynamic, statics, wide) = match self {
-            Shape::Interrupted => (5, 15, 10),
-            _ => (50, 150, 100),
-        };
-        Opening {
-            members: MEMBERS,
-            reference: REFERENCE,
-            widths: Widths {
-                dynamic,
-                statics,
-                wide,
-            },
-            limit: 1_000_000,
-        }
-    }
-
-    /// One in how many commands of continuous trading starts a call.
-    fn commands_between_calls(self) -> Option<u32> {
-        match self {
-            Shape::Auction => Some(1),
-            Shape::Mixed => Some(30_000),
-            _ => None,
+            Shape::Auction => 1,
+            Shape::Mixed => 30_000,
+            _ => 0,
         }
     }
 
@@ -116,37 +86,24 @@ impl Shape {
 }
 
 /// What drawn commands did.
-#[derive(Clone, Copy)]
+#[derive(Drop)]
 pub struct Course {
-    pub accepted: u32,
-    pub trades: usize,
+    pub accepted: u64,
+    pub trades: u64,
     /// Orders that came in and traded.
-    pub trading: u32,
-    pub interruptions: u32,
+    pub trading: u64,
+    pub interruptions: u64,
     /// Immediate orders.
-    pub immediate: u32,
+    pub immediate: u64,
     /// Immediate orders of which units were deleted.
-    pub killed: u32,
+    pub killed: u64,
     /// Ends of the stages of calls.
-    pub uncrosses: u32,
+    pub uncrosses: u64,
     /// The largest number of live orders.
-    pub book: usize,
+    pub book: u64,
 }
 
 impl Course {
-    fn new() -> Course {
-        Course {
-            accepted: 0,
-            trades: 0,
-            trading: 0,
-            interruptions: 0,
-            immediate: 0,
-            killed: 0,
-            uncrosses: 0,
-            book: 0,
-        }
-    }
-
     fn add(&mut self, command: &Command, reply: &Reply) {
         self.accepted = self.accepted.wrapping_add(1);
         match command {
@@ -157,9 +114,9 @@ impl Course {
             } => {
                 let is_immediate = condition.is_immediate();
                 let is_killed = is_immediate && reply.quantity < u64::from(*quantity);
-                self.trading = self.trading.wrapping_add(u32::from(reply.trades > 0));
-                self.immediate = self.immediate.wrapping_add(u32::from(is_immediate));
-                self.killed = self.killed.wrapping_add(u32::from(is_killed));
+                self.trading = self.trading.wrapping_add(u64::from(reply.trades > 0));
+                self.immediate = self.immediate.wrapping_add(u64::from(is_immediate));
+                self.killed = self.killed.wrapping_add(u64::from(is_killed));
             }
             Command::Uncross => self.uncrosses = self.uncrosses.wrapping_add(1),
             _ => {}
@@ -169,7 +126,7 @@ impl Course {
 
 /// The commands of a day.
 pub struct Flow {
-    pub shape: Shape,
+    shape: Shape,
     draws: Draws,
     /// The member and reference of the orders that were entered and may live.
     names: Vec<(u32, u32)>,
@@ -177,6 +134,8 @@ pub struct Flow {
     entered: u32,
     pub commands: Vec<Command>,
     pub course: Course,
+    /// Whether memory sufficed for all.
+    pub is_whole: bool,
 }
 
 // In a function of its own, so that whoever drops one proves one call.
@@ -189,6 +148,7 @@ impl Drop for Flow {
             entered: _entered,
             commands: _commands,
             course: _course,
+            is_whole: _is_whole,
         } = self;
     }
 }
@@ -201,75 +161,113 @@ impl Flow {
             names: Vec::new(alloc),
             entered: 0,
             commands: Vec::new(alloc),
-            course: Course::new(),
+            course: Course {
+                accepted: 0,
+                trades: 0,
+                trading: 0,
+                interruptions: 0,
+                immediate: 0,
+                killed: 0,
+                uncrosses: 0,
+                book: 0,
+            },
+            is_whole: true,
         }
     }
 
     /// Draws about so many commands, from pre-trading to the end of the day.
-    pub fn day(&mut self, loaded: &mut Loaded, commands: u32) -> Result<(), LoadFault> {
+    pub fn day(&mut self, loaded: &mut Loaded, commands: u32) {
         for _command in 0..(commands / 20).min(400) {
-            self.passive(loaded)?;
+            let command = self.passive(loaded);
+            self.give(loaded, command);
         }
+        self.give(loaded, Command::StartOpening);
         // The opening call ends at once where there are no other calls.
-        self.give(loaded, Command::StartOpening)?;
-        match self.shape {
-            Shape::Auction => {}
-            _ => self.uncross(loaded)?,
+        if !matches!(self.shape, Shape::Auction) {
+            self.uncross(loaded);
         }
         for _command in 0..commands {
-            self.step(loaded)?;
+            let command = self.step(loaded);
+            self.give(loaded, command);
         }
-        self.uncross(loaded)?;
-        self.give(loaded, Command::StartClosing)?;
-        self.uncross(loaded)?;
-        self.give(loaded, Command::EndDay)?;
-        self.course.trades = loaded.trades().len();
-        Ok(())
+        self.uncross(loaded);
+        self.give(loaded, Command::StartClosing);
+        self.uncross(loaded);
+        self.give(loaded, Command::EndDay);
+        self.course.trades = loaded.trades().len() as u64;
     }
 
     /// Ends a call, stage after stage.
-    fn uncross(&mut self, loaded: &mut Loaded) -> Result<(), LoadFault> {
+    fn uncross(&mut self, loaded: &mut Loaded) {
         for _stage in 0..STAGES {
             if loaded.is_in_call() {
-                self.give(loaded, Command::Uncross)?;
+                self.give(loaded, Command::Uncross);
             }
         }
-        Ok(())
     }
 
-    fn step(&mut self, loaded: &mut Loaded) -> Result<(), LoadFault> {
+    /// Gives the desk a command, and keeps it: a refusal is part of the load.
+    fn give(&mut self, loaded: &mut Loaded, command: Command) {
+        let was_in_call = loaded.is_in_call();
+        if let Ok(reply) = loaded.apply(&command) {
+            self.course.add(&command, &reply);
+        }
+        let is_interrupted = !was_in_call && is_interruption(loaded.phase());
+        self.course.interruptions = self
+            .course
+            .interruptions
+            .wrapping_add(u64::from(is_interrupted));
+        if self.commands.len() % COUNT_EVERY == 0 {
+            self.count_orders(loaded);
+        }
+        self.keep(command);
+    }
+
+    fn count_orders(&mut self, loaded: &Loaded) {
+        match loaded.orders() {
+            Ok(orders) => self.course.book = self.course.book.max(orders.len() as u64),
+            Err(LoadFault) => self.is_whole = false,
+        }
+    }
+
+    /// Keeps a command, and the name that it enters.
+    fn keep(&mut self, command: Command) {
+        if let Command::Enter {
+            member,
+            reference,
+            ..
+        } = command
+        {
+            self.is_whole = self.names.push((member, reference)).is_ok() && self.is_whole;
+        }
+        self.is_whole = self.commands.push(command).is_ok() && self.is_whole;
+    }
+
+    fn step(&mut self, loaded: &Loaded) -> Command {
         match loaded.phase() {
-            Phase::Call(auction, stage) => {
-                if self.draws.is_one_in(self.shape.commands_in_call(stage)) {
-                    return self.give(loaded, Command::Uncross);
-                }
-                match auction {
-                    Auction::Interruption => self.passive(loaded),
-                    _ => self.call(loaded),
-                }
+            Phase::Call(_, stage) if self.draws.is_one_in(self.shape.commands_in_call(stage)) => {
+                Command::Uncross
             }
-            _ => match self.shape.commands_between_calls() {
-                Some(commands) if self.draws.is_one_in(commands) => {
-                    self.give(loaded, Command::StartIntraday)
-                }
-                _ => self.trade(loaded),
-            },
+            Phase::Call(Auction::Interruption, _) => self.passive(loaded),
+            Phase::Call(_, _) => self.call(loaded),
+            _ => self.trade(loaded),
         }
     }
 
     /// A command of continuous trading.
-    fn trade(&mut self, loaded: &mut Loaded) -> Result<(), LoadFault> {
+    fn trade(&mut self, loaded: &Loaded) -> Command {
+        let commands = self.shape.commands_between_calls();
+        if commands > 0 && self.draws.is_one_in(commands) {
+            return Command::StartIntraday;
+        }
         match self.shape {
             Shape::Passive => self.passive(loaded),
             Shape::Crossing => self.crossing(loaded),
-            Shape::Several => self.several(loaded),
-            Shape::Large | Shape::Interrupted => self.large(loaded),
-            Shape::Immediate => self.immediate(loaded),
             Shape::Auction | Shape::Mixed => self.mixed(loaded),
         }
     }
 
-    fn passive(&mut self, loaded: &mut Loaded) -> Result<(), LoadFault> {
+    fn passive(&mut self, loaded: &Loaded) -> Command {
         match self.draws.below(100) {
             0..=1 => {
                 let lots = self.draws.from(1, 10);
@@ -280,173 +278,101 @@ impl Flow {
             50..=61 if self.names.len() >= BOOK => self.cancel(loaded),
             _ => {
                 let far = if self.draws.is_one_in(20) { 150 } else { 6 };
-                self.rest(loaded, far)
+                self.rest(loaded, far, Restriction::Free)
             }
         }
     }
 
-    fn crossing(&mut self, loaded: &mut Loaded) -> Result<(), LoadFault> {
+    fn crossing(&mut self, loaded: &Loaded) -> Command {
         match self.draws.below(100) {
             0..=7 => self.cancel(loaded),
             8..=49 => {
                 let lots = self.draws.from(1, 30);
                 self.cross(loaded, 3, lots, Condition::Plain)
             }
-            _ => self.rest(loaded, 3),
+            _ => self.rest(loaded, 3, Restriction::Free),
         }
     }
 
-    /// What crosses is worth two to five of the orders that rest.
-    fn several(&mut self, loaded: &mut Loaded) -> Result<(), LoadFault> {
-        match self.draws.below(100) {
-            0..=8 => self.cancel(loaded),
-            9..=29 => {
-                let lots = self.draws.from(20, 25);
-                self.cross(loaded, 20, lots, Condition::Plain)
-            }
-            _ => self.rest(loaded, 3),
-        }
-    }
-
-    /// A book of many levels is built, until a large order comes.
-    fn large(&mut self, loaded: &mut Loaded) -> Result<(), LoadFault> {
-        match self.draws.below(100) {
-            0..=1 => self.push(loaded),
-            2..=21 => self.cancel(loaded),
-            _ => self.rest(loaded, 25),
-        }
-    }
-
-    fn immediate(&mut self, loaded: &mut Loaded) -> Result<(), LoadFault> {
-        match self.draws.below(100) {
-            0..=19 => self.cancel(loaded),
-            20..=44 => self.cross_at_once(loaded, 2, 60),
-            _ => self.rest(loaded, 6),
-        }
-    }
-
-    fn mixed(&mut self, loaded: &mut Loaded) -> Result<(), LoadFault> {
+    fn mixed(&mut self, loaded: &Loaded) -> Command {
         match self.draws.below(1_000) {
-            0 => {
-                let member = self.draws.below(MEMBERS);
-                self.give(loaded, Command::CancelAll { member })
+            0 => Command::CancelAll {
+                member: self.draws.below(MEMBERS),
+            },
+            1..=9 => Command::Cancel {
+                member: self.draws.below(MEMBERS),
+                reference: u32::MAX,
+            },
+            10..=24 => self.cross_at_once(loaded),
+            25..=59 => {
+                let restriction = if self.draws.is_one_in(2) {
+                    Restriction::AuctionsOnly
+                } else {
+                    Restriction::ClosingOnly
+                };
+                self.rest(loaded, 10, restriction)
             }
-            1..=9 => {
-                let member = self.draws.below(MEMBERS);
-                let reference = u32::MAX;
-                self.give(loaded, Command::Cancel { member, reference })
-            }
-            10..=24 => self.cross_at_once(loaded, 2, 20),
-            25..=59 if self.draws.is_one_in(2) => {
-                self.rest_with(loaded, 10, Restriction::AuctionsOnly)
-            }
-            25..=59 => self.rest_with(loaded, 10, Restriction::ClosingOnly),
             60..=259 => self.crossing(loaded),
             _ => self.passive(loaded),
         }
     }
 
     /// A command in a call: orders of both sides lie around the last price.
-    fn call(&mut self, loaded: &mut Loaded) -> Result<(), LoadFault> {
+    fn call(&mut self, loaded: &Loaded) -> Command {
         match self.draws.below(100) {
             0..=3 => self.change(loaded),
             4..=19 => self.cancel(loaded),
             20..=44 if self.names.len() >= CALL_BOOK => self.cancel(loaded),
-            _ => self.enter_in_call(loaded),
+            _ => self.enter_in_call(loaded.last_price()),
         }
     }
 
-    fn enter_in_call(&mut self, loaded: &mut Loaded) -> Result<(), LoadFault> {
+    fn enter_in_call(&mut self, last: u32) -> Command {
         let above = self.draws.below(61).wrapping_add(self.draws.below(61));
-        let limit = loaded.last_price().saturating_sub(60).saturating_add(above);
         let kind = if self.draws.is_one_in(12) {
             Kind::Market
         } else {
-            Kind::Limit(limit)
+            Kind::Limit(last.saturating_sub(60).saturating_add(above))
         };
         let restriction = match self.draws.below(100) {
             0..=14 => Restriction::AuctionsOnly,
             15..=16 => Restriction::ClosingOnly,
             _ => Restriction::Free,
         };
-        let (side, quantity) = (self.draws.side(), self.lots(20));
-        self.enter(loaded, side, kind, quantity, restriction, Condition::Plain)
+        let (side, lots) = (self.draws.side(), self.draws.from(1, 20));
+        self.enter(side, kind, lots, restriction, Condition::Plain)
     }
 
     /// An order that rests, about so many ticks behind the best limit of its side.
-    fn rest(&mut self, loaded: &mut Loaded, far: u32) -> Result<(), LoadFault> {
-        self.rest_with(loaded, far, Restriction::Free)
-    }
-
-    fn rest_with(
-        &mut self,
-        loaded: &mut Loaded,
-        far: u32,
-        restriction: Restriction,
-    ) -> Result<(), LoadFault> {
+    fn rest(&mut self, loaded: &Loaded, far: u32, restriction: Restriction) -> Command {
         let side = self.draws.side();
         let kind = Kind::Limit(self.limit_behind(loaded, side, far));
-        let quantity = self.lots(20);
-        self.enter(loaded, side, kind, quantity, restriction, Condition::Plain)
+        let lots = self.draws.from(1, 20);
+        self.enter(side, kind, lots, restriction, Condition::Plain)
     }
 
     /// An immediate order that crosses the spread.
-    fn cross_at_once(
-        &mut self,
-        loaded: &mut Loaded,
-        deep: u32,
-        most: u32,
-    ) -> Result<(), LoadFault> {
-        let lots = self.draws.from(1, most);
+    fn cross_at_once(&mut self, loaded: &Loaded) -> Command {
+        let lots = self.draws.from(1, 20);
         let condition = if self.draws.is_one_in(2) {
             Condition::Ioc
         } else {
             Condition::Fok
         };
-        self.cross(loaded, deep, lots, condition)
+        self.cross(loaded, 2, lots, condition)
     }
 
     /// An order of so many lots that crosses the spread, by up to so many ticks.
-    fn cross(
-        &mut self,
-        loaded: &mut Loaded,
-        deep: u32,
-        lots: u32,
-        condition: Condition,
-    ) -> Result<(), LoadFault> {
+    fn cross(&mut self, loaded: &Loaded, deep: u32, lots: u32, condition: Condition) -> Command {
         let side = self.draws.side();
-        let is_market = !condition.is_immediate() && self.draws.is_one_in(7);
-        let kind = if is_market {
+        let kind = if !condition.is_immediate() && self.draws.is_one_in(7) {
             Kind::Market
         } else {
-            Kind::Limit(self.limit_across(loaded, side, deep))
+            let other = side.opposite();
+            let deeper = self.draws.below(deep.wrapping_add(1));
+            Kind::Limit(worse(other, loaded.touch(other), deeper))
         };
-        let quantity = lots.wrapping_mul(10);
-        self.enter(loaded, side, kind, quantity, Restriction::Free, condition)
-    }
-
-    /// A large order, mostly towards the reference.
-    fn push(&mut self, loaded: &mut Loaded) -> Result<(), LoadFault> {
-        let back = if loaded.last_price() < REFERENCE {
-            Side::Buy
-        } else {
-            Side::Sell
-        };
-        let side = if self.draws.is_one_in(3) {
-            back.opposite()
-        } else {
-            back
-        };
-        let limit = worse(side.opposite(), loaded.touch(side.opposite()), 100);
-        let quantity = self.lots(600);
-        self.enter(
-            loaded,
-            side,
-            Kind::Limit(limit),
-            quantity,
-            Restriction::Free,
-            Condition::Plain,
-        )
+        self.enter(side, kind, lots, Restriction::Free, condition)
     }
 
     /// A limit about so many ticks behind the best one of its side, or before it where the spread is wide.
@@ -462,13 +388,6 @@ impl Flow {
         worse(side, worse(side.opposite(), best, closer), distance)
     }
 
-    /// A limit at the best one of the other side, or up to so many ticks behind it.
-    fn limit_across(&mut self, loaded: &Loaded, side: Side, deep: u32) -> u32 {
-        let other = side.opposite();
-        let deeper = self.draws.below(deep.wrapping_add(1));
-        worse(other, loaded.touch(other), deeper)
-    }
-
     /// A number of ticks of about this mean, small ones most often.
     fn distance(&mut self, mean: u32) -> u32 {
         for distance in 0..FARTHEST {
@@ -479,34 +398,31 @@ impl Flow {
         FARTHEST
     }
 
-    /// The units of at most so many lots.
-    fn lots(&mut self, most: u32) -> u32 {
-        self.draws.from(1, most).wrapping_mul(10)
-    }
-
-    fn cancel(&mut self, loaded: &mut Loaded) -> Result<(), LoadFault> {
+    fn cancel(&mut self, loaded: &Loaded) -> Command {
         match self.live(loaded) {
             Some(place) if place < self.names.len() => {
                 let (member, reference) = self.names.swap_remove(place);
-                self.give(loaded, Command::Cancel { member, reference })
+                Command::Cancel { member, reference }
             }
-            _ => self.rest(loaded, 6),
+            _ => self.rest(loaded, 6, Restriction::Free),
         }
     }
 
     /// A change of the quantity, which is less in most cases.
-    fn change(&mut self, loaded: &mut Loaded) -> Result<(), LoadFault> {
-        let Some(place) = self.live(loaded) else {
-            return self.rest(loaded, 6);
-        };
-        let (member, reference) = *self.names.get(place).ok_or(LoadFault)?;
-        let change = Command::Change {
-            member,
-            reference,
-            quantity: self.lots(10),
-            limit: None,
-        };
-        self.give(loaded, change)
+    fn change(&mut self, loaded: &Loaded) -> Command {
+        match self.live(loaded) {
+            Some(place) if place < self.names.len() => {
+                let (member, reference) = self.names[place];
+                let quantity = self.draws.from(1, 10).wrapping_mul(LOT);
+                Command::Change {
+                    member,
+                    reference,
+                    quantity,
+                    limit: None,
+                }
+            }
+            _ => self.rest(loaded, 6, Restriction::Free),
+        }
     }
 
     /// The place of the name of a live order, in half of the cases of a young one. The names that were met of orders that
@@ -535,50 +451,28 @@ impl Flow {
         from.wrapping_add(self.draws.below(span) as usize)
     }
 
+    /// An entry of so many lots under a new name.
     fn enter(
         &mut self,
-        loaded: &mut Loaded,
         side: Side,
         kind: Kind,
-        quantity: u32,
+        lots: u32,
         restriction: Restriction,
         condition: Condition,
-    ) -> Result<(), LoadFault> {
+    ) -> Command {
         let member = self.draws.below(MEMBERS);
         self.entered = self.entered.wrapping_add(1);
-        let reference = self.entered;
-        let enter = Command::Enter {
+        Command::Enter {
             member,
-            reference,
+            reference: self.entered,
             side,
             kind,
-            quantity,
+            quantity: lots.wrapping_mul(LOT),
             validity: self.draws.validity(),
             restriction,
             condition,
-        };
-        self.give(loaded, enter)?;
-        done(self.names.push((member, reference)).is_ok())
+        }
     }
-
-    /// Gives the desk a command, and keeps it: a refusal is part of the load.
-    fn give(&mut self, loaded: &mut Loaded, command: Command) -> Result<(), LoadFault> {
-        let was_in_call = loaded.is_in_call();
-        if let Ok(reply) = loaded.apply(&command) {
-            self.course.add(&command, &reply);
-        }
-        if !was_in_call && is_interruption(loaded.phase()) {
-            self.course.interruptions = self.course.interruptions.wrapping_add(1);
-        }
-        if self.commands.len() % COUNT_EVERY == 0 {
-            self.course.book = self.course.book.max(loaded.orders()?.len());
-        }
-        done(self.commands.push(command).is_ok())
-    }
-}
-
-fn done(is_done: bool) -> Result<(), LoadFault> {
-    if is_done { Ok(()) } else { Err(LoadFault) }
 }
 
 /// A limit that is worse for its side by so many ticks: lower for a buy.

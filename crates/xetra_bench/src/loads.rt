@@ -11,7 +11,7 @@ use xm_rules::{
 use xm_ticks::{JournalLimit, Price, TickSize};
 
 /// The load did not run as it should, or could not be told.
-#[derive(Clone, Copy, Debug)]
+#[derive(Clone, Copy)]
 pub struct LoadFault;
 
 pub const TODAY: u32 = 20260105;
@@ -70,14 +70,6 @@ impl Loaded {
     /// Gives the desk a command, and answers its reply or its refusal.
     pub fn apply(&mut self, command: &Command) -> Result<Reply, Refusal> {
         self.desk.apply(command)
-    }
-
-    /// Gives the desk a command that it accepts.
-    pub fn accept(&mut self, command: Command) -> Result<(), LoadFault> {
-        match self.apply(&command) {
-            Ok(_) => Ok(()),
-            Err(_) => Err(LoadFault),
-        }
     }
 
     /// Makes room for each of some commands, gives them to the desk, and answers how many it accepted.

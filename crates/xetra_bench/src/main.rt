@@ -8,19 +8,17 @@ mod calls;
 mod cascades;
 mod draws;
 mod flows;
+mod lines;
 mod loads;
-mod orders;
 mod records;
 mod sessions;
-mod shelves;
+mod steps;
 mod whole_days;
 
 use crate::loads::LoadFault;
-use crate::sessions::Choice;
+use std::env;
 use std::process::ExitCode;
 use std::rt::{Clock, Env};
-use std::time::Instant;
-use std::{env, io};
 
 fn main(rt: HostRuntime) -> ExitCode {
     match run(&rt) {
@@ -30,48 +28,36 @@ fn main(rt: HostRuntime) -> ExitCode {
 }
 
 fn run<R: Env + AllocGlobal + Print + Clock>(rt: &R) -> Result<(), LoadFault> {
-    if has_word(rt, "measure")? {
-        orders::measure(rt)?;
-        shelves::measure(rt)?;
-        calls::measure(rt)?;
-        cascades::measure(rt)?;
-        sessions::measure(rt, Choice::All)
-    } else if has_word(rt, "cascades")? {
+    let words: Result<Vec<String>, _> = match env::args(rt) {
+        Ok(words) => words.collect(rt.alloc()),
+        Err(_) => return Err(LoadFault),
+    };
+    match words {
+        Ok(words) => run_words(rt, words.as_slice()),
+        Err(_) => Err(LoadFault),
+    }
+}
+
+/// Runs the loads that the words of the command line ask for.
+fn run_words<R: AllocGlobal + Print + Clock>(rt: &R, words: &[String]) -> Result<(), LoadFault> {
+    if has_word(words, "sessions") {
+        sessions::measure(rt, words)
+    } else if has_word(words, "cascades") {
         cascades::measure(rt)
-    } else if has_word(rt, "sessions")? {
-        sessions::measure(rt, Choice::Named)
+    } else if has_word(words, "measure") {
+        books::measure(rt)?;
+        calls::measure(rt)
     } else {
         whole_days::count(rt)?;
         sessions::count(rt)
     }
 }
 
-/// Whether this is one of the words of the command line.
-fn has_word<R: Env + AllocGlobal>(rt: &R, wanted: &str) -> Result<bool, LoadFault> {
-    let words: Result<Vec<String>, _> = match env::args(rt) {
-        Ok(words) => words.collect(rt.alloc()),
-        Err(_) => return Err(LoadFault),
-    };
-    match words {
-        Ok(words) => Ok(words.iter().any(|word| word.as_str() == wanted)),
-        Err(_) => Err(LoadFault),
+fn has_word(words: &[String], wanted: &str) -> bool {
+    for word in words {
+        if word.as_str() == wanted {
+            return true;
+        }
     }
-}
-
-/// The nanoseconds that each of so many parts took, of the time since.
-fn nanoseconds_since<R: Clock>(rt: &R, start: &Instant, parts: u32) -> Result<u128, LoadFault> {
-    match start.elapsed(rt) {
-        Ok(taken) => taken
-            .as_nanos()
-            .checked_div(u128::from(parts))
-            .ok_or(LoadFault),
-        Err(_) => Err(LoadFault),
-    }
-}
-
-fn said(printed: io::Result<()>) -> Result<(), LoadFault> {
-    match printed {
-        Ok(()) => Ok(()),
-        Err(_) => Err(LoadFault),
-    }
+    false
 }

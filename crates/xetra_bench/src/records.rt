@@ -2,7 +2,7 @@
 
 use crate::draws::FACTOR;
 use crate::loads::{LoadFault, Loaded};
-use xm_rules::{Auction, Command, Phase, Quote, Refusal, Reply};
+use xm_rules::{Auction, Command, Order, Phase, Quote, Refusal, Reply, Stop, Trade};
 use xm_ticks::Price;
 
 /// Whether continuous trading was interrupted, and its call has not ended.
@@ -20,32 +20,26 @@ pub struct Record {
     pub trades: u64,
     pub orders: u64,
     pub stops: u64,
+    /// Whether memory sufficed to see all.
+    pub is_whole: bool,
 }
 
 impl Record {
-    pub fn new() -> Record {
-        Record {
-            sum: 0,
-            accepted: 0,
-            refused: 0,
-            interruptions: 0,
-            trades: 0,
-            orders: 0,
-            stops: 0,
-        }
-    }
-
     /// Gives a command, and counts what it did: its reply or its refusal, and the quote after it.
     pub fn give(&mut self, loaded: &mut Loaded, command: &Command) {
         let was_continuous = loaded.phase().is_continuous();
         match loaded.apply(command) {
             Ok(reply) => self.add_reply(&reply),
-            Err(refusal) => self.add_refusal(refusal),
+            Err(refusal) => {
+                self.refused = self.refused.wrapping_add(1);
+                self.add(&[place_of(refusal)]);
+            }
         }
-        if was_continuous && is_interruption(loaded.phase()) {
+        let quote = loaded.quote();
+        if was_continuous && is_interruption(quote.phase) {
             self.interruptions = self.interruptions.wrapping_add(1);
         }
-        self.add_quote(&loaded.quote());
+        self.add_quote(&quote);
     }
 
     fn add(&mut self, figures: &[u64]) {
@@ -66,58 +60,96 @@ impl Record {
 
     fn add_reply(&mut self, reply: &Reply) {
         self.accepted = self.accepted.wrapping_add(1);
-        self.add(&[reply.version, reply.first_trade, reply.trades]);
-        self.add(&[reply.quantity, reply.money]);
+        let (version, first_trade, trades) = (reply.version, reply.first_trade, reply.trades);
+        self.add(&[version, first_trade, trades, reply.quantity, reply.money]);
         self.add_phase(reply.phase);
-    }
-
-    /// Adds the place of a refusal among the checks.
-    fn add_refusal(&mut self, refusal: Refusal) {
-        self.refused = self.refused.wrapping_add(1);
-        self.add(&[refusal as u64]);
     }
 
     fn add_quote(&mut self, quote: &Quote) {
         self.add(&[quote.version]);
         self.add_phase(quote.phase);
-        self.add(&[ticks(quote.best_buy), ticks(quote.best_sell)]);
-        let (ref1, ref2) = (quote.ref1.get(), quote.ref2.get());
-        self.add(&[u64::from(ref1), u64::from(ref2), quote.quantity]);
+        let (best_buy, best_sell) = (ticks(quote.best_buy), ticks(quote.best_sell));
+        let (ref1, ref2) = (u64::from(quote.ref1.get()), u64::from(quote.ref2.get()));
+        self.add(&[best_buy, best_sell, ref1, ref2, quote.quantity]);
     }
 
     /// Adds the trades of a day, and the orders and the stops that are left.
-    pub fn add_left(&mut self, loaded: &Loaded) -> Result<(), LoadFault> {
-        self.add_trades(loaded);
-        self.add_orders(loaded)?;
-        self.add_stops(loaded)
+    pub fn add_left(&mut self, loaded: &Loaded) {
+        self.add_trades(loaded.trades());
+        match loaded.orders() {
+            Ok(orders) => self.add_orders(orders.as_slice()),
+            Err(LoadFault) => self.is_whole = false,
+        }
+        match loaded.stops() {
+            Ok(stops) => self.add_stops(stops.as_slice()),
+            Err(LoadFault) => self.is_whole = false,
+        }
     }
 
-    fn add_trades(&mut self, loaded: &Loaded) {
-        for trade in loaded.trades() {
-            let (price, quantity) = (trade.price.get(), trade.quantity);
-            self.add(&[trade.sweep, u64::from(price), u64::from(quantity)]);
-            self.add(&[u64::from(trade.buyer), u64::from(trade.buy_ref)]);
-            self.add(&[u64::from(trade.seller), u64::from(trade.sell_ref)]);
+    /// The number of held stops.
+    pub fn held(&mut self, loaded: &Loaded) -> u64 {
+        match loaded.stops() {
+            Ok(stops) => stops.len() as u64,
+            Err(LoadFault) => {
+                self.is_whole = false;
+                0
+            }
+        }
+    }
+
+    fn add_trades(&mut self, trades: &[Trade]) {
+        for trade in trades {
+            let (price, quantity) = (u64::from(trade.price.get()), u64::from(trade.quantity));
+            let (buyer, buy_ref) = (u64::from(trade.buyer), u64::from(trade.buy_ref));
+            let (seller, sell_ref) = (u64::from(trade.seller), u64::from(trade.sell_ref));
+            self.add(&[
+                trade.sweep,
+                price,
+                quantity,
+                buyer,
+                buy_ref,
+                seller,
+                sell_ref,
+            ]);
             self.trades = self.trades.wrapping_add(1);
         }
     }
 
-    fn add_orders(&mut self, loaded: &Loaded) -> Result<(), LoadFault> {
-        for order in &loaded.orders()? {
+    fn add_orders(&mut self, orders: &[Order]) {
+        for order in orders {
             let (member, reference) = (u64::from(order.member), u64::from(order.reference));
             self.add(&[member, reference, u64::from(order.rest)]);
             self.orders = self.orders.wrapping_add(1);
         }
-        Ok(())
     }
 
-    fn add_stops(&mut self, loaded: &Loaded) -> Result<(), LoadFault> {
-        for stop in &loaded.stops()? {
-            self.add(&[u64::from(stop.member), u64::from(stop.reference)]);
-            self.add(&[u64::from(stop.trigger), u64::from(stop.quantity)]);
+    fn add_stops(&mut self, stops: &[Stop]) {
+        for stop in stops {
+            let (member, reference) = (u64::from(stop.member), u64::from(stop.reference));
+            let (trigger, quantity) = (u64::from(stop.trigger), u64::from(stop.quantity));
+            self.add(&[member, reference, trigger, quantity]);
             self.stops = self.stops.wrapping_add(1);
         }
-        Ok(())
+    }
+}
+
+/// The place of a refusal among the checks.
+fn place_of(refusal: Refusal) -> u64 {
+    match refusal {
+        Refusal::UnknownSecurity => 0,
+        Refusal::UnknownMember => 1,
+        Refusal::DayEnded => 2,
+        Refusal::BadQuantity => 3,
+        Refusal::BadPrice => 4,
+        Refusal::BadValidity => 5,
+        Refusal::BadCombination => 6,
+        Refusal::WrongPhase => 7,
+        Refusal::DuplicateReference => 8,
+        Refusal::UnknownOrder => 9,
+        Refusal::NotChangeable => 10,
+        Refusal::TriggerReached => 11,
+        Refusal::JournalFull => 12,
+        _ => 13,
     }
 }
 

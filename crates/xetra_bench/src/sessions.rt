@@ -1,10 +1,10 @@
 //! Days of one security in the shapes of real ones: their commands are drawn first, then a desk of its own takes them.
 
-use crate::flows::{Flow, SHAPES, Shape};
+use crate::flows::{Flow, OPENING, SHAPES, Shape};
+use crate::has_word;
+use crate::lines::{now, tell_figures, tell_text, tell_time};
 use crate::loads::{LoadFault, Loaded};
-use crate::{has_word, nanoseconds_since, said};
-use std::rt::{Clock, Env};
-use std::time::Instant;
+use std::rt::Clock;
 use xm_rules::Command;
 
 /// About how many commands a day has that is counted, and one that is measured.
@@ -16,83 +16,95 @@ const MEASURED: u32 = 300_000;
 const RUNS: u32 = 5;
 
 const HEAD: &str =
-    "shape        commands  accepted    trades   trading  interruptions  immediate    killed  calls    book";
-
-/// Which shapes are measured.
-#[derive(Clone, Copy)]
-pub enum Choice {
-    All,
-    /// Those that the command line names.
-    Named,
-}
+    "shape                         commands      accepted        trades       trading interruptions     immediate        killed         calls          book";
 
 /// Prints what the days of each shape did.
-pub fn count<R: AllocGlobal + Print>(rt: &R) -> Result<(), LoadFault> {
-    said(println!(rt; "{HEAD}"))?;
-    for shape in &SHAPES {
-        let mut flow = Flow::new(rt.alloc(), *shape);
-        draw(rt, &mut flow, COUNTED)?;
-        said(println!(rt; ""))?;
+pub fn count<R: AllocGlobal + Print + Clock>(rt: &R) -> Result<(), LoadFault> {
+    tell_text(rt, HEAD)?;
+    for (shape, name) in &SHAPES {
+        tell_shape(rt, *shape, name, COUNTED, 0)?;
     }
     Ok(())
 }
 
-/// Prints what the days of shapes did, and the shortest and the longest time of a command over their runs, in nanoseconds.
-pub fn measure<R: Env + AllocGlobal + Print + Clock>(
-    rt: &R,
-    choice: Choice,
-) -> Result<(), LoadFault> {
-    said(println!(rt; "{HEAD}  ns/accepted  ns range"))?;
-    for shape in &SHAPES {
-        let is_chosen = match choice {
-            Choice::All => true,
-            Choice::Named => has_word(rt, shape.name())?,
-        };
-        if is_chosen {
-            measure_shape(rt, *shape)?;
+/// Prints what the days of the shapes did that the command line names, and the nanoseconds of an accepted command in each
+/// of their runs.
+pub fn measure<R: AllocGlobal + Print + Clock>(rt: &R, words: &[String]) -> Result<(), LoadFault> {
+    tell_text(rt, HEAD)?;
+    for (shape, name) in &SHAPES {
+        if has_word(words, name) {
+            tell_shape(rt, *shape, name, MEASURED, RUNS)?;
         }
     }
     Ok(())
 }
 
-fn measure_shape<R: AllocGlobal + Print + Clock>(rt: &R, shape: Shape) -> Result<(), LoadFault> {
+/// Draws about so many commands, prints what they did, and gives them to so many desks in turn.
+fn tell_shape<R: AllocGlobal + Print + Clock>(
+    rt: &R,
+    shape: Shape,
+    name: &str,
+    commands: u32,
+    runs: u32,
+) -> Result<(), LoadFault> {
     let mut flow = Flow::new(rt.alloc(), shape);
-    draw(rt, &mut flow, MEASURED)?;
-    let (mut shortest, mut longest) = (u128::MAX, 0);
-    for _run in 0..RUNS {
-        let time = time_of(rt, shape, flow.commands.as_slice())?;
-        shortest = shortest.min(time);
-        longest = longest.max(time);
-    }
-    said(println!(rt; " {shortest:>12}  {shortest}-{longest}"))
+    draw(rt, &mut flow, commands)?;
+    tell_course(rt, &flow, name)?;
+    tell_runs(rt, flow.commands.as_slice(), runs)
 }
 
-/// Draws about so many commands, beside a desk that ends with them, and prints what they did.
-fn draw<R: AllocGlobal + Print>(rt: &R, flow: &mut Flow, commands: u32) -> Result<(), LoadFault> {
-    let mut loaded = Loaded::open(rt.alloc(), flow.shape.opening())?;
-    flow.day(&mut loaded, commands)?;
-    let (course, name, drawn) = (flow.course, flow.shape.name(), flow.commands.len());
+fn tell_runs<R: AllocGlobal + Print + Clock>(
+    rt: &R,
+    commands: &[Command],
+    runs: u32,
+) -> Result<(), LoadFault> {
+    for _run in 0..runs {
+        tell_run(rt, commands)?;
+    }
+    tell_text(rt, "")
+}
+
+/// Draws about so many commands, beside a desk that ends with them.
+fn draw<R: AllocGlobal>(rt: &R, flow: &mut Flow, commands: u32) -> Result<(), LoadFault> {
+    let mut loaded = Loaded::open(rt.alloc(), OPENING)?;
+    flow.day(&mut loaded, commands);
+    if flow.is_whole {
+        Ok(())
+    } else {
+        Err(LoadFault)
+    }
+}
+
+fn tell_course<R: Print>(rt: &R, flow: &Flow, name: &str) -> Result<(), LoadFault> {
+    let (course, drawn) = (&flow.course, flow.commands.len() as u64);
     let (accepted, trades, trading) = (course.accepted, course.trades, course.trading);
-    said(print!(rt; "{name:<11} {drawn:>9} {accepted:>9} {trades:>9} {trading:>9}"))?;
     let (interruptions, immediate, killed) = (
         course.interruptions,
         course.immediate,
         course.killed,
     );
     let (uncrosses, book) = (course.uncrosses, course.book);
-    said(print!(rt; " {interruptions:>14} {immediate:>10} {killed:>9} {uncrosses:>6} {book:>7}"))
+    tell_figures(
+        rt,
+        name,
+        &[
+            drawn,
+            accepted,
+            trades,
+            trading,
+            interruptions,
+            immediate,
+            killed,
+            uncrosses,
+            book,
+        ],
+    )
 }
 
-/// The nanoseconds that a desk took for each command that it accepted. It is told how many come, as plain Rust is.
-fn time_of<R: AllocGlobal + Clock>(
-    rt: &R,
-    shape: Shape,
-    commands: &[Command],
-) -> Result<u128, LoadFault> {
-    let mut loaded = Loaded::open(rt.alloc(), shape.opening())?;
-    let Ok(start) = Instant::now(rt) else {
-        return Err(LoadFault);
-    };
+/// Prints the nanoseconds that a desk took for each command that it accepted. It is told how many come, as plain Rust is.
+fn tell_run<R: AllocGlobal + Print + Clock>(rt: &R, commands: &[Command]) -> Result<(), LoadFault> {
+    let mut loaded = Loaded::open(rt.alloc(), OPENING)?;
+    let start = now(rt)?;
     let accepted = loaded.take(commands)?;
-    nanoseconds_since(rt, &start, accepted)
+    tell_time(rt, &start, accepted)
 }

@@ -2,13 +2,16 @@
 //! price and the ranges are narrow, so that interruptions, cascades and their cuts are common.
 
 use crate::draws::{Draws, STAGES};
+use crate::lines::{tell_figures, tell_text};
 use crate::loads::{LoadFault, Loaded, Opening, TODAY};
 use crate::records::{Record, is_interruption};
-use crate::said;
 use xm_rules::{Command, Kind, MAX_NUMBER, Restriction, Side, Validity, Widths};
 
 /// After how many days what they did is told.
 const DAYS: [u32; 2] = [100, 1_000];
+
+const HEAD: &str =
+    "shape                             days      accepted       refused interruptions stops came in  cut cascades        trades   orders left    stops left           sum";
 
 /// How many commands continuous trading has, beside those in calls.
 const COMMANDS: u32 = 80;
@@ -41,14 +44,24 @@ struct Days {
 pub fn count<R: AllocGlobal + Print>(rt: &R) -> Result<(), LoadFault> {
     let mut days = Days {
         draws: Draws::new(SEED),
-        record: Record::new(),
+        record: Record {
+            sum: 0,
+            accepted: 0,
+            refused: 0,
+            interruptions: 0,
+            trades: 0,
+            orders: 0,
+            stops: 0,
+            is_whole: true,
+        },
         run: 0,
         entered: 0,
         reached: 0,
         cut: 0,
     };
-    for more in &DAYS {
-        run_to(rt, &mut days, *more)?;
+    tell_text(rt, HEAD)?;
+    for wanted in &DAYS {
+        run_to(rt, &mut days, *wanted)?;
         tell(rt, &days)?;
     }
     Ok(())
@@ -57,24 +70,39 @@ pub fn count<R: AllocGlobal + Print>(rt: &R) -> Result<(), LoadFault> {
 /// Runs days until there were so many.
 fn run_to<R: AllocGlobal>(rt: &R, days: &mut Days, wanted: u32) -> Result<(), LoadFault> {
     for _day in days.run..wanted {
-        let opening = days.opening();
-        let mut loaded = Loaded::open(rt.alloc(), opening)?;
-        days.day(&mut loaded)?;
+        let mut loaded = Loaded::open(rt.alloc(), days.opening())?;
+        days.day(&mut loaded);
     }
     days.run = wanted;
-    Ok(())
+    if days.record.is_whole {
+        Ok(())
+    } else {
+        Err(LoadFault)
+    }
 }
 
 fn tell<R: Print>(rt: &R, days: &Days) -> Result<(), LoadFault> {
     let record = &days.record;
-    let (run, accepted, refused) = (days.run, record.accepted, record.refused);
+    let (accepted, refused) = (record.accepted, record.refused);
     let (interruptions, reached, cut) = (record.interruptions, days.reached, days.cut);
-    said(println!(rt;
-        "{run} days of all commands: {accepted} accepted, {refused} refused, {interruptions} interruptions, {reached} stops came in, {cut} cascades cut"
-    ))?;
     let (trades, orders, stops) = (record.trades, record.orders, record.stops);
-    let sum = record.sum;
-    said(println!(rt; "{trades} trades, {orders} orders and {stops} stops left, sum {sum}"))
+    tell_figures(
+        rt,
+        "all commands",
+        &[
+            u64::from(days.run),
+            accepted,
+            refused,
+            interruptions,
+            reached,
+            cut,
+            trades,
+            orders,
+            stops,
+            record.sum,
+        ],
+    )?;
+    tell_text(rt, "")
 }
 
 impl Days {
@@ -96,76 +124,71 @@ impl Days {
     }
 
     /// A day from pre-trading to what is refused after its end.
-    fn day(&mut self, loaded: &mut Loaded) -> Result<(), LoadFault> {
+    fn day(&mut self, loaded: &mut Loaded) {
         self.entered = 0;
-        self.give_some(loaded, 6)?;
-        self.call(loaded, Command::StartOpening, 12)?;
+        self.give_some(loaded, 6);
+        self.call(loaded, Command::StartOpening, 12);
         for _command in 0..COMMANDS {
-            self.trade(loaded)?;
+            self.trade(loaded);
         }
-        self.call(loaded, Command::StartClosing, 8)?;
-        self.give_some(loaded, 6)?;
-        self.record.add_left(loaded)?;
-        self.give(loaded, Command::EndDay)?;
-        self.give_some(loaded, 4)?;
-        self.record.add_left(loaded)
+        self.call(loaded, Command::StartClosing, 8);
+        self.give_some(loaded, 6);
+        self.record.add_left(loaded);
+        self.give(loaded, Command::EndDay);
+        self.give_some(loaded, 4);
+        self.record.add_left(loaded);
     }
 
     /// A call from its start to its end, with fewer commands than this.
-    fn call(
-        &mut self,
-        loaded: &mut Loaded,
-        start: Command,
-        commands: u32,
-    ) -> Result<(), LoadFault> {
-        self.give(loaded, start)?;
-        self.give_some(loaded, commands)?;
-        self.uncross(loaded)
+    fn call(&mut self, loaded: &mut Loaded, start: Command, commands: u32) {
+        self.give(loaded, start);
+        self.give_some(loaded, commands);
+        self.uncross(loaded);
     }
 
     /// A command, or an intraday call, and the end of the interruption that it leads to.
-    fn trade(&mut self, loaded: &mut Loaded) -> Result<(), LoadFault> {
+    fn trade(&mut self, loaded: &mut Loaded) {
         if self.draws.is_one_in(30) {
-            self.call(loaded, Command::StartIntraday, 8)?;
+            self.call(loaded, Command::StartIntraday, 8);
         } else {
             let command = self.command(loaded.last_price());
-            self.give(loaded, command)?;
+            self.give(loaded, command);
         }
-        self.uncross(loaded)
+        self.uncross(loaded);
     }
 
     /// Ends a call, stage after stage, each with some commands.
-    fn uncross(&mut self, loaded: &mut Loaded) -> Result<(), LoadFault> {
+    fn uncross(&mut self, loaded: &mut Loaded) {
         for _stage in 0..STAGES {
             if loaded.is_in_call() {
-                self.give_some(loaded, 3)?;
-                self.give(loaded, Command::Uncross)?;
+                self.give_some(loaded, 3);
+                self.give(loaded, Command::Uncross);
             }
         }
-        Ok(())
     }
 
     /// Gives commands that are drawn, fewer than this.
-    fn give_some(&mut self, loaded: &mut Loaded, bound: u32) -> Result<(), LoadFault> {
+    fn give_some(&mut self, loaded: &mut Loaded, bound: u32) {
         for _command in 0..self.draws.below(bound) {
             let command = self.command(loaded.last_price());
-            self.give(loaded, command)?;
+            self.give(loaded, command);
         }
-        Ok(())
     }
 
-    /// Gives a command, and counts what it did.
-    fn give(&mut self, loaded: &mut Loaded, command: Command) -> Result<(), LoadFault> {
-        let held = loaded.stops()?.len();
+    /// Gives a command, and counts what it did. Held stops that leave by a command that deletes none came in.
+    fn give(&mut self, loaded: &mut Loaded, command: Command) {
+        let deletes = matches!(
+            command,
+            Command::Cancel { .. } | Command::CancelAll { .. } | Command::EndDay
+        );
+        let held = self.record.held(loaded);
         self.record.give(loaded, &command);
-        let left = loaded.stops()?.len();
-        if left < held && !deletes(&command) {
-            self.reached = self.reached.wrapping_add((held - left) as u64);
-            if is_interruption(loaded.phase()) {
-                self.cut = self.cut.wrapping_add(1);
-            }
+        let left = self.record.held(loaded);
+        if left < held && !deletes {
+            self.reached = self.reached.wrapping_add(held - left);
+            let cut = is_interruption(loaded.phase());
+            self.cut = self.cut.wrapping_add(u64::from(cut));
         }
-        Ok(())
     }
 
     /// A command, whether or not it is allowed now.
@@ -311,12 +334,4 @@ impl Days {
             self.draws.validity()
         }
     }
-}
-
-/// Whether a command deletes stops.
-fn deletes(command: &Command) -> bool {
-    matches!(
-        command,
-        Command::Cancel { .. } | Command::CancelAll { .. } | Command::EndDay
-    )
 }

@@ -2,7 +2,7 @@ use Rattle.std.proofs.Common.{rules, ◌≡◌, ◌≤◌, Bool, true, false, co
 use Rattle.std.proofs.lemmas.Bool.{and_parts}
 use Rattle.std.proofs.lemmas.Bool.Decides.{nat_tests}
 use Rattle.std.specs.List.{list_all}
-use Rattle.xetra_bench.proofs.books.Shelf.reduce.Goals as goal
+use Rattle.xetra_bench.proofs.books.LoadedBook.reduce.Goals as goal
 use Rattle.xm_rules.specs.Commands.{is_in_range}
 use Rattle.xm_rules.specs.Orders.{is_named}
 use Rattle.xm_rules.specs.declared.orders.Order.{Order}
