@@ -6,17 +6,18 @@ use Rattle.std.proofs.lemmas.Nat.Bits.{bit_at-zero}
 use Rattle.xm_prices.specs.Words.{word}
 use Rattle.xm_prices.specs.Marks.{mark, IsPut, IsMarkReady, IsChanged, IsTied}
 use Rattle.xm_prices.proofs.Stored.{same_room}
+use Rattle.xm_prices.specs.declared.marks.TheConstants.{PLACES, ROOT, UPPER}
 
-module _ (old new : List (List ℕ)) (p v : ℕ) (small : p < 1065220) (ready : IsMarkReady old p v) (put : IsPut old new p v) where
-  top : (j : ℕ) → 1065220 ≤ j → mark new j ≡ 0
+module _ (old new : List (List ℕ)) (p v : ℕ) (small : p < PLACES) (ready : IsMarkReady old p v) (put : IsPut old new p v) where
+  top : (j : ℕ) → PLACES ≤ j → mark new j ≡ 0
   top j beyond = put.same j (λ e. omega arith) ∙ ready.top j beyond
 
   -- each other word is tied
-  tied : (w : ℕ) → w < 16644 → w ≢ p / 64 → IsTied new w
+  tied : (w : ℕ) → w < ROOT → w ≢ p / 64 → IsTied new w
   tied w below differs =
-      elim (cases_eq (1048576 + w) p) [
+      elim (cases_eq (UPPER + w) p) [
         | inl same ↦ rw (same, put.marked, put.others w differs) (ready.stands w same)
-        | inr apart ↦ rw (put.same (1048576 + w) apart, put.others w differs) (ready.tied w below apart)
+        | inr apart ↦ rw (put.same (UPPER + w) apart, put.others w differs) (ready.tied w below apart)
       ]
 
   -- a word of which a bit has been set has a bit
@@ -28,15 +29,15 @@ module _ (old new : List (List ℕ)) (p v : ℕ) (small : p < 1065220) (ready : 
       ]
 
   -- nothing above has to change
-  pub changed_last : (p / 64 < 16644 → (word old (p / 64) ≡ 0) ↔ (word new (p / 64) ≡ 0)) → IsChanged old new p v
+  pub changed_last : (p / 64 < ROOT → (word old (p / 64) ≡ 0) ↔ (word new (p / 64) ≡ 0)) → IsChanged old new p v
   changed_last stayed = record {
     sound = record {
       tied = λ w below.
           elim (cases_eq w (p / 64)) [
             | inl same ↦
-                let apart : 1048576 + w ≢ p = λ e. omega arith in
+                let apart : UPPER + w ≢ p = λ e. omega arith in
                 let before : IsTied old (p / 64) = rw same at (ready.tied w below apart) in
-                let place = rw same at (put.same (1048576 + w) apart) in
+                let place = rw same at (put.same (UPPER + w) apart) in
                 let both = stayed (omega arith) in
                 rw (same, place)
                 (record {
@@ -57,10 +58,10 @@ module _ (old new : List (List ℕ)) (p v : ℕ) (small : p < 1065220) (ready : 
     shape = put.shape;
   }
 
-  module _ (below : p / 64 < 16644) where
-    pub ready_up : (0 < word new (p / 64) → word old (p / 64) ≡ 0) → IsMarkReady new (1048576 + p / 64) v
+  module _ (below : p / 64 < ROOT) where
+    pub ready_up : (0 < word new (p / 64) → word old (p / 64) ≡ 0) → IsMarkReady new (UPPER + p / 64) v
     ready_up turned = record {
-      there = same_room old new put.shape ((1048576 + p / 64) / 64) (ready.upper ((1048576 + p / 64) / 64) (omega arith) (omega arith));
+      there = same_room old new put.shape ((UPPER + p / 64) / 64) (ready.upper ((UPPER + p / 64) / 64) (omega arith) (omega arith));
       upper = λ w high within. same_room old new put.shape w (ready.upper w high within);
       tied = λ w within differs. tied w within (λ e. differs (omega arith));
       top = top;
@@ -77,7 +78,7 @@ module _ (old new : List (List ℕ)) (p v : ℕ) (small : p < 1065220) (ready : 
           });
     }
 
-    pub changed_up : (next : List (List ℕ)) → IsChanged new next (1048576 + p / 64) v → IsChanged old next p v
+    pub changed_up : (next : List (List ℕ)) → IsChanged new next (UPPER + p / 64) v → IsChanged old next p v
     changed_up next up =
         let here : word next (p / 64) ≡ word new (p / 64) = up.others (p / 64) (omega arith) (λ e. omega arith) in
         record {

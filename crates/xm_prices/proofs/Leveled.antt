@@ -10,6 +10,7 @@ use Rattle.xm_prices.specs.Levels.{HasPrice, HasLevelRoom, IsFirstLevel, IsLastL
 use Rattle.xm_prices.specs.Map as map
 use Rattle.xm_prices.specs.Set as set
 use Rattle.xm_prices.specs.declared.levels.Priced.{Priced}
+use Rattle.xm_prices.specs.declared.marks.TheConstants.{PRICES}
 
 some_none : {X : Type 0} {x : X} → Some x ≡ None → ⊥
 some_none h = cc
@@ -154,7 +155,7 @@ module _ {L : Type 0} where
     lies-vacant q m key x vacant same = some_none (sym x.there ∙ ap (get slab) same ∙ vacant)
 
     -- a level of a price that had none is put under a key that was vacant
-    module _ (p key : ℕ) (within : p < 1048576) (l : L) (new : Slab (Priced L)) (vacant : get slab key ≡ None) (u : Updates slab new key (Some (record { price = p; level = l })))
+    module _ (p key : ℕ) (within : p < PRICES) (l : L) (new : Slab (Priced L)) (vacant : get slab key ≡ None) (u : Updates slab new key (Some (record { price = p; level = l })))
         (keys' : List (List (Option ℕ))) (leads : (q : ℕ) → map.value_at keys' q ≡ (if q == p then Some key else map.value_at keys q))
         (prices' : set.Prices) (marks : (q : ℕ) → set.has prices' q ≡ (if q == p then true else set.has prices q)) where
       pub begun-lies : IsLaidOut prices' keys' new
@@ -168,7 +169,7 @@ module _ {L : Type 0} where
           lies_if q m true t e =
               let same = eqb-true q p t in
               record {
-                within = subst (λ (r : ℕ). r < 1048576) (sym same) within;
+                within = subst (λ (r : ℕ). r < PRICES) (sym same) within;
                 level = l;
                 there = subst (λ (k : ℕ). get new k ≡ Some (record { price = q; level = l })) (same_some e) (u.changed ∙ ap (λ (r : ℕ). Some (record { price = r; level = l })) (sym same));
               }

@@ -1,5 +1,5 @@
 -- The members of a set, by the marks of its tree.
-use Rattle.std.proofs.Common.{◌≡◌, ◌≢◌, ◌==◌, if◌then◌else◌, ℕ, ◌+◌, ◌/◌, ◌%◌, ◌<◌, ◌≤◌, true, false, List, Option, Some, None, IfSome, IfNone, ◌∙◌, ap, sym, refl, inl, inr, arith, lt-ltb, le-ltb, eq-eqb, ne_eqb}
+use Rattle.std.proofs.Common.{◌≡◌, ◌≢◌, ◌==◌, if◌then◌else◌, ℕ, ◌+◌, ◌-◌, ◌/◌, ◌%◌, ◌<◌, ◌≤◌, true, false, List, Option, Some, None, IfSome, IfNone, ◌∙◌, ap, sym, refl, inl, inr, arith, lt-ltb, le-ltb, eq-eqb, ne_eqb}
 use Rattle.std.specs.Int.{bit_at}
 use Rattle.std.proofs.lemmas.Bool.{cases_eq, cases_lt}
 use Rattle.std.proofs.lemmas.Nat.Bits.{bit_at-zero}
@@ -7,28 +7,29 @@ use Rattle.xm_prices.specs.Words.{word, IsShaped}
 use Rattle.xm_prices.specs.Marks.{mark, IsAbove, IsBelow, IsClearAbove, IsClearBelow, AreMarksSound, IsMarkReady, IsChanged}
 use Rattle.xm_prices.specs.Set.{Prices, has, HasRoom, IsNextAbove, IsNextBelow, IsFirstPrice, IsLastPrice}
 use Rattle.xm_prices.proofs.Stored.{word_page, same_room, has_upper}
+use Rattle.xm_prices.specs.declared.marks.TheConstants.{PRICES, UPPER}
 
-pub has_inside : (s : Prices) (n : ℕ) → n < 1048576 → has s n ≡ (mark s.pages n == 1)
+pub has_inside : (s : Prices) (n : ℕ) → n < PRICES → has s n ≡ (mark s.pages n == 1)
 unfolding has
-has_inside s n h = rw (lt-ltb n 1048576 h)
+has_inside s n h = rw (lt-ltb n PRICES h)
 
-has_outside : (s : Prices) (n : ℕ) → 1048576 ≤ n → has s n ≡ false
+has_outside : (s : Prices) (n : ℕ) → PRICES ≤ n → has s n ≡ false
 unfolding has
-has_outside s n h = rw (le-ltb n 1048576 h)
+has_outside s n h = rw (le-ltb n PRICES h)
 
-has_marked : (s : Prices) (n : ℕ) → n < 1048576 → mark s.pages n ≡ 1 → has s n ≡ true
+has_marked : (s : Prices) (n : ℕ) → n < PRICES → mark s.pages n ≡ 1 → has s n ≡ true
 has_marked s n h marked = has_inside s n h ∙ eq-eqb _ 1 marked
 
 has_clear : (s : Prices) (n : ℕ) → mark s.pages n ≡ 0 → has s n ≡ false
 has_clear s n clear =
-    elim (cases_lt n 1048576) [
+    elim (cases_lt n PRICES) [
       | inl inside ↦ has_inside s n inside ∙ ne_eqb _ 1 (λ e. omega arith)
       | inr outside ↦ has_outside s n outside
     ]
 
-pub has_above : (s : Prices) (n m : ℕ) → n < 1048576 → IsAbove s.pages n m → IsNextAbove s n m
+pub has_above : (s : Prices) (n m : ℕ) → n < PRICES → IsAbove s.pages n m → IsNextAbove s n m
 has_above s n m small found =
-    let within = (found.level 0 1048576 (inl (refl, refl)) (omega arith) small).1 in
+    let within = (found.level 0 PRICES (inl (refl, refl)) (omega arith) small).1 in
     record {
       above = found.above;
       within = within;
@@ -36,14 +37,14 @@ has_above s n m small found =
       first = λ k low high. has_clear s k (found.between k low high);
     }
 
-pub none_above : (s : Prices) (n : ℕ) → n < 1048576 → IsClearAbove s.pages n → (k : ℕ) → n < k → has s k ≡ false
+pub none_above : (s : Prices) (n : ℕ) → n < PRICES → IsClearAbove s.pages n → (k : ℕ) → n < k → has s k ≡ false
 none_above s n small clear k above =
-    elim (cases_lt k 1048576) [
-      | inl inside ↦ has_clear s k (clear 0 1048576 (inl (refl, refl)) (omega arith) small k above inside)
+    elim (cases_lt k PRICES) [
+      | inl inside ↦ has_clear s k (clear 0 PRICES (inl (refl, refl)) (omega arith) small k above inside)
       | inr outside ↦ has_outside s k outside
     ]
 
-pub has_below : (s : Prices) (n m : ℕ) → n < 1048576 → IsBelow s.pages n m → IsNextBelow s n m
+pub has_below : (s : Prices) (n m : ℕ) → n < PRICES → IsBelow s.pages n m → IsNextBelow s n m
 has_below s n m small found =
     let below = found.below in
     record {
@@ -52,11 +53,11 @@ has_below s n m small found =
       last = λ k low high. has_clear s k (found.between k low high);
     }
 
-pub none_below : (s : Prices) (n : ℕ) → n < 1048576 → IsClearBelow s.pages n → (k : ℕ) → k < n → has s k ≡ false
-none_below s n small clear k below = has_clear s k (clear 0 1048576 (inl (refl, refl)) (omega arith) small k (omega arith) below)
+pub none_below : (s : Prices) (n : ℕ) → n < PRICES → IsClearBelow s.pages n → (k : ℕ) → k < n → has s k ≡ false
+none_below s n small clear k below = has_clear s k (clear 0 PRICES (inl (refl, refl)) (omega arith) small k (omega arith) below)
 
 -- where a price has room, its bit can change
-pub ready : (s : Prices) (n v : ℕ) → n < 1048576 → HasRoom s n → AreMarksSound s.pages → IsShaped s.pages → IsMarkReady s.pages n v
+pub ready : (s : Prices) (n v : ℕ) → n < PRICES → HasRoom s n → AreMarksSound s.pages → IsShaped s.pages → IsMarkReady s.pages n v
 unfolding HasRoom
 ready s n v small room sound shaped =
     let inside = word_page s.pages (n / 64) room in
@@ -68,15 +69,15 @@ ready s n v small room sound shaped =
       stands = λ w e. absurd (omega arith);
     }
 
-module _ (old new : Prices) (n v : ℕ) (small : n < 1048576) (changed : IsChanged old.pages new.pages n v) where
+module _ (old new : Prices) (n v : ℕ) (small : n < PRICES) (changed : IsChanged old.pages new.pages n v) where
   others : (m : ℕ) → m ≢ n → has new m ≡ has old m
   others m differs =
-      elim (cases_lt m 1048576) [
+      elim (cases_lt m PRICES) [
         | inl inside ↦ has_inside new m inside ∙ ap (λ (x : ℕ). x == 1) (same m inside differs) ∙ sym (has_inside old m inside)
         | inr outside ↦ has_outside new m outside ∙ sym (has_outside old m outside)
       ]
     where
-      same : (m : ℕ) → m < 1048576 → m ≢ n → mark new.pages m ≡ mark old.pages m
+      same : (m : ℕ) → m < PRICES → m ≢ n → mark new.pages m ≡ mark old.pages m
       same m inside differs =
           elim (cases_eq (m / 64) (n / 64)) [
             | inl one ↦ changed.same m one differs
@@ -101,13 +102,13 @@ module _ (old new : List (List ℕ)) (same : (w : ℕ) → word new w ≡ word o
 
   pub same_sound : AreMarksSound old → AreMarksSound new
   same_sound sound = record {
-    tied = λ w below. rw (same_marks (1048576 + w), same w) (sound.tied w below);
+    tied = λ w below. rw (same_marks (UPPER + w), same w) (sound.tied w below);
     top = λ j beyond. same_marks j ∙ sound.top j beyond;
   }
 
 pub same_members : (old new : Prices) → ((w : ℕ) → word new.pages w ≡ word old.pages w) → (n : ℕ) → has new n ≡ has old n
 same_members old new same n =
-    elim (cases_lt n 1048576) [
+    elim (cases_lt n PRICES) [
       | inl inside ↦ has_inside new n inside ∙ ap (λ (x : ℕ). x == 1) (same_marks old.pages new.pages same n) ∙ sym (has_inside old n inside)
       | inr outside ↦ has_outside new n outside ∙ sym (has_outside old n outside)
     ]
@@ -119,7 +120,7 @@ mark_none pages none p = ap (λ (x : ℕ). bit_at x (p % 64)) (none (p / 64)) �
 pub sound_none : (pages : List (List ℕ)) → ((w : ℕ) → word pages w ≡ 0) → AreMarksSound pages
 sound_none pages none = record {
   tied = λ w below. record {
-    used = λ m. absurd (let clear = mark_none pages none (1048576 + w) in omega arith);
+    used = λ m. absurd (let clear = mark_none pages none (UPPER + w) in omega arith);
     empty = λ _. none w;
   };
   top = λ j _. mark_none pages none j;
@@ -153,17 +154,17 @@ none_from_first s None none h = λ n.
     ]
 
 -- what is not a member from the last price on
-beyond_last : (s : Prices) → has s 1048575 ≡ false → (n : ℕ) → 1048575 ≤ n → has s n ≡ false
+beyond_last : (s : Prices) → has s (PRICES - 1) ≡ false → (n : ℕ) → (PRICES - 1) ≤ n → has s n ≡ false
 beyond_last s none n high =
-    elim (cases_eq n 1048575) [
+    elim (cases_eq n (PRICES - 1)) [
       | inl same ↦ rw same none
       | inr outside ↦ has_outside s n (omega arith)
     ]
 
-pub last_here : (s : Prices) → has s 1048575 ≡ true → IsLastPrice s 1048575
+pub last_here : (s : Prices) → has s (PRICES - 1) ≡ true → IsLastPrice s (PRICES - 1)
 last_here s member = record { within = omega arith; member = member; last = λ k above. has_outside s k (omega arith) }
 
-pub last_below : (s : Prices) (o : Option ℕ) → has s 1048575 ≡ false → IfSome o (IsNextBelow s 1048575) → IfSome o (IsLastPrice s)
+pub last_below : (s : Prices) (o : Option ℕ) → has s (PRICES - 1) ≡ false → IfSome o (IsNextBelow s (PRICES - 1)) → IfSome o (IsLastPrice s)
 last_below s None none h = tt
 last_below s (Some m) none h =
     let below = h.below in
@@ -171,16 +172,16 @@ last_below s (Some m) none h =
       within = omega arith;
       member = h.member;
       last = λ k above.
-          elim (cases_lt k 1048575) [
+          elim (cases_lt k (PRICES - 1)) [
             | inl inside ↦ h.last k above inside
             | inr beyond ↦ beyond_last s none k beyond
           ];
     }
 
-pub none_from_last : (s : Prices) (o : Option ℕ) → has s 1048575 ≡ false → IfNone o ((n : ℕ) → n < 1048575 → has s n ≡ false) → IfNone o ((n : ℕ) → has s n ≡ false)
+pub none_from_last : (s : Prices) (o : Option ℕ) → has s (PRICES - 1) ≡ false → IfNone o ((n : ℕ) → n < (PRICES - 1) → has s n ≡ false) → IfNone o ((n : ℕ) → has s n ≡ false)
 none_from_last s (Some m) none h = tt
 none_from_last s None none h = λ n.
-    elim (cases_lt n 1048575) [
+    elim (cases_lt n (PRICES - 1)) [
       | inl inside ↦ h n inside
       | inr beyond ↦ beyond_last s none n beyond
     ]

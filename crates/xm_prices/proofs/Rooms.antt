@@ -7,17 +7,20 @@ use Rattle.xm_prices.specs.Marks.{AreMarksSound}
 use Rattle.xm_prices.specs.Set.{Prices, has, HasRoom}
 use Rattle.xm_prices.proofs.Members.{same_sound, same_members}
 use Rattle.xm_prices.proofs.Stored.{has_word, word_page, word_slot, word-unchanged, room-made, room-kept, shaped_made}
+use Rattle.xm_prices.specs.declared.marks.TheConstants.{PRICES}
+use Rattle.xm_prices.specs.declared.set.TheConstants.{PAGE_PRICES}
+use Rattle.xm_prices.specs.declared.words.TheConstants.{PAGES, PAGE_WORDS}
 
-pub has_room : (s : Prices) (n : ℕ) → n < 1048576 → IsShaped s.pages → 0 < length (page_at s.pages (n / 16384)) → HasRoom s n
+pub has_room : (s : Prices) (n : ℕ) → n < PRICES → IsShaped s.pages → 0 < length (page_at s.pages (n / PAGE_PRICES)) → HasRoom s n
 unfolding HasRoom
 has_room s n small shaped there =
-    let e : n / 64 / 256 ≡ n / 16384 = omega arith in
+    let e : n / 64 / PAGE_WORDS ≡ n / PAGE_PRICES = omega arith in
     has_word s.pages shaped (n / 64) (omega arith) (rw e there)
 
-pub room_there : (s : Prices) (n : ℕ) → HasRoom s n → 0 < length (page_at s.pages (n / 16384))
+pub room_there : (s : Prices) (n : ℕ) → HasRoom s n → 0 < length (page_at s.pages (n / PAGE_PRICES))
 unfolding HasRoom
 room_there s n room =
-    let e : n / 64 / 256 ≡ n / 16384 = omega arith in
+    let e : n / 64 / PAGE_WORDS ≡ n / PAGE_PRICES = omega arith in
     let slot = rw e at (word_slot s.pages (n / 64) room) in
     omega arith
 
@@ -27,34 +30,34 @@ room_inside s n room =
     let page = word_page s.pages (n / 64) room in
     omega arith
 
-pub no_room : (s : Prices) (n : ℕ) → n < 1048576 → IsShaped s.pages → (HasRoom s n → ⊥) → length (page_at s.pages (n / 16384)) ≡ 0
+pub no_room : (s : Prices) (n : ℕ) → n < PRICES → IsShaped s.pages → (HasRoom s n → ⊥) → length (page_at s.pages (n / PAGE_PRICES)) ≡ 0
 no_room s n small shaped none =
-    elim (cases_eq (length (page_at s.pages (n / 16384))) 0) [
+    elim (cases_eq (length (page_at s.pages (n / PAGE_PRICES))) 0) [
       | inl absent ↦ absent
       | inr there ↦ absurd (none (has_room s n small shaped (omega arith)))
     ]
 
 -- a page is made for price n in `base`, whose words are those of the set
-module _ (old : Prices) (base : List (List ℕ)) (n : ℕ) (small : n < 1048576) (page : List ℕ) (filled : page ≡ replicate 256 0) (count : length base ≡ 66) (absent : length (page_at base (n / 16384)) ≡ 0) (shaped : IsShaped base) (same : (w : ℕ) → word base w ≡ word old.pages w) where
-  inside : n / 16384 < length base
+module _ (old : Prices) (base : List (List ℕ)) (n : ℕ) (small : n < PRICES) (page : List ℕ) (filled : page ≡ replicate PAGE_WORDS 0) (count : length base ≡ PAGES) (absent : length (page_at base (n / PAGE_PRICES)) ≡ 0) (shaped : IsShaped base) (same : (w : ℕ) → word base w ≡ word old.pages w) where
+  inside : n / PAGE_PRICES < length base
   inside = rw count (omega arith)
 
-  same_words : (w : ℕ) → word (set base (n / 16384) page) w ≡ word old.pages w
+  same_words : (w : ℕ) → word (set base (n / PAGE_PRICES) page) w ≡ word old.pages w
   same_words w = word-unchanged base n small page filled inside absent w ∙ same w
 
-  pub made_room : HasRoom (record { pages = set base (n / 16384) page }) n
+  pub made_room : HasRoom (record { pages = set base (n / PAGE_PRICES) page }) n
   unfolding HasRoom
   made_room = room-made base n small page filled inside absent
 
-  pub made_same : (m : ℕ) → has (record { pages = set base (n / 16384) page }) m ≡ has old m
-  made_same m = same_members old (record { pages = set base (n / 16384) page }) same_words m
+  pub made_same : (m : ℕ) → has (record { pages = set base (n / PAGE_PRICES) page }) m ≡ has old m
+  made_same m = same_members old (record { pages = set base (n / PAGE_PRICES) page }) same_words m
 
-  pub made_sound : AreMarksSound old.pages → AreMarksSound (set base (n / 16384) page)
-  made_sound sound = same_sound old.pages (set base (n / 16384) page) same_words sound
+  pub made_sound : AreMarksSound old.pages → AreMarksSound (set base (n / PAGE_PRICES) page)
+  made_sound sound = same_sound old.pages (set base (n / PAGE_PRICES) page) same_words sound
 
-  pub made_shaped : IsShaped (set base (n / 16384) page)
+  pub made_shaped : IsShaped (set base (n / PAGE_PRICES) page)
   made_shaped = shaped_made base n small page filled inside absent count shaped
 
-  pub made_kept : (m : ℕ) → HasRoom (record { pages = base }) m → HasRoom (record { pages = set base (n / 16384) page }) m
+  pub made_kept : (m : ℕ) → HasRoom (record { pages = base }) m → HasRoom (record { pages = set base (n / PAGE_PRICES) page }) m
   unfolding HasRoom
   made_kept m room = room-kept base n small page filled inside absent (m / 64) room

@@ -5,6 +5,7 @@ use Rattle.slab.specs.Slab.{Slab, get, HasRoomFor}
 use Rattle.xm_prices.specs.Map as map
 use Rattle.xm_prices.specs.Set as set
 use Rattle.xm_prices.specs.declared.levels.Priced.{Priced}
+use Rattle.xm_prices.specs.declared.marks.TheConstants.{PRICES}
 
 -- what a ladder holds, and for what it has room
 pub record LevelsView (L : Type 0) : Type 0 where
@@ -30,7 +31,7 @@ module _ {L : Type 0} where
 
   -- a level of this price lies under the key
   pub record Lies (slab : Slab (Priced L)) (p k : ℕ) : Type 0 where
-    pub within : p < 1048576
+    pub within : p < PRICES
     pub level : L
     pub there : get slab k ≡ Some (record { price = p; level = level })
 
@@ -40,19 +41,19 @@ module _ {L : Type 0} where
     pub lies : (p k : ℕ) → map.value_at keys p ≡ Some k → Lies slab p k
 
   pub record IsFirstLevel (l : LevelsView L) (p : ℕ) : Type 0 where
-    pub within : p < 1048576
+    pub within : p < PRICES
     pub there : IsSome (level_at l p)
     pub first : (q : ℕ) → q < p → level_at l q ≡ None
 
   pub record IsLastLevel (l : LevelsView L) (p : ℕ) : Type 0 where
-    pub within : p < 1048576
+    pub within : p < PRICES
     pub there : IsSome (level_at l p)
     pub last : (q : ℕ) → p < q → level_at l q ≡ None
 
   -- the first level above price n is that of price p
   pub record IsLevelAbove (l : LevelsView L) (n p : ℕ) : Type 0 where
     pub above : n < p
-    pub within : p < 1048576
+    pub within : p < PRICES
     pub there : IsSome (level_at l p)
     pub first : (q : ℕ) → n < q → q < p → level_at l q ≡ None
 

@@ -1,10 +1,11 @@
--- Bits of words, and the tree that they form: bit 1048576 + w says whether word w has a bit.
+-- Bits of words, and the tree that they form: bit UPPER + w says whether word w has a bit.
 use Rattle.std.specs.Prelude.{◌≡◌, ◌≢◌, ◌⊎◌, ℕ, ◌+◌, ◌/◌, ◌%◌, ◌<◌, ◌≤◌, List}
 use Rattle.std.specs.Int.{bit_at}
 use Rattle.xm_prices.specs.declared.marks.Mark.{Mark}
 use Rattle.xm_prices.specs.declared.marks.Mark.TheVariants.{Clear, Set}
 use Rattle.xm_prices.specs.Slots.{SameShape}
 use Rattle.xm_prices.specs.Words.{word, HasWord}
+use Rattle.xm_prices.specs.declared.marks.TheConstants.{FOURTH_LEVEL, LOWER_WORDS, PLACES, ROOT, THIRD_LEVEL, UPPER}
 
 -- the bit at a place
 abbrev pub mark : List (List ℕ) → ℕ → ℕ
@@ -30,7 +31,7 @@ pub record IsBitBelow (word k b : ℕ) : Type 0 where
 -- where a level of the tree begins and ends
 abbrev pub IsLevel : ℕ → ℕ → Type 0
 IsLevel start end =
-    ((start ≡ 0) × (end ≡ 1048576)) ⊎ (((start ≡ 1048576) × (end ≡ 1064960)) ⊎ (((start ≡ 1064960) × (end ≡ 1065216)) ⊎ ((start ≡ 1065216) × (end ≡ 1065220))))
+    ((start ≡ 0) × (end ≡ UPPER)) ⊎ (((start ≡ UPPER) × (end ≡ THIRD_LEVEL)) ⊎ (((start ≡ THIRD_LEVEL) × (end ≡ FOURTH_LEVEL)) ⊎ ((start ≡ FOURTH_LEVEL) × (end ≡ PLACES))))
 
 -- no place of its level above place p is marked
 abbrev pub IsClearAbove : List (List ℕ) → ℕ → Type 0
@@ -65,20 +66,20 @@ pub record Agrees (v word : ℕ) : Type 0 where
 
 -- the bit for word w says whether it has a bit
 abbrev pub IsTied : List (List ℕ) → ℕ → Type 0
-IsTied pages w = Agrees (mark pages (1048576 + w)) (word pages w)
+IsTied pages w = Agrees (mark pages (UPPER + w)) (word pages w)
 
 -- each word but the root is tied, and no place past the last one's is marked
 pub record AreMarksSound (pages : List (List ℕ)) : Type 0 where
-  pub tied : (w : ℕ) → w < 16644 → IsTied pages w
-  pub top : (j : ℕ) → 1065220 ≤ j → mark pages j ≡ 0
+  pub tied : (w : ℕ) → w < ROOT → IsTied pages w
+  pub top : (j : ℕ) → PLACES ≤ j → mark pages j ≡ 0
 
 -- the tree is sound once place p has bit v, and the words that this may change are there
 pub record IsMarkReady (pages : List (List ℕ)) (p v : ℕ) : Type 0 where
   pub there : HasWord pages (p / 64)
-  pub upper : (w : ℕ) → 16384 ≤ w → w < 16645 → HasWord pages w
-  pub tied : (w : ℕ) → w < 16644 → 1048576 + w ≢ p → IsTied pages w
-  pub top : (j : ℕ) → 1065220 ≤ j → mark pages j ≡ 0
-  pub stands : (w : ℕ) → 1048576 + w ≡ p → Agrees v (word pages w)
+  pub upper : (w : ℕ) → LOWER_WORDS ≤ w → w ≤ ROOT → HasWord pages w
+  pub tied : (w : ℕ) → w < ROOT → UPPER + w ≢ p → IsTied pages w
+  pub top : (j : ℕ) → PLACES ≤ j → mark pages j ≡ 0
+  pub stands : (w : ℕ) → UPPER + w ≡ p → Agrees v (word pages w)
 
 -- place p has bit v, and no other bit has changed
 pub record IsPut (old new : List (List ℕ)) (p v : ℕ) : Type 0 where
@@ -93,5 +94,5 @@ pub record IsChanged (old new : List (List ℕ)) (p v : ℕ) : Type 0 where
   pub sound : AreMarksSound new
   pub marked : mark new p ≡ v
   pub same : (j : ℕ) → j / 64 ≡ p / 64 → j ≢ p → mark new j ≡ mark old j
-  pub others : (w : ℕ) → w < 16384 + p / 4096 → w ≢ p / 64 → word new w ≡ word old w
+  pub others : (w : ℕ) → w < (UPPER + p / 64) / 64 → w ≢ p / 64 → word new w ≡ word old w
   pub shape : SameShape old new

@@ -2,6 +2,7 @@
 use Rattle.std.specs.Prelude.{◌≡◌, ◌==◌, ℕ, ◌/◌, ◌<◌, Bool, List, if◌then◌else◌, nat_lt, true, false}
 use Rattle.xm_prices.specs.Marks.{mark}
 use Rattle.xm_prices.specs.Words.{HasWord}
+use Rattle.xm_prices.specs.declared.marks.TheConstants.{PRICES}
 
 -- what a set has, and for which prices it has room
 pub record Prices : Type 0 where
@@ -9,7 +10,7 @@ pub record Prices : Type 0 where
 
 -- the set has the price
 unfoldable pub has : Prices → ℕ → Bool
-has s n = if nat_lt n 1048576 then mark s.pages n == 1 else false
+has s n = if nat_lt n PRICES then mark s.pages n == 1 else false
 
 -- the price can join and leave the set with no memory
 unfoldable pub HasRoom : Prices → ℕ → Type 0
@@ -18,7 +19,7 @@ HasRoom s n = HasWord s.pages (n / 64)
 -- price m is the first of the set above price n
 pub record IsNextAbove (s : Prices) (n m : ℕ) : Type 0 where
   pub above : n < m
-  pub within : m < 1048576
+  pub within : m < PRICES
   pub member : has s m ≡ true
   pub first : (k : ℕ) → n < k → k < m → has s k ≡ false
 
@@ -30,12 +31,12 @@ pub record IsNextBelow (s : Prices) (n m : ℕ) : Type 0 where
 
 -- price m is the first of the set
 pub record IsFirstPrice (s : Prices) (m : ℕ) : Type 0 where
-  pub within : m < 1048576
+  pub within : m < PRICES
   pub member : has s m ≡ true
   pub first : (k : ℕ) → k < m → has s k ≡ false
 
 -- price m is the last of the set
 pub record IsLastPrice (s : Prices) (m : ℕ) : Type 0 where
-  pub within : m < 1048576
+  pub within : m < PRICES
   pub member : has s m ≡ true
   pub last : (k : ℕ) → m < k → has s k ≡ false

@@ -1,6 +1,7 @@
 //! The tree of words: the lower words have a bit for each price, and each further bit says whether a
 //! word has a bit.
 ghost use Rattle.std.specs.Prelude.{◌≡◌, ℕ, ◌+◌, ◌/◌, ◌<◌, ◌≤◌, IfNone, IfSome};
+ghost use Rattle.xm_prices.specs.declared.marks.TheConstants.{PLACES};
 ghost use Rattle.xm_prices.specs.Marks.{mark, bit_of, IsAbove, IsBelow, IsClearAbove, IsClearBelow, AreMarksSound, IsMarkReady, IsChanged};
 
 use crate::bits::{bit_above, bit_below, first_bit, last_bit};
@@ -11,10 +12,22 @@ use std::alloc::Allocator;
 /// Prices are the numbers below this one.
 pub const PRICES: u32 = 1_048_576;
 
-/// The place that stands for word 0: place `UPPER + w` stands for word `w`.
+/// The place that stands for word 0: place `UPPER + w` stands for word `w`. The places of the prices' words begin here.
 const UPPER: usize = 1_048_576;
 
-/// The word that no place stands for.
+/// The first place that stands for a word of those places, and so the end of their level.
+const THIRD_LEVEL: usize = 1_064_960;
+
+/// The first place that stands for a word of the third level.
+const FOURTH_LEVEL: usize = 1_065_216;
+
+/// Places are the numbers below this one. The last ones are of the word that no place stands for.
+const PLACES: usize = 1_065_220;
+
+/// How many words have the bits of the prices. The words of the places above come after them.
+const LOWER_WORDS: usize = 16_384;
+
+/// The word that no place stands for, which is the last one.
 const ROOT: usize = 16_644;
 
 /// What a place is to have.
@@ -27,7 +40,7 @@ pub enum Mark {
 /// The first marked place above `place`.
 pub fn place_above<A: Allocator>(pages: &[Page<u64, A>], place: usize) -> Option<usize>
     requires sound { AreMarksSound pages.now }
-    requires place { place < 1065220 }
+    requires place { place < PLACES }
     ensures some { IfSome result (IsAbove pages.now place) }
     ensures none { IfNone result (IsClearAbove pages.now place) }
 {
@@ -47,7 +60,7 @@ pub fn place_above<A: Allocator>(pages: &[Page<u64, A>], place: usize) -> Option
 /// The last marked place below `place`.
 pub fn place_below<A: Allocator>(pages: &[Page<u64, A>], place: usize) -> Option<usize>
     requires sound { AreMarksSound pages.now }
-    requires place { place < 1065220 }
+    requires place { place < PLACES }
     ensures some { IfSome result (IsBelow pages.now place) }
     ensures none { IfNone result (IsClearBelow pages.now place) }
 {
@@ -67,7 +80,7 @@ pub fn place_below<A: Allocator>(pages: &[Page<u64, A>], place: usize) -> Option
 /// Changes the bit of a place, and those of the places that stand for its word, as far as needed.
 pub fn put_mark<A: Allocator>(pages: &mut [Page<u64, A>], place: usize, mark: Mark)
     requires ready { IsMarkReady pages.old place (bit_of mark) }
-    requires place { place < 1065220 }
+    requires place { place < PLACES }
     ensures { IsChanged pages.old pages.new place (bit_of mark) }
 {
     let w = place / 64;

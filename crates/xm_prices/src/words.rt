@@ -4,6 +4,7 @@ ghost use Rattle.xm_prices.specs.Marks.{IsPut, bit_of};
 ghost use Rattle.std.specs.Int.{bit_at};
 ghost use Rattle.xm_prices.specs.Slots.{page_at};
 ghost use Rattle.xm_prices.specs.Words.{HasWord, IsShaped, word};
+ghost use Rattle.xm_prices.specs.declared.words.TheConstants.{LOWER_PAGES, PAGES};
 
 use crate::marks::Mark;
 use crate::page::{Page, absent_pages, slot_at};
@@ -25,9 +26,9 @@ const LAST_PAGE_WORDS: usize = 5;
 /// The pages of a set that has room for no price yet.
 pub fn unused_pages<A: Allocator + Copy>(alloc: A) -> Result<Vec<Page<u64, A>, A>, OutOfMemory>
     ensures shaped { IfOk result (λ pages. IsShaped pages.items) }
-    ensures count { IfOk result (λ pages. length pages.items ≡ 66) }
+    ensures count { IfOk result (λ pages. length pages.items ≡ PAGES) }
     ensures clear { IfOk result (λ pages. (w : ℕ) → word pages.items w ≡ 0) }
-    ensures absent { IfOk result (λ pages. (i : ℕ) → i < 64 → length (page_at pages.items i) ≡ 0) }
+    ensures absent { IfOk result (λ pages. (i : ℕ) → i < LOWER_PAGES → length (page_at pages.items i) ≡ 0) }
 {
     let mut pages = absent_pages(alloc, PAGES)?;
     pages[LOWER_PAGES] = Page::filled(alloc, PAGE_WORDS, 0)?;

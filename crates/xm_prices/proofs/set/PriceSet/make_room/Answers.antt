@@ -4,6 +4,7 @@ use Rattle.xm_prices.proofs.Paging.{none_if, some_if}
 use Rattle.xm_prices.proofs.Stored.{word_none}
 use Rattle.xm_prices.proofs.Rooms.{no_room, room_inside, made_room, made_same, made_sound, made_shaped, made_kept}
 use Rattle.xm_prices.proofs.set.PriceSet.make_room.Goals as goal
+use Rattle.xm_prices.specs.declared.set.TheConstants.{PAGE_PRICES}
 
 pub index_mut-requires : goal.index_mut-requires
 index_mut-requires g c = rw (c.in_ok-pages.pages.ok.0, c.in_ok-pages.ensures.count) (omega arith)
@@ -13,9 +14,9 @@ invariant_of-self g c =
     let none = sym c.self.inside.pages.ok.0 ∙ none_if c.self.inside.pages.len c.is_empty.result c.is_empty.ensures c.if-is_empty.true in
     record {
       sound = made_sound (record { pages = c.self.inside.pages.items }) c.in_ok-pages.pages.items c.args.price c.requires.in_range c.in_ok-page.page c.in_ok-page.ensures
-          c.in_ok-pages.ensures.count (c.in_ok-pages.ensures.absent (c.args.price / 16384) (omega arith)) c.in_ok-pages.ensures.shaped (λ w. c.in_ok-pages.ensures.clear w ∙ sym (word_none c.self.inside.pages.items none w)) c.self.invariant.sound;
+          c.in_ok-pages.ensures.count (c.in_ok-pages.ensures.absent (c.args.price / PAGE_PRICES) (omega arith)) c.in_ok-pages.ensures.shaped (λ w. c.in_ok-pages.ensures.clear w ∙ sym (word_none c.self.inside.pages.items none w)) c.self.invariant.sound;
       shaped = made_shaped (record { pages = c.self.inside.pages.items }) c.in_ok-pages.pages.items c.args.price c.requires.in_range c.in_ok-page.page c.in_ok-page.ensures
-          c.in_ok-pages.ensures.count (c.in_ok-pages.ensures.absent (c.args.price / 16384) (omega arith)) c.in_ok-pages.ensures.shaped (λ w. c.in_ok-pages.ensures.clear w ∙ sym (word_none c.self.inside.pages.items none w));
+          c.in_ok-pages.ensures.count (c.in_ok-pages.ensures.absent (c.args.price / PAGE_PRICES) (omega arith)) c.in_ok-pages.ensures.shaped (λ w. c.in_ok-pages.ensures.clear w ∙ sym (word_none c.self.inside.pages.items none w));
     }
 
 pub index_mut-requires-2 : goal.index_mut-requires-2
@@ -40,7 +41,7 @@ pub returns-then-is_empty-clause-room : goal.returns-then-is_empty-clause-room
 returns-then-is_empty-clause-room g c =
     let none = sym c.self.inside.pages.ok.0 ∙ none_if c.self.inside.pages.len c.is_empty.result c.is_empty.ensures c.if-is_empty.true in
     made_room (record { pages = c.self.inside.pages.items }) c.in_ok-pages.pages.items c.args.price c.requires.in_range c.in_ok-page.page c.in_ok-page.ensures
-    c.in_ok-pages.ensures.count (c.in_ok-pages.ensures.absent (c.args.price / 16384) (omega arith)) c.in_ok-pages.ensures.shaped (λ w. c.in_ok-pages.ensures.clear w ∙ sym (word_none c.self.inside.pages.items none w))
+    c.in_ok-pages.ensures.count (c.in_ok-pages.ensures.absent (c.args.price / PAGE_PRICES) (omega arith)) c.in_ok-pages.ensures.shaped (λ w. c.in_ok-pages.ensures.clear w ∙ sym (word_none c.self.inside.pages.items none w))
 
 pub returns-then-is_empty-clause-kept : goal.returns-then-is_empty-clause-kept
 returns-then-is_empty-clause-kept g c =
@@ -51,7 +52,7 @@ pub returns-then-is_empty-clause-same : goal.returns-then-is_empty-clause-same
 returns-then-is_empty-clause-same g c =
     let none = sym c.self.inside.pages.ok.0 ∙ none_if c.self.inside.pages.len c.is_empty.result c.is_empty.ensures c.if-is_empty.true in
     λ p. made_same (record { pages = c.self.inside.pages.items }) c.in_ok-pages.pages.items c.args.price c.requires.in_range c.in_ok-page.page c.in_ok-page.ensures
-    c.in_ok-pages.ensures.count (c.in_ok-pages.ensures.absent (c.args.price / 16384) (omega arith)) c.in_ok-pages.ensures.shaped (λ w. c.in_ok-pages.ensures.clear w ∙ sym (word_none c.self.inside.pages.items none w)) p ∙ ap (λ (s : Prices). has s p) c.self.view_is
+    c.in_ok-pages.ensures.count (c.in_ok-pages.ensures.absent (c.args.price / PAGE_PRICES) (omega arith)) c.in_ok-pages.ensures.shaped (λ w. c.in_ok-pages.ensures.clear w ∙ sym (word_none c.self.inside.pages.items none w)) p ∙ ap (λ (s : Prices). has s p) c.self.view_is
 
 pub returns-clause-room : goal.returns-clause-room
 returns-clause-room g c =
