@@ -25,6 +25,7 @@ pub mod Positions
 pub mod Prices
 pub mod PricesInRange
 pub mod Queues
+pub mod Ranges
 pub mod ReachedStops
 pub mod Remaining
 pub mod Replays

@@ -1,9 +1,8 @@
 -- All trade prices of a lawful journal are in range, where its opening reference is.
-use Rattle.std.proofs.Common.{◌≡◌, ℕ, ◌≤◌, true, List, [], ◌∷◌, ◌++◌, All, IfSome, filter, get_or, map, Option, Some, None, refl, sym, subst, arith}
+use Rattle.std.proofs.Common.{◌≡◌, ℕ, ◌≤◌, true, List, [], ◌∷◌, ◌++◌, All, IfSome, filter, get_or, map, Option, Some, None, refl, sym, subst}
 use Rattle.std.specs.Option.{option_to_list}
 use Rattle.std.specs.Prelude.{nat_lt}
 use Rattle.std.proofs.lemmas.Bool.{and_parts}
-use Rattle.std.proofs.lemmas.Bool.Decides.{nat_tests}
 use Rattle.std.proofs.lemmas.List.Elements.{All-nil, All-cons, All-head, All-tail, All-append, All-filter, All-map, All-weaker}
 use Rattle.xm_ticks.specs.declared.numbers.TheConstants.{MAX_JOURNAL_LIMIT, MAX_PRICE}
 use Rattle.xm_rules.specs.Active.{Positioned, active, is_active_on, limits, positioned_from}
@@ -36,6 +35,7 @@ use Rattle.xm_rules.proofs.Choices.{best_from_has}
 use Rattle.xm_rules.proofs.DayLimits.{within_limits}
 use Rattle.xm_rules.proofs.EachKept.{AreKept, Holds, lawful-holds, placed}
 use Rattle.xm_rules.proofs.Prices.{price_within}
+use Rattle.xm_rules.proofs.Ranges.{range_high}
 
 abbrev InRange : ℕ → Type 0
 InRange price = price ≤ MAX_PRICE
@@ -53,9 +53,6 @@ abbrev IsPriced : Trade → Type 0
 IsPriced t = InRange t.price
 
 -- ---- limits that commands give
-range_high : (n : ℕ) → is_in_range n ≡ true → InRange n
-range_high n e = grind (arith, nat_tests)
-
 limit-entered : (k : Kind) → has_prices_in_range k ≡ true → HasLimit (order_kind k)
 limit-entered kind.Market e = tt
 limit-entered (kind.Limit p) e = range_high p e

@@ -70,15 +70,15 @@ money_at p (t ∷ ts) h =
     distributes p q r = omega arith
 
 -- trades whose quantities are in range, and those whose prices are
-pub quantity_within : (ts : List Trade) → All (λ (t : Trade). t.quantity ≤ MAX_QUANTITY) ts → total_quantity ts ≤ 1000000 * length ts
+pub quantity_within : (ts : List Trade) → All (λ (t : Trade). t.quantity ≤ MAX_QUANTITY) ts → total_quantity ts ≤ MAX_QUANTITY * length ts
 quantity_within [] h = omega arith
 quantity_within (t ∷ ts) h =
-    let first : t.quantity ≤ 1000000 = All-head (λ (t : Trade). t.quantity ≤ MAX_QUANTITY) t ts h in
+    let first : t.quantity ≤ MAX_QUANTITY = All-head (λ (t : Trade). t.quantity ≤ MAX_QUANTITY) t ts h in
     omega (arith, first, quantity_within ts (All-tail (λ (t : Trade). t.quantity ≤ MAX_QUANTITY) t ts h), sum_by-cons (λ (t : Trade). t.quantity) t ts)
 
-pub money_within : (ts : List Trade) → All (λ (t : Trade). t.price ≤ MAX_PRICE) ts → total_money ts ≤ 1000000 * total_quantity ts
+pub money_within : (ts : List Trade) → All (λ (t : Trade). t.price ≤ MAX_PRICE) ts → total_money ts ≤ MAX_PRICE * total_quantity ts
 money_within [] h = omega arith
 money_within (t ∷ ts) h =
-    let first : t.price ≤ 1000000 = All-head (λ (t : Trade). t.price ≤ MAX_PRICE) t ts h in
-    let one : t.price * t.quantity ≤ 1000000 * t.quantity = mul-le t.price t.quantity 1000000 t.quantity first (omega arith) in
+    let first : t.price ≤ MAX_PRICE = All-head (λ (t : Trade). t.price ≤ MAX_PRICE) t ts h in
+    let one : t.price * t.quantity ≤ MAX_PRICE * t.quantity = mul-le t.price t.quantity MAX_PRICE t.quantity first (omega arith) in
     omega (arith, one, money_within ts (All-tail (λ (t : Trade). t.price ≤ MAX_PRICE) t ts h), sum_by-cons money_of t ts, sum_by-cons (λ (t : Trade). t.quantity) t ts)

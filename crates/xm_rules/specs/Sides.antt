@@ -18,10 +18,14 @@ abbrev pub reaches : Side → ℕ → ℕ → Bool
 reaches Buy p q = nat_le q p
 reaches Sell p q = nat_le p q
 
--- the best of a price and others: the highest on the buy side, the lowest on the sell side
+-- the better of two prices: the higher on the buy side, the lower on the sell side
+abbrev pub better : Side → ℕ → ℕ → ℕ
+better side p q = if reaches side p q then p else q
+
+-- the best of a price and others
 abbrev pub best_from : Side → ℕ → List ℕ → ℕ
 best_from side p [] = p
-best_from side p (q ∷ qs) = best_from side (if reaches side p q then p else q) qs
+best_from side p (q ∷ qs) = best_from side (better side p q) qs
 
 abbrev pub best : Side → List ℕ → Option ℕ
 best side [] = None

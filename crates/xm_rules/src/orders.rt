@@ -6,7 +6,7 @@ ghost use Rattle.xm_rules.specs.Orders.{accepts, limit_of, meets, trade_between}
 ghost use Rattle.xm_rules.specs.Priority.{is_better};
 ghost use Rattle.xm_rules.specs.Refusals.{is_given_in_range, is_limit_for_market};
 ghost use Rattle.xm_rules.specs.Settling.{is_free, is_reached, order_of_stop};
-ghost use Rattle.xm_rules.specs.Sides.{opposite, reaches, same_side};
+ghost use Rattle.xm_rules.specs.Sides.{better, opposite, reaches, same_side};
 ghost use Rattle.xm_rules.specs.State.{is_auction};
 ghost use Rattle.xm_rules.specs.Step.{changed_kind, changed_order, keeps_priority, same_limit};
 ghost use Rattle.xm_rules.specs.Sums.{money_of};
@@ -46,6 +46,17 @@ impl Side {
         match self {
             Side::Buy => other <= price,
             Side::Sell => price <= other,
+        }
+    }
+
+    /// The better of two prices: the higher on the buy side, the lower on the sell side.
+    pub fn better(self, price: Price, other: Price) -> Price
+        ensures { result ≡ better self price other }
+    {
+        if self.reaches(price.get(), other.get()) {
+            price
+        } else {
+            other
         }
     }
 }
