@@ -2,7 +2,7 @@
 use Rattle.std.proofs.Common.{◌≡◌, ℕ, ◌+◌, ◌*◌, ◌<◌, ◌≤◌, Bool, true, false, not, if◌then◌else◌, List, [], ◌∷◌, length, All, Contains, Option, Some, None, sum_by, refl, ap, sym, ◌∙◌, subst, arith, ◌==◌, ◌⊎◌, inl, inr, ◌++◌}
 use Rattle.std.specs.List.{list_all}
 use Rattle.std.specs.Prelude.{nat_le, option_map, IfSome}
-use Rattle.std.proofs.lemmas.Bool.{both_ways, not-true, not_from_false, not_from_true, false_from_ne_true, and_parts, leb-true}
+use Rattle.std.proofs.lemmas.Bool.{both_ways, not-true, not_from_false, not_from_true, false_from_ne_true, and_parts}
 use Rattle.std.proofs.lemmas.Bool.Decides.{nat_tests}
 use Rattle.std.proofs.lemmas.List.Elements.{All-contains_itself, All-weaker, Contains-append_cases, Contains-append_left, Contains-append_right, filter_map-append}
 use Rattle.std.proofs.lemmas.List.Sums.{sum_by-cons, sum_by-le-sum_by}
@@ -24,7 +24,9 @@ use Rattle.xm_rules.specs.declared.orders.Side.TheVariants.{Buy, Sell}
 use Rattle.xm_rules.specs.declared.phases.Phase.{Phase}
 use Rattle.xm_rules.proofs.Orderings.{sum-filter}
 use Rattle.xm_rules.proofs.Queues.{units, if_le}
+use Rattle.xm_rules.proofs.Ranges.{range_high}
 use Rattle.xm_rules.proofs.Sums.{sum-add, sum-same, sum-le, sum-gap}
+use Rattle.xm_ticks.specs.declared.numbers.TheConstants.{MAX_QUANTITY}
 
 -- an order of this kind is counted down to a limit
 abbrev pub counted : Side → Option ℕ → OrderKind → Bool
@@ -212,12 +214,11 @@ fewer-left phase side after orders p n next =
 abbrev IsRest : Order → Bool
 IsRest o = is_in_range o.rest
 
-rests_sum : (orders : List Order) → list_all (λ (o : Order). is_in_range o.rest) orders ≡ true → sum_by (λ (o : Order). o.rest) orders ≤ 1000000 * length orders
+rests_sum : (orders : List Order) → list_all (λ (o : Order). is_in_range o.rest) orders ≡ true → sum_by (λ (o : Order). o.rest) orders ≤ MAX_QUANTITY * length orders
 rests_sum [] h = omega arith
 rests_sum (o ∷ os) h =
     let parts = and_parts (is_in_range o.rest) (list_all (λ (o : Order). is_in_range o.rest) os) h in
-    let bounds = and_parts (nat_le 1 o.rest) (nat_le o.rest 1000000) parts.0 in
-    omega (arith, sum_by-cons (λ (o : Order). o.rest) o os, rests_sum os parts.1, leb-true o.rest 1000000 bounds.1)
+    omega (arith, sum_by-cons (λ (o : Order). o.rest) o os, rests_sum os parts.1, range_high o.rest parts.0)
 
 placed_sum : (n : ℕ) (orders : List Order) → sum_by units (positioned_from n orders) ≡ sum_by (λ (o : Order). o.rest) orders
 placed_sum n [] = refl
@@ -230,7 +231,7 @@ if_some false n = omega arith
 
 -- a side has no more units than all rests together
 pub accepting-bounded : (phase : Phase) (orders : List Order) (side : Side) (x : ℕ) → list_all (λ (o : Order). is_in_range o.rest) orders ≡ true
-    → accepting phase orders side x ≤ 1000000 * length orders
+    → accepting phase orders side x ≤ MAX_QUANTITY * length orders
 accepting-bounded phase orders side x h =
     let queue = active phase side orders in
     let all = positioned_from 0 orders in

@@ -24,6 +24,7 @@ use Rattle.xm_rules.specs.declared.orders.OrderKind.{OrderKind}
 use Rattle.xm_rules.specs.declared.orders.Restriction.{Restriction}
 use Rattle.xm_rules.specs.declared.orders.Side.{Side}
 use Rattle.xm_rules.specs.declared.orders.Order.{Order}
+use Rattle.xm_book.specs.declared.places.TheConstants.{MAX_PLACES}
 
 module _ {A : Type 0} (xs : List (Listed Order)) (entries : SlotsView Order) (links : List Link) (ladders : Ladders A) (capacity : ℕ) (links' : List Link)
     (same : (ends : Ends) (keys : List ℕ) → IsQueue links ends keys → IsQueue links' ends keys) (fits : capacity ≤ key_limit links') (ladders' : Ladders A)
@@ -68,7 +69,7 @@ module _ {A : Type 0} (xs : List (Listed Order)) (entries : SlotsView Order) (li
         (subst (λ (l : LadderView). HasLevels l k (length ps + 1)) (λ i. ladder_on (sym restriction i) (side_of (sym side i) ladders')) (room k parts.1)))
     room_if s r k n false e lt = rooms s r k (n + 1) (h.levels_room s r k n (omega (arith, lt, kept-once (is_limit_in s r) false p ps qs gain e)))
 
-    pub grown-places : length xs + length ps < 2000000 → length xs + length ps + 1 ≤ capacity → HasPlaces xs qs roomier ladders'
+    pub grown-places : length xs + length ps < MAX_PLACES → length xs + length ps + 1 ≤ capacity → HasPlaces xs qs roomier ladders'
     grown-places few enough = record {
       within = omega (arith, few, Gains-length p ps qs gain);
       entries_room = omega (arith, enough, Gains-length p ps qs gain);

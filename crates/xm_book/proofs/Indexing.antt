@@ -3,8 +3,7 @@ use Rattle.xm_slots.proofs.Naming.{IsNamedAt, find-map, items-kept, key_of-other
 use Rattle.xm_slots.specs.Naming.{has_name, have_own_names, key_by_name}
 use Rattle.std.proofs.Common.{◌≡◌, ℕ, ◌+◌, ◌-◌, ◌<◌, ◌≤◌, Bool, true, false, not, ◌&&◌, ◌==◌, if◌then◌else◌, List, [], ◌∷◌, ◌++◌, length, map, filter, find, count_by, Contains, Option, Some, None, option_map, IfSome, refl, sym, ap, ◌∙◌, subst, arith}
 use Rattle.std.specs.List.{list_all, list_any}
-use Rattle.std.specs.Prelude.{nat_le}
-use Rattle.std.proofs.lemmas.Bool.{and_parts, leb-true}
+use Rattle.std.proofs.lemmas.Bool.{and_parts}
 use Rattle.std.proofs.lemmas.Bool.Decides.{nat_tests}
 use Rattle.std.proofs.lemmas.List.{length-append, length-map, map-append}
 use Rattle.xm_book.specs.Indexed.{AreOrdersIndexed, is_for}
@@ -27,6 +26,8 @@ use Rattle.xm_queues.specs.Keys.{AreDistinct}
 use Rattle.xm_rules.specs.Commands.{is_in_range}
 use Rattle.xm_rules.specs.Orders.{is_named, removed, with_rest, without_member}
 use Rattle.xm_rules.specs.declared.orders.Order.{Order}
+use Rattle.xm_rules.proofs.Ranges.{range_high, range_within}
+use Rattle.xm_book.specs.declared.places.TheConstants.{MAX_PLACES}
 
 -- ---- a member's places
 turned : (m n : ℕ) → (m == n) ≡ (n == m)
@@ -35,12 +36,6 @@ turned m n = grind (arith, nat_tests)
 pub count-for : (member : ℕ) (p : Place) (ps qs : List Place) → Gains p ps qs → count_by (is_for member) qs ≡ (if member == p.member then 1 else 0) + count_by (is_for member) ps
 count-for member p ps qs gain =
     gain.counts (is_for member) ∙ count_one (is_for member) p ps ∙ ap (λ (b : Bool). (if b then 1 else 0) + count_by (is_for member) ps) (turned p.member member)
-
-in_range : (rest : ℕ) → 1 ≤ rest → rest ≤ 1000000 → is_in_range rest ≡ true
-in_range rest low high = grind (arith, nat_tests)
-
-range-high : (rest : ℕ) → is_in_range rest ≡ true → rest ≤ 1000000
-range-high rest h = leb-true rest 1000000 (and_parts (nat_le 1 rest) (nat_le rest 1000000) h).1
 
 all-at : (p : Order → Bool) (os : List Order) (o : Order) → list_all p os ≡ true → (q : Order → Bool) → find q os ≡ Some o → p o ≡ true
 all-at p [] o h q f = absurd (cc)
@@ -79,7 +74,7 @@ module _ (q : QueuedOrders) (names : List (ℕ × NamesOfMember)) (h : AreOrders
 
   -- ---- places
   module _ (p : Place) (q' : QueuedOrders) (rest : q' ≡ record q { reserved = q'.reserved }) (names' : List (ℕ × NamesOfMember)) (same : (m r : ℕ) → lookup names' m r ≡ lookup names m r) where
-    pub place-gained : Gains p q.reserved q'.reserved → length os + length q.reserved < 2000000 → ((m : ℕ) → room names' m ≡ (if m == p.member then room names m + 1 else room names m)) → AreOrdersIndexed q' names'
+    pub place-gained : Gains p q.reserved q'.reserved → length os + length q.reserved < MAX_PLACES → ((m : ℕ) → room names' m ≡ (if m == p.member then room names m + 1 else room names m)) → AreOrdersIndexed q' names'
     place-gained gain few more = subst (λ (v : QueuedOrders). AreOrdersIndexed v names') (sym rest) (record {
       named = λ m r. same m r ∙ h.named m r;
       names_room = λ m. room_if (m == p.member) m (count-for m p q.reserved q'.reserved gain) (more m);
@@ -234,4 +229,4 @@ module _ (q : QueuedOrders) (names : List (ℕ × NamesOfMember)) (h : AreOrders
           old = all-at (λ (o : Order). is_in_range o.rest) os at.listed.item h.sound.rests (is_named member reference) found-order
 
           range : is_in_range rest ≡ true
-          range = in_range rest bounds.0 (omega (arith, bounds.1, range-high at.listed.item.rest old))
+          range = range_within rest bounds.0 (omega (arith, bounds.1, range_high at.listed.item.rest old))

@@ -1,9 +1,7 @@
 -- An order joins the queue of its level.
 use Rattle.std.proofs.Common.{◌≡◌, ℕ, suc, ◌+◌, ◌*◌, ◌<◌, ◌≤◌, Bool, true, false, ◌&&◌, if◌then◌else◌, List, [], ◌∷◌, ◌++◌, length, get_or, filter, Contains, Option, Some, None, refl, sym, ap, ◌∙◌, subst, arith}
 use Rattle.std.specs.List.{All}
-use Rattle.std.specs.Prelude.{nat_le}
-use Rattle.std.proofs.lemmas.Bool.{and_parts, and_from, eqb-true, false≢true, leb-true}
-use Rattle.xm_rules.specs.Commands.{is_in_range}
+use Rattle.std.proofs.lemmas.Bool.{and_parts, and_from, eqb-true, false≢true}
 use Rattle.std.proofs.lemmas.Bool.Decides.{nat_tests}
 use Rattle.std.proofs.lemmas.List.{append-nil, map-append, length-append}
 use Rattle.std.proofs.lemmas.List.Elements.{All-contains, Contains-get_or, All-append, All-cons, All-nil, filter-append}
@@ -35,9 +33,8 @@ use Rattle.xm_rules.specs.declared.orders.Side.{Side}
 use Rattle.xm_rules.specs.declared.orders.Side.TheVariants.{Buy, Sell}
 use Rattle.xm_slots.proofs.Tests.{length-kept, same_some, some_none}
 use Rattle.xm_slots.proofs.Distinct.{distinct-push}
-
-pub range-high : (rest : ℕ) → is_in_range rest ≡ true → rest ≤ 1000000
-range-high rest h = leb-true rest 1000000 (and_parts (nat_le 1 rest) (nat_le rest 1000000) h).1
+use Rattle.xm_ticks.specs.declared.numbers.TheConstants.{MAX_QUANTITY}
+use Rattle.xm_book.specs.declared.places.TheConstants.{MAX_PLACES}
 
 pub side-is : (s t : Side) → same_side s t ≡ true → s ≡ t
 side-is Buy Buy h = refl
@@ -111,15 +108,15 @@ found-level links None level ms f e = record {
 found-level links (Some x) level ms f e = subst (λ (l : Level). IsLevelOf links l ms) (sym f) e
 
 -- units of orders that are small
-pub units-few : (xs : List (Listed Order)) → All (λ (x : Listed Order). x.item.rest ≤ 1000000) xs → units_in xs ≤ 1000000 * length xs
+pub units-few : (xs : List (Listed Order)) → All (λ (x : Listed Order). x.item.rest ≤ MAX_QUANTITY) xs → units_in xs ≤ MAX_QUANTITY * length xs
 units-few [] h = omega arith
 units-few (x ∷ xs) h =
-    let first : x.item.rest ≤ 1000000 = h 0 x (omega arith) in
+    let first : x.item.rest ≤ MAX_QUANTITY = h 0 x (omega arith) in
     let rest = units-few xs (λ i d lt. h (suc i) d (omega arith)) in
     omega (arith, first, rest, sum_by-cons (λ (y : Listed Order). y.item.rest) x xs)
 
-small-kept : (p : Listed Order → Bool) (xs : List (Listed Order)) → All (λ (x : Listed Order). x.item.rest ≤ 1000000) xs → All (λ (x : Listed Order). x.item.rest ≤ 1000000) (filter p xs)
-small-kept p xs h = λ i d lt. (let at = Passes-filter p xs (get_or (filter p xs) i d) (Contains-get_or (filter p xs) i d lt) in All-contains (λ (x : Listed Order). x.item.rest ≤ 1000000) xs (get_or (filter p xs) i d) h at.contains)
+small-kept : (p : Listed Order → Bool) (xs : List (Listed Order)) → All (λ (x : Listed Order). x.item.rest ≤ MAX_QUANTITY) xs → All (λ (x : Listed Order). x.item.rest ≤ MAX_QUANTITY) (filter p xs)
+small-kept p xs h = λ i d lt. (let at = Passes-filter p xs (get_or (filter p xs) i d) (Contains-get_or (filter p xs) i d lt) in All-contains (λ (x : Listed Order). x.item.rest ≤ MAX_QUANTITY) xs (get_or (filter p xs) i d) h at.contains)
 
 module _ {A : Type 0} (xs : List (Listed Order)) (entries : SlotsView Order) (links : List Link) (ladders : Ladders A) (h : AreOrdersQueued xs entries links ladders) where
   -- each key of a level has an order
@@ -139,10 +136,10 @@ module _ {A : Type 0} (xs : List (Listed Order)) (entries : SlotsView Order) (li
     pub lacks : (key : ℕ) → get entries key ≡ None → LacksKey links level.ends key
     lacks key vacant = record { keys = keys_in (orders_of_level o.side o.restriction o.kind xs); queue = here.queue; absent = vacant-key (is_of_level o.side o.restriction o.kind) key vacant }
 
-    pub orders-fit : level.orders ≤ 2000000
+    pub orders-fit : level.orders ≤ MAX_PLACES
     orders-fit = omega (arith, here.orders, h.few, length-kept (is_of_level o.side o.restriction o.kind) xs)
 
-    pub units-fit : level.units ≤ 1000000 * 2000000
+    pub units-fit : level.units ≤ MAX_QUANTITY * MAX_PLACES
     units-fit = omega (arith, here.units, h.few, length-kept (is_of_level o.side o.restriction o.kind) xs, units-few (orders_of_level o.side o.restriction o.kind xs) (small-kept (is_of_level o.side o.restriction o.kind) xs h.small))
 
     pub apart : (s : Side) (r : Restriction) (k : OrderKind) → at_level s r k o ≡ false → AreApart (keys_in (orders_of_level o.side o.restriction o.kind xs)) (keys_in (orders_of_level s r k xs))
@@ -165,7 +162,7 @@ module _ {A : Type 0} (xs : List (Listed Order)) (entries : SlotsView Order) (li
         (others : (other : Ends) (keys keys' : List ℕ) → IsQueue links level.ends keys → IsQueue links other keys' → AreApart keys keys' → (Contains keys' key → ⊥) → IsQueue links' other keys')
         (limit : key_limit links' ≡ key_limit links) (ladders' : Ladders A)
         (puts : (s : Side) (r : Restriction) (k : OrderKind) → level_on (side_of s ladders') r k ≡ (if at_level s r k o then Some (record { ends = ends'; orders = level.orders + 1; units = level.units + o.rest }) else level_on (side_of s ladders) r k))
-        (few : length xs < 2000000) (small : o.rest ≤ 1000000)
+        (few : length xs < MAX_PLACES) (small : o.rest ≤ MAX_QUANTITY)
         (kind : HasKind (ladder_on o.restriction (side_of o.side ladders)) o.kind) (kinds-kept : (s : Side) (r : Restriction) (k : OrderKind) → HasKind (ladder_on r (side_of s ladders)) k → HasKind (ladder_on r (side_of s ladders')) k) where
       abbrev x : Listed Order
       x = record { key = key; time = time; item = o }
@@ -211,7 +208,7 @@ module _ {A : Type 0} (xs : List (Listed Order)) (entries : SlotsView Order) (li
         distinct = subst AreDistinct (sym (map-append (λ (y : Listed Order). y.key) xs (x ∷ []))) (distinct-push key (keys_in xs) h.distinct (λ c. (let made = IsMade-map (λ (y : Listed Order). y.key) xs key c in some_none (sym (All-contains (LiesAt entries) xs made.from h.lie made.contains) ∙ ap (get entries) made.made ∙ vacant))));
         count = omega (arith, len, h.count, length-append xs (x ∷ []));
         few = omega (arith, few, length-append xs (x ∷ []));
-        small = All-append (λ (y : Listed Order). y.item.rest ≤ 1000000) xs (x ∷ []) h.small (All-cons (λ (y : Listed Order). y.item.rest ≤ 1000000) x [] small (All-nil (λ (y : Listed Order). y.item.rest ≤ 1000000)));
+        small = All-append (λ (y : Listed Order). y.item.rest ≤ MAX_QUANTITY) xs (x ∷ []) h.small (All-cons (λ (y : Listed Order). y.item.rest ≤ MAX_QUANTITY) x [] small (All-nil (λ (y : Listed Order). y.item.rest ≤ MAX_QUANTITY)));
         kinds = All-append (HasItsKind ladders') xs (x ∷ []) (λ i d lt. (let y = get_or xs i d in kinds-kept y.item.side y.item.restriction y.item.kind (h.kinds i d lt)))
             (All-cons (HasItsKind ladders') x [] (kinds-kept o.side o.restriction o.kind kind) (All-nil (HasItsKind ladders')));
         levels = holds;

@@ -26,6 +26,7 @@ use Rattle.xm_rules.specs.declared.orders.OrderKind.{OrderKind}
 use Rattle.xm_rules.specs.declared.orders.OrderKind.TheVariants.{Market, Limit}
 use Rattle.xm_rules.specs.declared.orders.Restriction.{Restriction}
 use Rattle.xm_rules.specs.declared.orders.Side.{Side}
+use Rattle.xm_book.specs.declared.places.TheConstants.{MAX_PLACES}
 
 same-time : (key rest : ℕ) (x : Listed Order) → (reduced_at key rest x).time ≡ x.time
 same-time key rest x = same_if (nat_eq x.key key)
@@ -77,7 +78,7 @@ module _ {A : Type 0} (xs : List (Listed Order)) (ps : List Place) (entries : Sl
   pub some-place : 0 < length ps
   some-place = omega (arith, Gains-length (place_of o) qs ps gain)
 
-  pub few-orders : length xs < 2000000
+  pub few-orders : length xs < MAX_PLACES
   few-orders = omega (arith, h.within, some-place)
 
   pub kind-room : HasKind (ladder_on o.restriction (side_of o.side ladders)) o.kind

@@ -27,6 +27,7 @@ use Rattle.xm_rules.specs.declared.orders.OrderKind.{OrderKind}
 use Rattle.xm_rules.specs.declared.orders.Restriction.{Restriction}
 use Rattle.xm_rules.specs.declared.orders.Side.{Side}
 use Rattle.xm_slots.proofs.Leaving.{all-stay, distinct-left, filters, itself, keys-left, listed-at}
+use Rattle.xm_ticks.specs.declared.numbers.TheConstants.{MAX_QUANTITY}
 
 -- one order leaves, and its units
 pub record IsLess (x : Listed Order) (xs : List (Listed Order)) : Type 0 where
@@ -210,7 +211,7 @@ module _ {A : Type 0} (xs : List (Listed Order)) (entries : SlotsView Order) (li
         distinct = distinct-left key xs h.distinct;
         count = omega (arith, len, h.count, ap (λ (n : ℕ). length (filter (is_other_key n) xs) + 1) (sym (listed-at xs entries h.lie key at).2) ∙ whole.orders);
         few = omega (arith, h.few, ap (λ (n : ℕ). length (filter (is_other_key n) xs) + 1) (sym (listed-at xs entries h.lie key at).2) ∙ whole.orders);
-        small = kept-all (λ (y : Listed Order). y.item.rest ≤ 1000000) (λ y c t. All-contains (λ (z : Listed Order). z.item.rest ≤ 1000000) xs y h.small c);
+        small = kept-all (λ (y : Listed Order). y.item.rest ≤ MAX_QUANTITY) (λ y c t. All-contains (λ (z : Listed Order). z.item.rest ≤ MAX_QUANTITY) xs y h.small c);
         kinds = kept-all (HasItsKind ladders') (λ y c t. kinds-kept y.item.side y.item.restriction y.item.kind (All-contains (HasItsKind ladders) xs y h.kinds c));
         levels = holds;
         fits = omega (arith, cap, limit, h.fits);

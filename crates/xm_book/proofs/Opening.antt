@@ -13,6 +13,7 @@ use Rattle.xm_rules.specs.declared.orders.OrderKind.{OrderKind}
 use Rattle.xm_rules.specs.declared.orders.Restriction.{Restriction}
 use Rattle.xm_rules.specs.declared.orders.Side.{Side}
 use Rattle.xm_rules.specs.declared.orders.Order.{Order}
+use Rattle.xm_ticks.specs.declared.numbers.TheConstants.{MAX_QUANTITY}
 
 cleared : (links : List Link) (l : Option Level) → IsCleared l → HoldsLevel links l []
 cleared links None c = refl
@@ -26,7 +27,7 @@ opened links ladders none = record {
     distinct = tt;
     count = refl;
     few = omega arith;
-    small = All-nil (λ (x : Listed Order). x.item.rest ≤ 1000000);
+    small = All-nil (λ (x : Listed Order). x.item.rest ≤ MAX_QUANTITY);
     kinds = All-nil (HasItsKind ladders);
     levels = λ s r k. cleared links (level_on (side_of s ladders) r k) (none s r k);
     fits = omega arith;

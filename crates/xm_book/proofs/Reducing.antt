@@ -29,6 +29,7 @@ use Rattle.xm_rules.specs.declared.orders.OrderKind.{OrderKind}
 use Rattle.xm_rules.specs.declared.orders.Restriction.{Restriction}
 use Rattle.xm_rules.specs.declared.orders.Side.{Side}
 use Rattle.xm_rules.specs.declared.orders.Order.{Order}
+use Rattle.xm_ticks.specs.declared.numbers.TheConstants.{MAX_QUANTITY}
 
 pub no_room : {X : Type 0} (o : Option X) → o ≡ None → IsSome o → ⊥
 no_room None e s = search rules
@@ -150,7 +151,7 @@ module _ {A : Type 0} (xs : List (Listed Order)) (entries : SlotsView Order) (li
         ap (get entries') same ∙ u.changed ∙ ap (λ (w : Entry Order). Some (let o = w.item in record w { item = record o { rest = rest } })) is
     lies_if z false t l = u.others z.key (λ same. (let i : nat_eq z.key key ≡ true = ap (λ (n : ℕ). nat_eq n key) same ∙ itself key in cc)) ∙ l
 
-    small_if : (z : Listed Order) (b : Bool) → z.item.rest ≤ 1000000 → rest ≤ 1000000 → (lowered key rest b z).item.rest ≤ 1000000
+    small_if : (z : Listed Order) (b : Bool) → z.item.rest ≤ MAX_QUANTITY → rest ≤ MAX_QUANTITY → (lowered key rest b z).item.rest ≤ MAX_QUANTITY
     small_if z true s t = t
     small_if z false s t = s
 
@@ -158,13 +159,13 @@ module _ {A : Type 0} (xs : List (Listed Order)) (entries : SlotsView Order) (li
     kind_if z true k = kinds-kept z.item.side z.item.restriction z.item.kind k
     kind_if z false k = kinds-kept z.item.side z.item.restriction z.item.kind k
 
-    pub reduced-queued : rest ≤ 1000000 → AreOrdersQueued (map (reduced_at key rest) xs) entries' links ladders'
+    pub reduced-queued : rest ≤ MAX_QUANTITY → AreOrdersQueued (map (reduced_at key rest) xs) entries' links ladders'
     reduced-queued few = record {
       lie = All-map (LiesAt entries') (reduced_at key rest) xs (λ i d lt. (let z = get_or xs i d in lies_if z (nat_eq z.key key) refl (h.lie i d lt)));
       distinct = subst AreDistinct (sym (keys-reduced key rest xs)) h.distinct;
       count = len ∙ h.count ∙ sym (length-map xs (reduced_at key rest));
       few = omega (arith, h.few, length-map xs (reduced_at key rest));
-      small = All-map (λ (z : Listed Order). z.item.rest ≤ 1000000) (reduced_at key rest) xs (λ i d lt. (let z = get_or xs i d in small_if z (nat_eq z.key key) (h.small i d lt) few));
+      small = All-map (λ (z : Listed Order). z.item.rest ≤ MAX_QUANTITY) (reduced_at key rest) xs (λ i d lt. (let z = get_or xs i d in small_if z (nat_eq z.key key) (h.small i d lt) few));
       kinds = All-map (HasItsKind ladders') (reduced_at key rest) xs (λ i d lt. (let z = get_or xs i d in kind_if z (nat_eq z.key key) (h.kinds i d lt)));
       levels = holds;
       fits = omega (arith, cap, h.fits);

@@ -33,6 +33,8 @@ use Rattle.xm_rules.specs.declared.orders.Restriction.{Restriction}
 use Rattle.xm_rules.specs.declared.orders.Side.{Side}
 use Rattle.xm_rules.specs.declared.phases.Phase.{Phase}
 use Rattle.xm_rules.specs.declared.orders.Order.{Order}
+use Rattle.xm_ticks.specs.declared.numbers.TheConstants.{MAX_QUANTITY}
+use Rattle.xm_book.specs.declared.places.TheConstants.{MAX_PLACES}
 
 -- ---- the orders of a level
 no_order : (ms : List (Listed Order)) → length ms ≡ 0 → ms ≡ []
@@ -70,10 +72,10 @@ all-active phase side r k xs e = (λ i. filter (λ x. e i && is_of_level side r 
 pub units-inactive : (phase : Phase) (side : Side) (r : Restriction) (test : Listed Order → Bool) (xs : List (Listed Order)) → is_active phase r ≡ false → units_in (filter (is_in phase side r test) xs) ≡ 0
 units-inactive phase side r test xs e = ap units_in (filter_none (is_in phase side r test) xs (λ x c. none-active phase side r test e x))
 
-small-kept : (p : Listed Order → Bool) (xs : List (Listed Order)) → All (λ (x : Listed Order). x.item.rest ≤ 1000000) xs → All (λ (x : Listed Order). x.item.rest ≤ 1000000) (filter p xs)
-small-kept p xs h = λ i d lt. (let at = Passes-filter p xs (get_or (filter p xs) i d) (Contains-get_or (filter p xs) i d lt) in All-contains (λ (x : Listed Order). x.item.rest ≤ 1000000) xs (get_or (filter p xs) i d) h at.contains)
+small-kept : (p : Listed Order → Bool) (xs : List (Listed Order)) → All (λ (x : Listed Order). x.item.rest ≤ MAX_QUANTITY) xs → All (λ (x : Listed Order). x.item.rest ≤ MAX_QUANTITY) (filter p xs)
+small-kept p xs h = λ i d lt. (let at = Passes-filter p xs (get_or (filter p xs) i d) (Contains-get_or (filter p xs) i d lt) in All-contains (λ (x : Listed Order). x.item.rest ≤ MAX_QUANTITY) xs (get_or (filter p xs) i d) h at.contains)
 
-pub units-bound : (p : Listed Order → Bool) (xs : List (Listed Order)) → All (λ (x : Listed Order). x.item.rest ≤ 1000000) xs → length xs ≤ 2000000 → units_in (filter p xs) ≤ 2000000000000
+pub units-bound : (p : Listed Order → Bool) (xs : List (Listed Order)) → All (λ (x : Listed Order). x.item.rest ≤ MAX_QUANTITY) xs → length xs ≤ MAX_PLACES → units_in (filter p xs) ≤ 2000000000000
 units-bound p xs h few =
     let most = units-few (filter p xs) (small-kept p xs h) in
     let long = length-kept p xs in

@@ -22,6 +22,7 @@ use Rattle.xm_rules.specs.declared.orders.OrderKind.TheVariants.{Market, Limit}
 use Rattle.xm_rules.specs.declared.orders.Restriction.{Restriction}
 use Rattle.xm_rules.specs.declared.orders.Side.{Side}
 use Rattle.xm_rules.specs.declared.orders.Order.{Order}
+use Rattle.xm_ticks.specs.declared.numbers.TheConstants.{MAX_QUANTITY}
 
 -- what a caller sees of the queues
 pub record QueuedOrders : Type 0 where
@@ -62,7 +63,7 @@ pub record AreOrdersQueued {A : Type 0} (xs : List (Listed Order)) (entries : Sl
   pub distinct : AreDistinct (keys_in xs)
   pub count : used entries ≡ length xs
   pub few : length xs ≤ MAX_PLACES
-  pub small : All (λ (x : Listed Order). x.item.rest ≤ 1000000) xs
+  pub small : All (λ (x : Listed Order). x.item.rest ≤ MAX_QUANTITY) xs
   pub kinds : All (HasItsKind ladders) xs
   pub levels : (s : Side) (r : Restriction) (k : OrderKind) → HoldsLevel links (level_on (side_of s ladders) r k) (orders_of_level s r k xs)
   pub fits : entries.capacity ≤ key_limit links

@@ -22,6 +22,7 @@ use Rattle.xm_rules.specs.declared.phases.Phase.TheVariants.{Continuous}
 use Rattle.xm_rules.proofs.Ahead.{ahead_on, not_ahead_of_itself}
 use Rattle.xm_rules.proofs.Positions.{rising_active}
 use Rattle.xm_rules.proofs.Queues.{gap, units}
+use Rattle.xm_rules.proofs.Ranges.{range_low}
 use Rattle.xm_rules.proofs.Sums.{sum-le}
 
 -- ---- one of a list that has none ahead of it
@@ -69,9 +70,6 @@ pub record IsSound (w : Sweep) : Type 0 where
 
 pub in_list : (w : Sweep) (i : Positioned) → Contains (queue w) i → Contains (positioned_from 0 w.orders) i
 in_list w i at = let p = Passes-filter (is_active_on Continuous (other_side w)) (positioned_from 0 w.orders) i at in p.contains
-
-range_low : (n : ℕ) → is_in_range n ≡ true → 0 < n
-range_low n h = grind (arith, nat_tests)
 
 pub some_units : (w : Sweep) → IsSound w → (i : Positioned) → Contains (queue w) i → 0 < units i
 some_units w s i at = range_low (units i) (all_pass (λ (o : Order). is_in_range o.rest) w.orders i.order s.rests (contains_order 0 w.orders i (in_list w i at)))

@@ -1,5 +1,6 @@
 use Rattle.std.proofs.Common.{arith}
-use Rattle.xm_book.proofs.Joining.{joined, lacks, orders-fit, range-high, units-fit}
+use Rattle.xm_book.proofs.Joining.{joined, lacks, orders-fit, units-fit}
+use Rattle.xm_rules.proofs.Ranges.{range_high}
 use Rattle.xm_book.proofs.Keeping.{few-orders, kind-room, level-room, places-used, some-place}
 use Rattle.xm_slots.proofs.Keeping.{rises-push}
 use Rattle.xm_book.proofs.Reserved.{Gains-left}
@@ -32,7 +33,7 @@ overflow_add-level g c =
 pub overflow_add-level-2 : goal.overflow_add-level-2
 overflow_add-level-2 g c =
     let q = c.self.inside in
-    record { fits = omega (arith, c.from.ensures, range-high c.args.order.now.rest c.requires.rest, units-fit q.listing q.entries q.links q.ladders c.self.invariant.queued c.args.order.now c.level_for-level.result c.level_for-level.ensures) }
+    record { fits = omega (arith, c.from.ensures, range_high c.args.order.now.rest c.requires.rest, units-fit q.listing q.entries q.links q.ladders c.self.invariant.queued c.args.order.now c.level_for-level.result c.level_for-level.ensures) }
 
 pub put_level-requires-clause-kind : goal.put_level-requires-clause-kind
 put_level-requires-clause-kind g c =
@@ -64,7 +65,7 @@ invariant_of-self g c =
     rw c.join.ensures (record {
       queued = joined q.listing q.entries q.links q.ladders c.self.invariant.queued o c.level_for-level.result c.level_for-level.ensures q.adds slots.result
           slots.ensures.vacant slots.new.self slots.ensures.updates slots.ensures.used slots.ensures.capacity links.new.self links.new.ends links.ensures.last links.ensures.others links.ensures.limit
-          put.new.ladders (rw c.from.ensures at put.ensures.levels) few (range-high o.rest c.requires.rest) kind put.ensures.kinds_kept;
+          put.new.ladders (rw c.from.ensures at put.ensures.levels) few (range_high o.rest c.requires.rest) kind put.ensures.kinds_kept;
       places = places-used q.listing q.places q.entries q.ladders c.self.invariant.places o c.release.new.self gain _ slots.new.self slots.ensures.capacity
           put.new.ladders put.ensures.kinds_kept put.ensures.room_used put.ensures.room_kept put.ensures.other_ladder;
       rise = rises-push 0 q.listing _ c.self.invariant.rise;

@@ -9,6 +9,7 @@ use Rattle.xm_slots.proofs.Leaving.{there-at}
 use Rattle.xm_book.proofs.Reducing.{no_room, reduced-queued, replaced-reduced}
 use Rattle.xm_book.proofs.order_queues.OrderQueues.reduce.Goals as goal
 use Rattle.xm_rules.specs.declared.orders.Order.{Order}
+use Rattle.xm_ticks.specs.declared.numbers.TheConstants.{MAX_QUANTITY}
 
 pub entry-entry-requires : goal.entry-entry-requires
 entry-entry-requires g c =
@@ -55,8 +56,8 @@ invariant_of-self g c =
     let level = c.level_for-level in
     let put = c.put_level in
     let lower = taken-rest q.listing q.entries q.links q.ladders kept.queued c.args.key there e lies level.result level.ensures (λ (n : ℕ). c.args.rest ≤ n) (λ x at k. (rw (← c.self.view_is) at c.requires.rest c.self.invariant.queued.distinct x at k).1) in
-    let small = taken-rest q.listing q.entries q.links q.ladders kept.queued c.args.key there e lies level.result level.ensures (λ (n : ℕ). n ≤ 1000000)
-    (λ x at k. All-contains (λ (x : Listed Order). x.item.rest ≤ 1000000) q.listing x kept.queued.small at) in
+    let small = taken-rest q.listing q.entries q.links q.ladders kept.queued c.args.key there e lies level.result level.ensures (λ (n : ℕ). n ≤ MAX_QUANTITY)
+    (λ x at k. All-contains (λ (x : Listed Order). x.item.rest ≤ MAX_QUANTITY) q.listing x kept.queued.small at) in
     let enough = units-there q.listing q.entries q.links q.ladders kept.queued c.args.key there e lies level.result level.ensures in
     let units : (level.result.units - c.from.result) + e.item.rest ≡ level.result.units + c.args.rest = omega (arith, c.from.ensures, lower, enough) in
     rw (c.replace.ensures, replaced-reduced q.entries c.args.key c.args.rest e lies q.listing kept.queued.lie) (record {
