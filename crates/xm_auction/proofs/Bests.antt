@@ -4,7 +4,7 @@ use Rattle.std.specs.Prelude.{nat_le}
 use Rattle.std.proofs.lemmas.Bool.Decides.{nat_tests}
 use Rattle.std.proofs.Common.{arith}
 use Rattle.xm_slots.proofs.Members.{Contains-cases, Contains-here, Contains-none, Contains-there}
-use Rattle.xm_rules.specs.Sides.{best, best_from, reaches}
+use Rattle.xm_rules.specs.Sides.{best, best_from, better, reaches}
 use Rattle.xm_rules.specs.declared.orders.Side.{Side}
 use Rattle.xm_rules.specs.declared.orders.Side.TheVariants.{Buy, Sell}
 
@@ -73,7 +73,7 @@ alone side p y (inr later) = absurd (Contains-none y later)
 from-is_best : (side : Side) (p : ℕ) (qs : List ℕ) → IsBest side (p ∷ qs) (best_from side p qs)
 from-is_best side p [] = record { there = Contains-here p []; reaches_all = λ y at. alone side p y (Contains-cases p [] y at) }
 from-is_best side p (q ∷ qs) =
-    of_two side p q qs (best_from side (if reaches side p q then p else q) qs) (reaches side p q) refl (from-is_best side (if reaches side p q then p else q) qs)
+    of_two side p q qs (best_from side (better side p q) qs) (reaches side p q) refl (from-is_best side (better side p q) qs)
 
 -- what the best of a list says
 abbrev pub Bests : Side → List ℕ → Option ℕ → Type 0

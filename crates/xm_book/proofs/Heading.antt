@@ -143,10 +143,8 @@ module _ (phase : Phase) (side : Side) (xs : List (Listed Order)) where
   goes-by false false l e h = h
 
   worse-better : (k l : OrderKind) → is_worse side (limit_of k) l ≡ is_better side k l
-  worse-better Market Market = refl
-  worse-better Market (Limit q) = refl
-  worse-better (Limit p) Market = refl
-  worse-better (Limit p) (Limit q) = refl
+  worse-better Market l = refl
+  worse-better (Limit p) l = refl
 
   module _ (x : Listed Order) where
     -- the earliest later one of the same kind is the first behind it

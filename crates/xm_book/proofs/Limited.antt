@@ -11,7 +11,7 @@ use Rattle.xm_slots.proofs.Members.{Contains-cases, Contains-filter, Contains-fi
 use Rattle.xm_rules.specs.Active.{Positioned, active, is_active, is_active_on, limits, positioned_from}
 use Rattle.xm_rules.specs.Orders.{limit_of}
 use Rattle.xm_rules.specs.Priority.{is_better}
-use Rattle.xm_rules.specs.Sides.{best, best_from, reaches, same_side}
+use Rattle.xm_rules.specs.Sides.{best, best_from, better, reaches, same_side}
 use Rattle.xm_rules.specs.declared.orders.Order.{Order}
 use Rattle.xm_rules.specs.declared.orders.OrderKind.{OrderKind}
 use Rattle.xm_rules.specs.declared.orders.OrderKind.TheVariants.{Market, Limit}
@@ -54,11 +54,10 @@ alone p q (inr later) = absurd (Contains-none p later)
 best_from_is : (side : Side) (p q : ℕ) (qs : List ℕ) → Contains (q ∷ qs) p → ((x : ℕ) → Contains (q ∷ qs) x → reaches side p x ≡ true) → best_from side q qs ≡ p
 best_from_is side p q [] at all = alone p q (Contains-cases q [] p at)
 best_from_is side p q (r ∷ rs) at all =
-    let better = if reaches side q r then q else r in
-    best_from_is side p better rs
+    best_from_is side p (better side q r) rs
     (better_of side p q r rs (reaches side q r) refl (all q (Contains-here q (r ∷ rs))) (all r (Contains-there q (r ∷ rs) r (Contains-here r rs)))
     (or_further p q r rs (Contains-cases q (r ∷ rs) p at)))
-    (λ x h. all x (one_of q r rs x (reaches side q r) (Contains-cases better rs x h)))
+    (λ x h. all x (one_of q r rs x (reaches side q r) (Contains-cases (better side q r) rs x h)))
 
 best_is : (side : Side) (p : ℕ) (ps : List ℕ) → Contains ps p → ((x : ℕ) → Contains ps x → reaches side p x ≡ true) → best side ps ≡ Some p
 best_is side p [] at all = absurd (Contains-none p at)

@@ -134,7 +134,7 @@ limit-order side = record {
 
 module _ (side : Side) (p q : Listed Order → Bool) (xs : List (Listed Order)) where
   better_if : (a b : ℕ) (x y : Listed Order) (t : Bool) → reaches side a b ≡ t → x.item.kind ≡ Limit a → y.item.kind ≡ Limit b → IsFirst (has_better side) p xs x → IsFirst (has_better side) q xs y
-      → IsBestOf side (λ x. p x || q x) xs (if t then Some a else Some b)
+      → IsBestOf side (λ x. p x || q x) xs (Some (if t then a else b))
   better_if a b x y true e f g of_p of_q =
       (x, f, first_ahead (has_better side) (limit-order side) p q xs x y ((λ i. is_better side (g i) (f i)) ∙ ap not e) of_p of_q)
   better_if a b x y false e f g of_p of_q =

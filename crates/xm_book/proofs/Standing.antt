@@ -160,6 +160,10 @@ module _ {A : Type 0} (xs : List (Listed Order)) (entries : SlotsView Order) (li
         let is = level-of links (level_on (side_of side ladders) r k) level (orders_of_level side r k xs) (h.levels side r k) e in
         front-by (orders_of_level side r k xs) refl o key (first links (keys_in (orders_of_level side r k xs)) is.queue) some none
 
+  market-worse : (after : Option ℕ) → is_worse side after Market ≡ false
+  market-worse None = refl
+  market-worse (Some p) = refl
+
   -- ---- the limits that have a level
   module _ (after : Option ℕ) where
     abbrev stands : Listed Order → Bool
@@ -176,7 +180,7 @@ module _ {A : Type 0} (xs : List (Listed Order)) (entries : SlotsView Order) (li
       where
         limit_by : (k : OrderKind) → y.item.kind ≡ k → same_side side y.item.side ≡ true → same_restriction r y.item.restriction ≡ true → is_worse side after k ≡ true
             → (q : ℕ) × (y.item.kind ≡ Limit q) × (is_worse side after (Limit q) ≡ true) × (is_of_level side r (Limit q) y ≡ true)
-        limit_by Market e own of worse = absurd (cc)
+        limit_by Market e own of worse = absurd (let none = market-worse after in cc)
         limit_by (Limit q) e own of worse = (
           q,
           e,

@@ -1,12 +1,13 @@
 -- What the queues answer of the active orders: which is the first of some in time or in priority, and which limit is the best.
-use Rattle.std.specs.Prelude.{◌≡◌, ℕ, Bool, true, false, ◌&&◌, if◌then◌else◌, nat_lt, List, Contains, Option, Some, None, option_map}
+use Rattle.std.specs.Prelude.{◌≡◌, ℕ, Bool, true, false, ◌&&◌, if◌then◌else◌, nat_lt, List, ◌++◌, Contains, Option, Some, None, option_map}
+use Rattle.std.specs.Option.{option_to_list}
 use Rattle.xm_slots.specs.Listing.{listed_entry}
 use Rattle.xm_slots.specs.declared.entry.Entry.{Entry}
 use Rattle.xm_slots.specs.declared.listing.Listed.{Listed}
 use Rattle.xm_rules.specs.Active.{is_active}
 use Rattle.xm_rules.specs.Orders.{same_kind, same_restriction}
-use Rattle.xm_rules.specs.Priority.{is_better, is_prior, is_worse_limit}
-use Rattle.xm_rules.specs.Sides.{reaches, same_side}
+use Rattle.xm_rules.specs.Priority.{is_better, is_prior}
+use Rattle.xm_rules.specs.Sides.{best, same_side}
 use Rattle.xm_rules.specs.declared.orders.OrderKind.{OrderKind}
 use Rattle.xm_rules.specs.declared.orders.OrderKind.TheVariants.{Market, Limit}
 use Rattle.xm_rules.specs.declared.orders.Restriction.{Restriction}
@@ -26,11 +27,14 @@ has_kind kind x = same_kind kind x.item.kind
 abbrev pub has_kind_later : OrderKind → ℕ → Listed Order → Bool
 has_kind_later kind time x = same_kind kind x.item.kind && nat_lt time x.time
 
+-- of an order with this limit, or of a market order where there is none
+abbrev pub kind_at : Option ℕ → OrderKind
+kind_at None = Market
+kind_at (Some p) = Limit p
+
 -- a limit that is worse than this one; any limit where there is none
 abbrev pub is_worse : Side → Option ℕ → OrderKind → Bool
-is_worse side after Market = false
-is_worse side None (Limit q) = true
-is_worse side (Some p) (Limit q) = is_worse_limit side p q
+is_worse side after kind = is_better side (kind_at after) kind
 
 -- with a limit that is worse
 abbrev pub has_worse : Side → Option ℕ → Listed Order → Bool
@@ -85,6 +89,4 @@ earlier_of_two (Some a) (Some b) = if nat_lt b.time a.time then Some b else Some
 
 -- the better of two limits, where there are two
 abbrev pub better_of_two : Side → Option ℕ → Option ℕ → Option ℕ
-better_of_two side None second = second
-better_of_two side (Some p) None = Some p
-better_of_two side (Some p) (Some q) = if reaches side p q then Some p else Some q
+better_of_two side first second = best side (option_to_list first ++ option_to_list second)

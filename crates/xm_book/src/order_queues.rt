@@ -208,7 +208,7 @@ fn earlier_of_two<'a>(
     }
 }
 
-/// The better of two limits.
+/// The better of two limits, where there are two.
 fn better_of_two(side: Side, first: Option<Price>, second: Option<Price>) -> Option<Price>
     ensures { result ≡ better_of_two side first second }
 {
@@ -216,13 +216,7 @@ fn better_of_two(side: Side, first: Option<Price>, second: Option<Price>) -> Opt
         None => second,
         Some(p) => match second {
             None => Some(p),
-            Some(q) => {
-                if side.reaches(p.get(), q.get()) {
-                    Some(p)
-                } else {
-                    Some(q)
-                }
-            }
+            Some(q) => Some(side.better(p, q)),
         },
     }
 }

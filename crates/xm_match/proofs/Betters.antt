@@ -3,12 +3,9 @@ use Rattle.std.proofs.Common.{◌≡◌, ℕ, if◌then◌else◌, List, [], ◌
 use Rattle.std.specs.Option.{option_to_list}
 use Rattle.std.specs.Prelude.{nat_le}
 use Rattle.std.proofs.lemmas.Bool.Decides.{nat_tests}
-use Rattle.xm_rules.specs.Sides.{best, best_from, reaches}
+use Rattle.xm_rules.specs.Sides.{best, best_from, better}
 use Rattle.xm_rules.specs.declared.orders.Side.{Side}
 use Rattle.xm_rules.specs.declared.orders.Side.TheVariants.{Buy, Sell}
-
-abbrev pub better : Side → ℕ → ℕ → ℕ
-better side p q = if reaches side p q then p else q
 
 highest : (p q r : ℕ) → ◌≡◌ {A = ℕ} (if nat_le r (if nat_le q p then p else q) then (if nat_le q p then p else q) else r) (if nat_le (if nat_le r q then q else r) p then p else (if nat_le r q then q else r))
 highest p q r = grind (arith, nat_tests)

@@ -27,13 +27,7 @@ fn better(side: Side, price: Price, other: Option<Price>) -> Price
 {
     match other {
         None => price,
-        Some(limit) => {
-            if side.reaches(price.get(), limit.get()) {
-                price
-            } else {
-                limit
-            }
-        }
+        Some(limit) => side.better(price, limit),
     }
 }
 
