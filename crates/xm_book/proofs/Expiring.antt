@@ -15,7 +15,7 @@ use Rattle.xm_slots.proofs.Tests.{find-filter, length-kept, none-found}
 use Rattle.xm_slots.proofs.Members.{Contains-map, IsMade-map, Passes-filter, find-Some, list_any-false}
 use Rattle.xm_rules.specs.Commands.{is_in_range, outlasts}
 use Rattle.xm_book.proofs.Named.{rests-kept}
-use Rattle.xm_names.specs.Names.{NamesOfMember, Retains, lookup, room}
+use Rattle.xm_names.specs.Names.{NamesOfMember, Retains, lookup, reserved}
 use Rattle.xm_rules.specs.Orders.{is_named}
 use Rattle.xm_rules.specs.declared.orders.Order.{Order}
 use Rattle.xm_queues.specs.Keys.{AreDistinct}
@@ -70,14 +70,14 @@ module _ (p : Listed Order → Bool) (xs : List (Listed Order)) (own : have_own_
   key-left answers says (Some key) new is left = left.2 ∙ sym (key-some key left.0 (sym is) (says key left.0 left.1))
 
 -- the names lead to the keys of the orders that are left
-pub indexed-left : (today : ℕ) (q : QueuedOrders) (names names' : List (ℕ × NamesOfMember)) → AreOrdersIndexed q names → ((m r : ℕ) → lookup names' m r ≡ key_by_name order_owner order_reference m r (filter (outlives today) q.orders)) → ((m : ℕ) → room names' m ≡ room names m)
+pub indexed-left : (today : ℕ) (q : QueuedOrders) (names names' : List (ℕ × NamesOfMember)) → AreOrdersIndexed q names → ((m r : ℕ) → lookup names' m r ≡ key_by_name order_owner order_reference m r (filter (outlives today) q.orders)) → ((m : ℕ) → reserved names' m ≡ reserved names m)
     → AreOrdersIndexed (record q { orders = filter (outlives today) q.orders }) names'
 indexed-left today q names names' h named same =
     let left = items-kept (λ (o : Order). outlasts today o.validity) q.orders in
     let os = map listed_item q.orders in
     record {
       named = named;
-      names_room = λ m. omega (arith, same m, h.names_room m);
+      names_reserved = λ m. omega (arith, same m, h.names_reserved m);
       sound = record {
         names = ap (have_own_names order_owner order_reference) left ∙ own_names-kept order_owner order_reference (λ (o : Order). outlasts today o.validity) os h.sound.names;
         rests = ap (list_all (λ (o : Order). is_in_range o.rest)) left ∙ rests-kept (λ (o : Order). is_in_range o.rest) (λ (o : Order). outlasts today o.validity) os h.sound.rests;

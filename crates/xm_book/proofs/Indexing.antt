@@ -21,7 +21,7 @@ use Rattle.xm_book.proofs.Named.{fewer-left, key_of-reduced, orders-reduced, own
 use Rattle.xm_slots.proofs.Leaving.{key-once}
 use Rattle.xm_slots.proofs.Tests.{length-kept, none-found, some-found}
 use Rattle.xm_book.proofs.Reserved.{Gains-length, Gains-same, count_one}
-use Rattle.xm_names.specs.Names.{NamesOfMember, lookup, room}
+use Rattle.xm_names.specs.Names.{NamesOfMember, lookup, reserved}
 use Rattle.xm_queues.specs.Keys.{AreDistinct}
 use Rattle.xm_rules.specs.Commands.{is_in_range}
 use Rattle.xm_rules.specs.Orders.{is_named, removed, with_rest, without_member}
@@ -53,7 +53,7 @@ seen q = record { orders = map listed_item q.orders; reserved = q.reserved; adds
 pub nothing-indexed : (names : List (ℕ × NamesOfMember)) → ((m r : ℕ) → lookup names m r ≡ None) → AreOrdersIndexed (record { orders = []; reserved = []; adds = 0 }) names
 nothing-indexed names none = record {
   named = λ m r. none m r;
-  names_room = λ m. omega arith;
+  names_reserved = λ m. omega arith;
   sound = record { names = refl; rests = refl; within = omega arith };
 }
 
@@ -74,16 +74,16 @@ module _ (q : QueuedOrders) (names : List (ℕ × NamesOfMember)) (h : AreOrders
 
   -- ---- places
   module _ (p : Place) (q' : QueuedOrders) (rest : q' ≡ record q { reserved = q'.reserved }) (names' : List (ℕ × NamesOfMember)) (same : (m r : ℕ) → lookup names' m r ≡ lookup names m r) where
-    pub place-gained : Gains p q.reserved q'.reserved → length os + length q.reserved < MAX_PLACES → ((m : ℕ) → room names' m ≡ (if m == p.member then room names m + 1 else room names m)) → AreOrdersIndexed q' names'
+    pub place-gained : Gains p q.reserved q'.reserved → length os + length q.reserved < MAX_PLACES → ((m : ℕ) → reserved names' m ≡ (if m == p.member then reserved names m + 1 else reserved names m)) → AreOrdersIndexed q' names'
     place-gained gain few more = subst (λ (v : QueuedOrders). AreOrdersIndexed v names') (sym rest) (record {
       named = λ m r. same m r ∙ h.named m r;
-      names_room = λ m. room_if (m == p.member) m (count-for m p q.reserved q'.reserved gain) (more m);
+      names_reserved = λ m. reserved_if (m == p.member) m (count-for m p q.reserved q'.reserved gain) (more m);
       sound = record { names = h.sound.names; rests = h.sound.rests; within = omega (arith, few, Gains-length p q.reserved q'.reserved gain) };
     })
       where
-        room_if : (b : Bool) (m : ℕ) → count_by (is_for m) q'.reserved ≡ (if b then 1 else 0) + count_by (is_for m) q.reserved → room names' m ≡ (if b then room names m + 1 else room names m) → count_by (is_for m) q'.reserved ≤ room names' m
-        room_if true m c e = omega (arith, c, e, h.names_room m)
-        room_if false m c e = omega (arith, c, e, h.names_room m)
+        reserved_if : (b : Bool) (m : ℕ) → count_by (is_for m) q'.reserved ≡ (if b then 1 else 0) + count_by (is_for m) q.reserved → reserved names' m ≡ (if b then reserved names m + 1 else reserved names m) → count_by (is_for m) q'.reserved ≤ reserved names' m
+        reserved_if true m c e = omega (arith, c, e, h.names_reserved m)
+        reserved_if false m c e = omega (arith, c, e, h.names_reserved m)
 
     pub seen-gained : Gains p q.reserved q'.reserved → Reserves p (seen q) (seen q')
     seen-gained gain = record { rest = ap seen rest; places = Gains-same p q.reserved q'.reserved gain }
@@ -91,16 +91,16 @@ module _ (q : QueuedOrders) (names : List (ℕ × NamesOfMember)) (h : AreOrders
     pub seen-given-up : Gains p q'.reserved q.reserved → Reserves p (seen q') (seen q)
     seen-given-up gain = record { rest = sym (λ i. record (seen (rest i)) { reserved = q.reserved }); places = Gains-same p q'.reserved q.reserved gain }
 
-    pub place-left : Gains p q'.reserved q.reserved → ((m : ℕ) → room names' m ≡ (if m == p.member then room names m - 1 else room names m)) → AreOrdersIndexed q' names'
+    pub place-left : Gains p q'.reserved q.reserved → ((m : ℕ) → reserved names' m ≡ (if m == p.member then reserved names m - 1 else reserved names m)) → AreOrdersIndexed q' names'
     place-left gain less = subst (λ (v : QueuedOrders). AreOrdersIndexed v names') (sym rest) (record {
       named = λ m r. same m r ∙ h.named m r;
-      names_room = λ m. room_if (m == p.member) m (count-for m p q'.reserved q.reserved gain) (less m);
+      names_reserved = λ m. reserved_if (m == p.member) m (count-for m p q'.reserved q.reserved gain) (less m);
       sound = record { names = h.sound.names; rests = h.sound.rests; within = omega (arith, h.sound.within, Gains-length p q'.reserved q.reserved gain) };
     })
       where
-        room_if : (b : Bool) (m : ℕ) → count_by (is_for m) q.reserved ≡ (if b then 1 else 0) + count_by (is_for m) q'.reserved → room names' m ≡ (if b then room names m - 1 else room names m) → count_by (is_for m) q'.reserved ≤ room names' m
-        room_if true m c e = omega (arith, c, e, h.names_room m)
-        room_if false m c e = omega (arith, c, e, h.names_room m)
+        reserved_if : (b : Bool) (m : ℕ) → count_by (is_for m) q.reserved ≡ (if b then 1 else 0) + count_by (is_for m) q'.reserved → reserved names' m ≡ (if b then reserved names m - 1 else reserved names m) → count_by (is_for m) q'.reserved ≤ reserved names' m
+        reserved_if true m c e = omega (arith, c, e, h.names_reserved m)
+        reserved_if false m c e = omega (arith, c, e, h.names_reserved m)
 
   -- ---- an order joins, in its reserved place
   module _ (o : Order) (time key : ℕ) (q' : QueuedOrders) (orders : q'.orders ≡ q.orders ++ record { key = key; time = time; item = o } ∷ []) (gain : Gains (place_of o) q'.reserved q.reserved) where
@@ -111,11 +111,11 @@ module _ (q : QueuedOrders) (names : List (ℕ × NamesOfMember)) (h : AreOrders
     joined = ap (map listed_item) orders ∙ map-append listed_item q.orders (x ∷ [])
 
     pub order-joined : list_any (is_named o.member o.reference) os ≡ false → is_in_range o.rest ≡ true → (names' : List (ℕ × NamesOfMember))
-        → ((m r : ℕ) → lookup names' m r ≡ (if (m == o.member) && (r == o.reference) then Some key else lookup names m r)) → ((m : ℕ) → room names' m ≡ (if m == o.member then room names m - 1 else room names m))
+        → ((m r : ℕ) → lookup names' m r ≡ (if (m == o.member) && (r == o.reference) then Some key else lookup names m r)) → ((m : ℕ) → reserved names' m ≡ (if m == o.member then reserved names m - 1 else reserved names m))
         → AreOrdersIndexed q' names'
     order-joined out range names' put less = record {
       named = λ m r. put m r ∙ ap (λ (k : Option ℕ). if (m == o.member) && (r == o.reference) then Some key else k) (h.named m r) ∙ sym (ap (key_by_name order_owner order_reference m r) orders ∙ key_of-push order_owner order_reference m r q.orders x out);
-      names_room = λ m. room_if (m == o.member) m (count-for m (place_of o) q'.reserved q.reserved gain) (less m);
+      names_reserved = λ m. reserved_if (m == o.member) m (count-for m (place_of o) q'.reserved q.reserved gain) (less m);
       sound = record {
         names = ap (have_own_names order_owner order_reference) joined ∙ own_names-push order_owner order_reference os o out h.sound.names;
         rests = ap (list_all (λ (o : Order). is_in_range o.rest)) joined ∙ rests-push (λ (o : Order). is_in_range o.rest) os o h.sound.rests range;
@@ -123,9 +123,9 @@ module _ (q : QueuedOrders) (names : List (ℕ × NamesOfMember)) (h : AreOrders
       };
     }
       where
-        room_if : (b : Bool) (m : ℕ) → count_by (is_for m) q.reserved ≡ (if b then 1 else 0) + count_by (is_for m) q'.reserved → room names' m ≡ (if b then room names m - 1 else room names m) → count_by (is_for m) q'.reserved ≤ room names' m
-        room_if true m c e = omega (arith, c, e, h.names_room m)
-        room_if false m c e = omega (arith, c, e, h.names_room m)
+        reserved_if : (b : Bool) (m : ℕ) → count_by (is_for m) q.reserved ≡ (if b then 1 else 0) + count_by (is_for m) q'.reserved → reserved names' m ≡ (if b then reserved names m - 1 else reserved names m) → count_by (is_for m) q'.reserved ≤ reserved names' m
+        reserved_if true m c e = omega (arith, c, e, h.names_reserved m)
+        reserved_if false m c e = omega (arith, c, e, h.names_reserved m)
 
   -- ---- a name that leads nowhere
   pub unnamed : (member reference : ℕ) → None ≡ lookup names member reference → find (is_named member reference) os ≡ None
@@ -183,11 +183,11 @@ module _ (q : QueuedOrders) (names : List (ℕ × NamesOfMember)) (h : AreOrders
       pub member-shorter : length (map listed_item q'.orders) < length os
       member-shorter = omega (arith, ap (λ (t : TimeList). length t.orders) seen-left, fewer-left member reference os known)
 
-      pub order-left : (names' : List (ℕ × NamesOfMember)) → ((m r : ℕ) → lookup names' m r ≡ (if (m == member) && (r == reference) then None else lookup names m r)) → ((m : ℕ) → room names' m ≡ room names m)
+      pub order-left : (names' : List (ℕ × NamesOfMember)) → ((m r : ℕ) → lookup names' m r ≡ (if (m == member) && (r == reference) then None else lookup names m r)) → ((m : ℕ) → reserved names' m ≡ reserved names m)
           → AreOrdersIndexed q' names'
       order-left names' out same = subst (λ (v : QueuedOrders). AreOrdersIndexed v names') (sym left-is) (record {
         named = λ m r. out m r ∙ ap (λ (k : Option ℕ). if (m == member) && (r == reference) then None else k) (h.named m r) ∙ sym (key_of-others order_owner order_reference member reference m r q.orders);
-        names_room = λ m. omega (arith, same m, h.names_room m);
+        names_reserved = λ m. omega (arith, same m, h.names_reserved m);
         sound = record {
           names = ap (have_own_names order_owner order_reference) orders-left ∙ own_names-kept order_owner order_reference (λ (o : Order). not (is_named member reference o)) os h.sound.names;
           rests = ap (list_all (λ (o : Order). is_in_range o.rest)) orders-left ∙ rests-kept (λ (o : Order). is_in_range o.rest) (λ (o : Order). not (is_named member reference o)) os h.sound.rests;
@@ -217,7 +217,7 @@ module _ (q : QueuedOrders) (names : List (ℕ × NamesOfMember)) (h : AreOrders
       pub order-reduced : (1 ≤ rest) × (rest ≤ at.listed.item.rest) → AreOrdersIndexed q' names
       order-reduced bounds = subst (λ (v : QueuedOrders). AreOrdersIndexed v names) (sym reduced-is) (record {
         named = λ m r. h.named m r ∙ sym (key_of-reduced member reference rest m r q.orders);
-        names_room = h.names_room;
+        names_reserved = h.names_reserved;
         sound = record {
           names = ap (have_own_names order_owner order_reference) (orders-reduced member reference rest q.orders) ∙ own_names-reduced member reference rest os h.sound.names;
           rests = ap (list_all (λ (o : Order). is_in_range o.rest)) (orders-reduced member reference rest q.orders) ∙ rests-reduced member reference rest os range h.sound.rests;

@@ -7,7 +7,7 @@ ghost use Rattle.xm_book.specs.Expiry.{outlives};
 ghost use Rattle.xm_book.specs.Indexed.{AreOrdersIndexed};
 ghost use Rattle.xm_slots.specs.Listing.{is_done};
 ghost use Rattle.xm_slots.specs.declared.listing.Listed.{Listed};
-ghost use Rattle.xm_names.specs.Names.{lookup, room};
+ghost use Rattle.xm_names.specs.Names.{lookup, reserved};
 ghost use Rattle.xm_rules.specs.declared.orders.Order.{Order};
 
 use crate::order_queues::OrderQueues;
@@ -33,7 +33,7 @@ pub fn drop_expired<A: Allocator + Copy>(
 fn drop_names<A: Allocator + Copy>(queues: &OrderQueues<A>, names: &mut Names<A>, today: u32)
     requires { AreOrdersIndexed queues.now names.old }
     ensures names { (m r : ℕ) → lookup names.new m r ≡ key_by_name order_owner order_reference m r (filter (outlives today) queues.now.orders) }
-    ensures room { (m : ℕ) → room names.new m ≡ room names.old m }
+    ensures reserved { (m : ℕ) → reserved names.new m ≡ reserved names.old m }
 {
     names.retain(
         &|key: usize| -> bool

@@ -5,7 +5,7 @@ use Rattle.std.proofs.lemmas.Map.Keys.{IsDistinct-head, IsDistinct-tail}
 use Rattle.std.specs.Map.{keys_of, lookup}
 use Rattle.std.specs.Map.Calls.{RetainsPairs}
 use Rattle.xm_names.specs.Names as names
-use Rattle.xm_names.specs.Names.{NamesOfMember, Retains, key_among, key_of, names_of, room, room_among}
+use Rattle.xm_names.specs.Names.{NamesOfMember, Retains, key_among, key_of, names_of, reserved, reserved_among}
 
 -- a key that no entry has isn't found
 not_found : (k : ℕ) (es : List (ℕ × ℕ)) → AllByRecursion (λ y. nat_eq k y ≡ false) (keys_of es) → lookup (nat_eq k) es ≡ None
@@ -63,9 +63,9 @@ table-either : (P : ℕ → Bool → Type 0) (b : Bool) (t u : NamesOfMember) (t
 table-either P true t u ts us keys later = (u, refl, keys)
 table-either P false t u ts us keys later = later
 
-room-either : (b : Bool) (t u : NamesOfMember) (ts us : Option NamesOfMember) → u.room ≡ t.room → room_among us ≡ room_among ts → room_among (cond b (Some u) us) ≡ room_among (cond b (Some t) ts)
-room-either true t u ts us same later = same
-room-either false t u ts us same later = later
+reserved-either : (b : Bool) (t u : NamesOfMember) (ts us : Option NamesOfMember) → u.reserved ≡ t.reserved → reserved_among us ≡ reserved_among ts → reserved_among (cond b (Some u) us) ≡ reserved_among (cond b (Some t) ts)
+reserved-either true t u ts us same later = same
+reserved-either false t u ts us same later = later
 
 module _ {F : Type 0} (T : F → ℕ → NamesOfMember → Bool → NamesOfMember → F → Type 0) (f : F) where
   module _ (P : ℕ → Bool → Type 0)
@@ -81,11 +81,11 @@ module _ {F : Type 0} (T : F → ℕ → NamesOfMember → Bool → NamesOfMembe
     unfolding names.lookup
     names-retained m r es kept h = keys-left P r (names_of es m) (names_of kept m) (table-left m es kept h)
 
-  module _ (says : (m : ℕ) (t : NamesOfMember) (b : Bool) (u : NamesOfMember) (g : F) → T f m t b u g → (b ≡ true) × (u.room ≡ t.room) × (g ≡ f)) where
-    pub room-retained : (m : ℕ) (es kept : List (ℕ × NamesOfMember)) → RetainsPairs T f es kept → room kept m ≡ room es m
-    unfolding room
-    room-retained m [] kept h = ap (λ (ts : List (ℕ × NamesOfMember)). room_among (names_of ts m)) h
-    room-retained m (e ∷ es) kept h =
+  module _ (says : (m : ℕ) (t : NamesOfMember) (b : Bool) (u : NamesOfMember) (g : F) → T f m t b u g → (b ≡ true) × (u.reserved ≡ t.reserved) × (g ≡ f)) where
+    pub reserved-retained : (m : ℕ) (es kept : List (ℕ × NamesOfMember)) → RetainsPairs T f es kept → reserved kept m ≡ reserved es m
+    unfolding reserved
+    reserved-retained m [] kept h = ap (λ (ts : List (ℕ × NamesOfMember)). reserved_among (names_of ts m)) h
+    reserved-retained m (e ∷ es) kept h =
         let said = says e.0 e.1 h.0 h.1 h.2 h.4 in
-        let later = room-retained m es h.3 (subst (λ g. RetainsPairs T g es h.3) said.2 h.5) in
-        rw h.6 (rw said.0 (room-either (nat_eq m e.0) e.1 h.1 (names_of es m) (names_of h.3 m) said.1 later))
+        let later = reserved-retained m es h.3 (subst (λ g. RetainsPairs T g es h.3) said.2 h.5) in
+        rw h.6 (rw said.0 (reserved-either (nat_eq m e.0) e.1 h.1 (names_of es m) (names_of h.3 m) said.1 later))

@@ -6,7 +6,7 @@ use Rattle.std.specs.Cmp.{IsEquivalence}
 use Rattle.std.specs.Map.{keys_of, values_of}
 use Rattle.indexmap.specs.IndexMap.{IndexMap, IsUnique, set_value_at}
 use Rattle.indexmap.proofs.CallerLemmas.{updates-with_value_at}
-use Rattle.xm_names.specs.Names.{NamesOfMember, StandsAt, key_among, key_of, lookup, names_of, room, room_among}
+use Rattle.xm_names.specs.Names.{NamesOfMember, StandsAt, key_among, key_of, lookup, names_of, reserved, reserved_among}
 
 same_number : IsEquivalence nat_eq
 same_number = record { refl = λ x. grind (arith, nat_tests); symm = λ x y. grind (arith, nat_tests); congr = λ x y z e. grind (arith, nat_tests) }
@@ -82,27 +82,27 @@ module _ {S : Type 0} (m : IndexMap ℕ NamesOfMember S) (member i : ℕ) (s : S
         by true e = h r ∙ sym (ap (key_among r) (own q e))
         by false e = refl
 
-    -- the member has other room
-    pub room-with : (g : ℕ → ℕ) → x'.room ≡ g s.table.room → (q : ℕ) → room (set_value_at m.entries i x') q ≡ (if q == member then g (room m.entries q) else room m.entries q)
-    unfolding room
-    room-with g h q = ap room_among (after q) ∙ by (q == member) refl
+    -- of the member other room is reserved
+    pub reserved-with : (g : ℕ → ℕ) → x'.reserved ≡ g s.table.reserved → (q : ℕ) → reserved (set_value_at m.entries i x') q ≡ (if q == member then g (reserved m.entries q) else reserved m.entries q)
+    unfolding reserved
+    reserved-with g h q = ap reserved_among (after q) ∙ by (q == member) refl
       where
-        by : (b : Bool) → (q == member) ≡ b → room_among (if b then Some x' else names_of m.entries q) ≡ (if b then g (room_among (names_of m.entries q)) else room_among (names_of m.entries q))
-        by true e = h ∙ ap g (sym (ap room_among (own q e)))
+        by : (b : Bool) → (q == member) ≡ b → reserved_among (if b then Some x' else names_of m.entries q) ≡ (if b then g (reserved_among (names_of m.entries q)) else reserved_among (names_of m.entries q))
+        by true e = h ∙ ap g (sym (ap reserved_among (own q e)))
         by false e = refl
 
-    pub room-same : x'.room ≡ s.table.room → (q : ℕ) → room (set_value_at m.entries i x') q ≡ room m.entries q
-    unfolding room
-    room-same h q = ap room_among (after q) ∙ by (q == member) refl
+    pub reserved-same : x'.reserved ≡ s.table.reserved → (q : ℕ) → reserved (set_value_at m.entries i x') q ≡ reserved m.entries q
+    unfolding reserved
+    reserved-same h q = ap reserved_among (after q) ∙ by (q == member) refl
       where
-        by : (b : Bool) → (q == member) ≡ b → room_among (if b then Some x' else names_of m.entries q) ≡ room_among (names_of m.entries q)
-        by true e = h ∙ sym (ap room_among (own q e))
+        by : (b : Bool) → (q == member) ≡ b → reserved_among (if b then Some x' else names_of m.entries q) ≡ reserved_among (names_of m.entries q)
+        by true e = h ∙ sym (ap reserved_among (own q e))
         by false e = refl
 
   pub own-key : (r : ℕ) → lookup m.entries member r ≡ key_of r s.table
   unfolding lookup
   own-key r = ap (key_among r) s.found
 
-  pub own-room : room m.entries member ≡ s.table.room
-  unfolding room
-  own-room = ap room_among s.found
+  pub own-reserved : reserved m.entries member ≡ s.table.reserved
+  unfolding reserved
+  own-reserved = ap reserved_among s.found

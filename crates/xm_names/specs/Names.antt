@@ -3,12 +3,12 @@ use Rattle.std.specs.Prelude.{◌≡◌, ℕ, Bool, false, if◌then◌else◌, 
 use Rattle.std.specs.Map as map
 use Rattle.xm_names.specs.Tables.{TableView, table_key}
 
--- the keys of one member's references, in a table and, of those that found no place there, in a list, and how many names
--- more there is room for
+-- the keys of one member's references, in a table and, of those that found no place there, in a list, and for how many
+-- names more room is reserved
 pub record NamesOfMember : Type 0 where
   pub table : TableView
   pub rest : List (ℕ × ℕ)
-  pub room : ℕ
+  pub reserved : ℕ
 
 abbrev pub first_of : Option ℕ → Option ℕ → Option ℕ
 first_of None other = other
@@ -22,9 +22,9 @@ abbrev pub key_among : ℕ → Option NamesOfMember → Option ℕ
 key_among reference None = None
 key_among reference (Some names) = key_of reference names
 
-abbrev pub room_among : Option NamesOfMember → ℕ
-room_among None = 0
-room_among (Some names) = names.room
+abbrev pub reserved_among : Option NamesOfMember → ℕ
+reserved_among None = 0
+reserved_among (Some names) = names.reserved
 
 -- a key that passes a test stays, and another goes
 abbrev pub Retains : (ℕ → Bool → Type 0) → Option ℕ → Option ℕ → Type 0
@@ -45,9 +45,9 @@ pub record StandsAt (names : List (ℕ × NamesOfMember)) (member place : ℕ) :
 unfoldable pub lookup : List (ℕ × NamesOfMember) → ℕ → ℕ → Option ℕ
 lookup names member reference = key_among reference (names_of names member)
 
--- how many names of this member more there is room for
-unfoldable pub room : List (ℕ × NamesOfMember) → ℕ → ℕ
-room names member = room_among (names_of names member)
+-- for how many names more of this member room is reserved
+unfoldable pub reserved : List (ℕ × NamesOfMember) → ℕ → ℕ
+reserved names member = reserved_among (names_of names member)
 
 abbrev pub exceeds : ℕ → Option ℕ → Bool
 exceeds reference None = false

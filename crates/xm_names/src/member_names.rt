@@ -10,12 +10,12 @@ use std::alloc::Allocator;
 use std::marker::Model;
 use xm_memory::{OutOfMemory, count_within};
 
-/// The key of each reference of one member, and room for more of them.
+/// The key of each reference of one member, and room that is reserved for more of them.
 #[derive(Drop)]
 pub struct MemberNames<A: Allocator> {
     table: NameTable<A>,
-    // So many names may come.
-    room: usize,
+    // For so many names that are to come room is reserved.
+    reserved: usize,
     // For so many names `rest` is known to have room, all of them without a place in the table.
     ready: usize,
     // The names that found no place in the table.
@@ -31,38 +31,38 @@ impl<A: Allocator> Model for MemberNames<A> {
 
     ghost Value = { NamesOfMember };
 
-    ghost view = { λ n. record { table = n.table; rest = n.rest.entries; room = n.room } };
+    ghost view = { λ n. record { table = n.table; rest = n.rest.entries; reserved = n.reserved } };
 
     ghost invariant = { λ n. record {
-      room : n.room ≤ n.ready;
+      reserved : n.reserved ≤ n.ready;
       ready : n.ready ≤ spare n.rest;
       apart : (r : ℕ) → IsSome (table_key n.table r) → lookup (nat_eq r) n.rest.entries ≡ None;
     } };
 }
 
 impl<A: Allocator + Copy> MemberNames<A> {
-    /// No name and no room, which takes no memory.
+    /// No name, and none reserved, which takes no memory.
     pub fn new(alloc: A, seed: Seed) -> MemberNames<A>
         ensures keys { (r : ℕ) → key_of r result ≡ None }
-        ensures room { result.room ≡ 0 }
+        ensures reserved { result.reserved ≡ 0 }
     {
         MemberNames {
             table: NameTable::new(alloc, seed),
-            room: 0,
+            reserved: 0,
             ready: 0,
             rest: IndexMap::with_hasher(alloc, seed),
         }
     }
 
-    /// Makes room for one name more.
+    /// Reserves room for one name more.
     #[inline(always)]
     pub fn reserve(&mut self) -> Result<(), OutOfMemory>
         ensures keys { (r : ℕ) → key_of r self.new ≡ key_of r self.old }
-        ensures room { OnOk result (self.new.room ≡ self.old.room + 1) }
+        ensures reserved { OnOk result (self.new.reserved ≡ self.old.reserved + 1) }
         ensures err { OnErr result (self.new ≡ self.old) }
     {
-        if self.room < self.ready {
-            self.room += 1;
+        if self.reserved < self.ready {
+            self.reserved += 1;
             return Ok(());
         }
         self.make_ready()
@@ -72,26 +72,26 @@ impl<A: Allocator + Copy> MemberNames<A> {
     #[inline(never)]
     fn make_ready(&mut self) -> Result<(), OutOfMemory>
         ensures keys { (r : ℕ) → key_of r self.new ≡ key_of r self.old }
-        ensures room { OnOk result (self.new.room ≡ self.old.room + 1) }
+        ensures reserved { OnOk result (self.new.reserved ≡ self.old.reserved + 1) }
         ensures err { OnErr result (self.new ≡ self.old) }
     {
-        count_within(self.room as u64, usize::MAX as u64 - 1)?;
-        let room = self.room + 1;
-        self.rest.reserve(room)?;
+        count_within(self.reserved as u64, usize::MAX as u64 - 1)?;
+        let reserved = self.reserved + 1;
+        self.rest.reserve(reserved)?;
         self.table.fit(self.rest.len())?;
-        self.room = room;
-        self.ready = room;
+        self.reserved = reserved;
+        self.ready = reserved;
         Ok(())
     }
 }
 
 impl<A: Allocator> MemberNames<A> {
-    /// Gives up the room for one name.
+    /// Gives up what was reserved for one name.
     pub fn release(&mut self)
-        requires { 0 < self.old.room }
-        ensures { self.new ≡ record self.old { room = self.old.room - 1 } }
+        requires { 0 < self.old.reserved }
+        ensures { self.new ≡ record self.old { reserved = self.old.reserved - 1 } }
     {
-        self.room -= 1;
+        self.reserved -= 1;
     }
 
     /// The key of a reference.
@@ -117,23 +117,23 @@ impl<A: Allocator> MemberNames<A> {
 
     /// Gives a reference that has none a key, in reserved room.
     pub fn insert(&mut self, reference: u32, key: usize)
-        requires room { 0 < self.old.room }
+        requires reserved { 0 < self.old.reserved }
         requires absent { key_of reference self.old ≡ None }
         ensures keys { (r : ℕ) → key_of r self.new ≡ (if r == reference then Some key else key_of r self.old) }
-        ensures room { self.new.room ≡ self.old.room - 1 }
+        ensures reserved { self.new.reserved ≡ self.old.reserved - 1 }
     {
         if !self.table.put(reference, key) {
             self.rest.insert(reference, key).unwrap();
             self.ready -= 1;
         }
-        self.room -= 1;
+        self.reserved -= 1;
     }
 
     /// Takes a reference out, and answers its key.
     pub fn remove(&mut self, reference: u32) -> Option<usize>
         ensures key { result ≡ key_of reference self.old }
         ensures keys { (r : ℕ) → key_of r self.new ≡ (if r == reference then None else key_of r self.old) }
-        ensures room { self.new.room ≡ self.old.room }
+        ensures reserved { self.new.reserved ≡ self.old.reserved }
     {
         match self.table.take(reference) {
             Some(key) => Some(key),
@@ -150,7 +150,7 @@ impl<A: Allocator> MemberNames<A> {
     pub fn retain<F: Fn(usize) -> bool>(&mut self, passes: &F)
         requires { (key : ℕ) → F.pre passes.now key }
         ensures keys { (r : ℕ) → Retains (F.post passes.now) (key_of r self.old) (key_of r self.new) }
-        ensures room { self.new.room ≡ self.old.room }
+        ensures reserved { self.new.reserved ≡ self.old.reserved }
     {
         self.table.retain(passes);
         if self.rest.len() == 0 {
@@ -171,13 +171,13 @@ impl<A: Allocator> MemberNames<A> {
         ensures unchanged { IfNone result (self.new ≡ self.old) }
         ensures key { IfSome result (λ name. key_of name.0 self.old ≡ Some name.1) }
         ensures keys { IfSome result (λ name. (r : ℕ) → key_of r self.new ≡ (if r == name.0 then None else key_of r self.old)) }
-        ensures room { self.new.room ≡ self.old.room }
+        ensures reserved { self.new.reserved ≡ self.old.reserved }
     {
         match self.table.pop() {
             Some(name) => Some(name),
             None => {
                 // So the next one that may come has the table asked whether it has too many buckets.
-                self.ready = self.room;
+                self.ready = self.reserved;
                 self.rest.pop()
             }
         }

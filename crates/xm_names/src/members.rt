@@ -1,8 +1,8 @@
 //! The tables of all members.
-#![tactic(auto, unfolding(crate::specs::Names::lookup, crate::specs::Names::room))]
+#![tactic(auto, unfolding(crate::specs::Names::lookup, crate::specs::Names::reserved))]
 
 ghost use Rattle.std.specs.Prelude.{◌≡◌, ℕ, true, ◌+◌, ◌-◌, ◌<◌, ◌==◌, ◌&&◌, None, Some, IfNone, IfSome, IsTrue, OnErr, OnOk, if◌then◌else◌, slice_get};
-ghost use Rattle.xm_names.specs.Names.{Retains, StandsAt, key_of, lookup, names_of, room};
+ghost use Rattle.xm_names.specs.Names.{Retains, StandsAt, key_of, lookup, names_of, reserved};
 
 use crate::member_names::MemberNames;
 use crate::seed::Seed;
@@ -33,10 +33,10 @@ impl<A: Allocator> Model for Members<A> {
 }
 
 impl<A: Allocator + Copy> Members<A> {
-    /// No name and no room, which takes no memory.
+    /// No name, and none reserved, which takes no memory.
     pub fn new(alloc: A, seed: Seed) -> Members<A>
         ensures names { (m r : ℕ) → lookup result m r ≡ None }
-        ensures room { (m : ℕ) → room result m ≡ 0 }
+        ensures reserved { (m : ℕ) → reserved result m ≡ 0 }
     {
         Members {
             members: IndexMap::with_hasher(alloc, seed),
@@ -44,11 +44,11 @@ impl<A: Allocator + Copy> Members<A> {
         }
     }
 
-    /// Makes room for one name more of this member.
+    /// Reserves room for one name more of this member.
     #[inline(always)]
     pub fn reserve(&mut self, member: u32) -> Result<(), OutOfMemory>
         ensures names { (m r : ℕ) → lookup self.new m r ≡ lookup self.old m r }
-        ensures room { OnOk result ((m : ℕ) → room self.new m ≡ (if m == member then room self.old m + 1 else room self.old m)) }
+        ensures reserved { OnOk result ((m : ℕ) → reserved self.new m ≡ (if m == member then reserved self.old m + 1 else reserved self.old m)) }
         ensures err { OnErr result (self.new ≡ self.old) }
     {
         match self.place(member) {
@@ -57,12 +57,12 @@ impl<A: Allocator + Copy> Members<A> {
         }
     }
 
-    /// Makes the table of a member that has none, with room for a name.
+    /// Makes the table of a member that has none, with room reserved for a name.
     #[inline(never)]
     fn begin(&mut self, member: u32) -> Result<(), OutOfMemory>
         requires { names_of self.old member ≡ None }
         ensures names { (m r : ℕ) → lookup self.new m r ≡ lookup self.old m r }
-        ensures room { OnOk result ((m : ℕ) → room self.new m ≡ (if m == member then room self.old m + 1 else room self.old m)) }
+        ensures reserved { OnOk result ((m : ℕ) → reserved self.new m ≡ (if m == member then reserved self.old m + 1 else reserved self.old m)) }
         ensures err { OnErr result (self.new ≡ self.old) }
     {
         let mut names = MemberNames::new(*self.members.allocator(), *self.members.hasher());
@@ -124,11 +124,11 @@ impl<A: Allocator> Members<A> {
         if *other == member { Some(place) } else { None }
     }
 
-    /// Gives up the room for one name of this member.
+    /// Gives up what was reserved for one name of this member.
     pub fn release(&mut self, member: u32)
-        requires { 0 < room self.old member }
+        requires { 0 < reserved self.old member }
         ensures names { (m r : ℕ) → lookup self.new m r ≡ lookup self.old m r }
-        ensures room { (m : ℕ) → room self.new m ≡ (if m == member then room self.old m - 1 else room self.old m) }
+        ensures reserved { (m : ℕ) → reserved self.new m ≡ (if m == member then reserved self.old m - 1 else reserved self.old m) }
     {
         if let Some(place) = self.place(member) {
             self.members.get_index_mut(place).unwrap().release();
@@ -146,10 +146,10 @@ impl<A: Allocator> Members<A> {
 
     /// Gives a name that is not there its key, in room that was reserved for its member.
     pub fn insert(&mut self, member: u32, reference: u32, key: usize)
-        requires room { 0 < room self.old member }
+        requires reserved { 0 < reserved self.old member }
         requires absent { lookup self.old member reference ≡ None }
         ensures names { (m r : ℕ) → lookup self.new m r ≡ (if m == member && r == reference then Some key else lookup self.old m r) }
-        ensures room { (m : ℕ) → room self.new m ≡ (if m == member then room self.old m - 1 else room self.old m) }
+        ensures reserved { (m : ℕ) → reserved self.new m ≡ (if m == member then reserved self.old m - 1 else reserved self.old m) }
     {
         if let Some(place) = self.place(member) {
             self.members
@@ -159,11 +159,11 @@ impl<A: Allocator> Members<A> {
         }
     }
 
-    /// Takes a name out, and answers its key. The room stays.
+    /// Takes a name out, and answers its key. What is reserved stays.
     pub fn remove(&mut self, member: u32, reference: u32) -> Option<usize>
         ensures key { result ≡ lookup self.old member reference }
         ensures names { (m r : ℕ) → lookup self.new m r ≡ (if m == member && r == reference then None else lookup self.old m r) }
-        ensures room { (m : ℕ) → room self.new m ≡ room self.old m }
+        ensures reserved { (m : ℕ) → reserved self.new m ≡ reserved self.old m }
     {
         match self.place(member) {
             Some(place) => self.members.get_index_mut(place).unwrap().remove(reference),
@@ -171,18 +171,18 @@ impl<A: Allocator> Members<A> {
         }
     }
 
-    /// Keeps the names whose keys pass a test, in one pass over all of them. The room stays.
+    /// Keeps the names whose keys pass a test, in one pass over all of them. What is reserved stays.
     pub fn retain<F: Fn(usize) -> bool>(&mut self, passes: &F)
         requires { (key : ℕ) → F.pre passes.now key }
         ensures names { (m r : ℕ) → Retains (F.post passes.now) (lookup self.old m r) (lookup self.new m r) }
-        ensures room { (m : ℕ) → room self.new m ≡ room self.old m }
+        ensures reserved { (m : ℕ) → reserved self.new m ≡ reserved self.old m }
     {
         self.members.retain(
             |_member: &u32, names: &mut MemberNames<A>| -> bool
                 requires { (key : ℕ) → F.pre passes.now key }
                 ensures stays { result ≡ true }
                 ensures keys { (r : ℕ) → Retains (F.post passes.entry.now) (key_of r names.old) (key_of r names.new) }
-                ensures room { names.new.room ≡ names.old.room }
+                ensures reserved { names.new.reserved ≡ names.old.reserved }
             {
                 names.retain(passes);
                 true
@@ -191,13 +191,13 @@ impl<A: Allocator> Members<A> {
     }
 
     /// Takes any one name of this member out, and answers its reference and its key, or `None` where the member has no name.
-    /// The room stays.
+    /// What is reserved stays.
     pub fn pop(&mut self, member: u32) -> Option<(u32, usize)>
         ensures none { IfNone result ((r : ℕ) → lookup self.old member r ≡ None) }
         ensures key { IfSome result (λ name. lookup self.old member name.0 ≡ Some name.1) }
         ensures left { IfSome result (λ name. (m r : ℕ) → lookup self.new m r ≡ (if m == member && r == name.0 then None else lookup self.old m r)) }
         ensures unchanged { IfNone result (self.new ≡ self.old) }
-        ensures room { (m : ℕ) → room self.new m ≡ room self.old m }
+        ensures reserved { (m : ℕ) → reserved self.new m ≡ reserved self.old m }
     {
         match self.place(member) {
             Some(place) => self.members.get_index_mut(place).unwrap().pop(),

@@ -1,6 +1,6 @@
 //! The names of all members.
 ghost use Rattle.std.specs.Prelude.{◌≡◌, ℕ, List, true, false, ◌+◌, ◌-◌, ◌<◌, ◌==◌, ◌&&◌, None, Some, IfNone, IfSome, IsTrue, OnErr, OnOk, if◌then◌else◌};
-ghost use Rattle.xm_names.specs.Names.{Retains, is_above, lookup, room};
+ghost use Rattle.xm_names.specs.Names.{Retains, is_above, lookup, reserved};
 
 use crate::members::Members;
 use crate::seed::Seed;
@@ -33,10 +33,10 @@ impl<A: Allocator> Model for Names<A> {
 }
 
 impl<A: Allocator + Copy> Names<A> {
-    /// No name and no room, which takes no memory.
+    /// No name, and none reserved, which takes no memory.
     pub fn new(alloc: A, seed: Seed) -> Names<A>
         ensures names { (m r : ℕ) → lookup result m r ≡ None }
-        ensures room { (m : ℕ) → room result m ≡ 0 }
+        ensures reserved { (m : ℕ) → reserved result m ≡ 0 }
     {
         Names {
             members: Members::new(alloc, seed),
@@ -44,11 +44,11 @@ impl<A: Allocator + Copy> Names<A> {
         }
     }
 
-    /// Makes room for one name more of this member.
+    /// Reserves room for one name more of this member.
     #[inline(always)]
     pub fn reserve(&mut self, member: u32) -> Result<(), OutOfMemory>
         ensures names { (m r : ℕ) → lookup self.new m r ≡ lookup self.old m r }
-        ensures room { OnOk result ((m : ℕ) → room self.new m ≡ (if m == member then room self.old m + 1 else room self.old m)) }
+        ensures reserved { OnOk result ((m : ℕ) → reserved self.new m ≡ (if m == member then reserved self.old m + 1 else reserved self.old m)) }
         ensures err { OnErr result (self.new ≡ self.old) }
     {
         if self.highest.is_empty() {
@@ -70,12 +70,12 @@ impl<A: Allocator> Names<A> {
         Ok(())
     }
 
-    /// Gives up the room for one name of this member.
+    /// Gives up what was reserved for one name of this member.
     #[inline(always)]
     pub fn release(&mut self, member: u32)
-        requires { 0 < room self.old member }
+        requires { 0 < reserved self.old member }
         ensures names { (m r : ℕ) → lookup self.new m r ≡ lookup self.old m r }
-        ensures room { (m : ℕ) → room self.new m ≡ (if m == member then room self.old m - 1 else room self.old m) }
+        ensures reserved { (m : ℕ) → reserved self.new m ≡ (if m == member then reserved self.old m - 1 else reserved self.old m) }
     {
         self.members.release(member);
     }
@@ -93,41 +93,41 @@ impl<A: Allocator> Names<A> {
 
     /// Gives a name that is not there its key, in room that was reserved for its member.
     pub fn insert(&mut self, member: u32, reference: u32, key: usize)
-        requires room { 0 < room self.old member }
+        requires reserved { 0 < reserved self.old member }
         requires absent { lookup self.old member reference ≡ None }
         ensures names { (m r : ℕ) → lookup self.new m r ≡ (if m == member && r == reference then Some key else lookup self.old m r) }
-        ensures room { (m : ℕ) → room self.new m ≡ (if m == member then room self.old m - 1 else room self.old m) }
+        ensures reserved { (m : ℕ) → reserved self.new m ≡ (if m == member then reserved self.old m - 1 else reserved self.old m) }
     {
         note(&mut self.highest, member, reference);
         self.members.insert(member, reference, key);
     }
 
-    /// Takes a name out, and answers its key. The room stays.
+    /// Takes a name out, and answers its key. What is reserved stays.
     pub fn remove(&mut self, member: u32, reference: u32) -> Option<usize>
         ensures key { result ≡ lookup self.old member reference }
         ensures names { (m r : ℕ) → lookup self.new m r ≡ (if m == member && r == reference then None else lookup self.old m r) }
-        ensures room { (m : ℕ) → room self.new m ≡ room self.old m }
+        ensures reserved { (m : ℕ) → reserved self.new m ≡ reserved self.old m }
     {
         self.members.remove(member, reference)
     }
 
-    /// Keeps the names whose keys pass a test, in one pass over all of them. The room stays.
+    /// Keeps the names whose keys pass a test, in one pass over all of them. What is reserved stays.
     pub fn retain<F: Fn(usize) -> bool>(&mut self, passes: &F)
         requires { (key : ℕ) → F.pre passes.now key }
         ensures names { (m r : ℕ) → Retains (F.post passes.now) (lookup self.old m r) (lookup self.new m r) }
-        ensures room { (m : ℕ) → room self.new m ≡ room self.old m }
+        ensures reserved { (m : ℕ) → reserved self.new m ≡ reserved self.old m }
     {
         self.members.retain(passes);
     }
 
     /// Takes any one name of this member out, and answers its reference and its key, or `None` where the member has no name.
-    /// The room stays.
+    /// What is reserved stays.
     pub fn pop(&mut self, member: u32) -> Option<(u32, usize)>
         ensures none { IfNone result ((r : ℕ) → lookup self.old member r ≡ None) }
         ensures key { IfSome result (λ name. lookup self.old member name.0 ≡ Some name.1) }
         ensures left { IfSome result (λ name. (m r : ℕ) → lookup self.new m r ≡ (if m == member && r == name.0 then None else lookup self.old m r)) }
         ensures unchanged { IfNone result (self.new ≡ self.old) }
-        ensures room { (m : ℕ) → room self.new m ≡ room self.old m }
+        ensures reserved { (m : ℕ) → reserved self.new m ≡ reserved self.old m }
     {
         self.members.pop(member)
     }

@@ -1,4 +1,4 @@
--- The names of the held stops still lead to their keys, as these stops and the room change.
+-- The names of the held stops still lead to their keys, as these stops and what is reserved change.
 use Rattle.xm_stops.specs.Listing.{stop_owner, stop_reference}
 use Rattle.xm_slots.proofs.Naming.{IsNamedAt, find-map, items-kept, key_of-others, key_of-push, left-by-key, left-without, name-once, named-at, named-is, not-named, nothing-of, others, own_names-kept, own_names-push}
 use Rattle.xm_slots.specs.Naming.{has_name, have_own_names, key_by_name}
@@ -6,7 +6,7 @@ use Rattle.std.proofs.Common.{◌≡◌, ℕ, ◌+◌, ◌-◌, Bool, true, fals
 use Rattle.std.specs.List.{list_any}
 use Rattle.std.proofs.lemmas.Bool.Decides.{nat_tests}
 use Rattle.std.proofs.lemmas.List.{length-map, map-append}
-use Rattle.xm_names.specs.Names.{NamesOfMember, lookup, room}
+use Rattle.xm_names.specs.Names.{NamesOfMember, lookup, reserved}
 use Rattle.xm_queues.specs.Keys.{AreDistinct}
 use Rattle.xm_rules.specs.Orders.{is_stop_named, removed_stop, without_stops_of}
 use Rattle.xm_rules.specs.declared.orders.Stop.{Stop}
@@ -25,16 +25,16 @@ abbrev pub seen : QueuedStops → HeldStops
 seen q = record { stops = map listed_item q.stops; ready = q.ready }
 
 -- no name
-pub nothing-indexed : (names : List (ℕ × NamesOfMember)) → ((m r : ℕ) → lookup names m r ≡ None) → ((m : ℕ) → room names m ≡ 0) → AreStopsIndexed (record { stops = []; ready = None; adds = 0 }) names
-nothing-indexed names none empty = record { named = λ m r. none m r; names_room = λ m. empty m; own = refl }
+pub nothing-indexed : (names : List (ℕ × NamesOfMember)) → ((m r : ℕ) → lookup names m r ≡ None) → ((m : ℕ) → reserved names m ≡ 0) → AreStopsIndexed (record { stops = []; ready = None; adds = 0 }) names
+nothing-indexed names none empty = record { named = λ m r. none m r; names_reserved = λ m. empty m; own = refl }
 
 pub named-itself : (o : Stop) → is_stop_named o.member o.reference o ≡ true
 named-itself o = grind (arith, nat_tests)
 
--- a stop's name takes the room that was made for it, whether it is the member's or not
-joined-room : (its : Bool) (before after : ℕ) → before ≡ (if its then 1 else 0) → after ≡ (if its then before - 1 else before) → after ≡ 0
-joined-room true before after e f = omega (arith, e, f)
-joined-room false before after e f = omega (arith, e, f)
+-- a stop's name takes what was reserved for it, whether it is the member's or not
+joined-reserved : (its : Bool) (before after : ℕ) → before ≡ (if its then 1 else 0) → after ≡ (if its then before - 1 else before) → after ≡ 0
+joined-reserved true before after e f = omega (arith, e, f)
+joined-reserved false before after e f = omega (arith, e, f)
 
 module _ (q : QueuedStops) (names : List (ℕ × NamesOfMember)) (h : AreStopsIndexed q names) where
   abbrev os : List Stop
@@ -64,10 +64,10 @@ module _ (q : QueuedStops) (names : List (ℕ × NamesOfMember)) (h : AreStopsIn
 
     pub stop-joined : list_any (is_stop_named o.member o.reference) os ≡ false → q.ready ≡ Some o → (names' : List (ℕ × NamesOfMember))
         → ((m r : ℕ) → lookup names' m r ≡ (if (m == o.member) && (r == o.reference) then Some key else lookup names m r))
-        → ((m : ℕ) → room names' m ≡ (if m == o.member then room names m - 1 else room names m)) → AreStopsIndexed q' names'
+        → ((m : ℕ) → reserved names' m ≡ (if m == o.member then reserved names m - 1 else reserved names m)) → AreStopsIndexed q' names'
     stop-joined out ready names' put less = subst (λ (v : QueuedStops). AreStopsIndexed v names') (sym push) (record {
       named = λ m r. put m r ∙ ap (λ (k : Option ℕ). if (m == o.member) && (r == o.reference) then Some key else k) (h.named m r) ∙ sym (key_of-push stop_owner stop_reference m r q.stops x out);
-      names_room = λ m. joined-room (m == o.member) (room names m) (room names' m) (h.names_room m ∙ ap (λ (r : Option Stop). names_ready r m) ready) (less m);
+      names_reserved = λ m. joined-reserved (m == o.member) (reserved names m) (reserved names' m) (h.names_reserved m ∙ ap (λ (r : Option Stop). names_ready r m) ready) (less m);
       own = ap (have_own_names stop_owner stop_reference) joined ∙ own_names-push stop_owner stop_reference os o out h.own;
     })
 
@@ -151,18 +151,18 @@ module _ (q : QueuedStops) (names : List (ℕ × NamesOfMember)) (h : AreStopsIn
             length-map q.stops listed_item,
           )
 
-      pub stop-left : (names' : List (ℕ × NamesOfMember)) → ((m r : ℕ) → lookup names' m r ≡ (if (m == member) && (r == reference) then None else lookup names m r)) → ((m : ℕ) → room names' m ≡ room names m)
+      pub stop-left : (names' : List (ℕ × NamesOfMember)) → ((m r : ℕ) → lookup names' m r ≡ (if (m == member) && (r == reference) then None else lookup names m r)) → ((m : ℕ) → reserved names' m ≡ reserved names m)
           → AreStopsIndexed q' names'
       stop-left names' out same = subst (λ (v : QueuedStops). AreStopsIndexed v names') (sym left-is) (record {
         named = λ m r. out m r ∙ ap (λ (k : Option ℕ). if (m == member) && (r == reference) then None else k) (h.named m r) ∙ sym (key_of-others stop_owner stop_reference member reference m r q.stops);
-        names_room = λ m. same m ∙ h.names_room m;
+        names_reserved = λ m. same m ∙ h.names_reserved m;
         own = ap (have_own_names stop_owner stop_reference) stops-left ∙ own_names-kept stop_owner stop_reference (λ (o : Stop). not (is_stop_named member reference o)) os h.own;
       })
 
   -- the stop of a key leaves with its name
   pub stop-taken : (key : ℕ) → Contains (keys_in q.stops) key → (taken : Entry Stop) → ((x : Listed Stop) → Contains q.stops x → x.key ≡ key → taken ≡ listed_entry x) → AreDistinct (keys_in q.stops)
       → (q' : QueuedStops) → q' ≡ record q { stops = filter (is_other_key key) q.stops } → (names' : List (ℕ × NamesOfMember))
-      → ((m r : ℕ) → lookup names' m r ≡ (if (m == taken.item.member) && (r == taken.item.reference) then None else lookup names m r)) → ((m : ℕ) → room names' m ≡ room names m) → AreStopsIndexed q' names'
+      → ((m r : ℕ) → lookup names' m r ≡ (if (m == taken.item.member) && (r == taken.item.reference) then None else lookup names m r)) → ((m : ℕ) → reserved names' m ≡ reserved names m) → AreStopsIndexed q' names'
   stop-taken key at taken is distinct q' left names' out same = stop-left taken.item.member taken.item.reference key name distinct q' left names' out same
     where
       made : IsMade (λ (x : Listed Stop). x.key) q.stops key

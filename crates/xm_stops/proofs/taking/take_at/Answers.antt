@@ -5,7 +5,7 @@ use Rattle.xm_stops.proofs.taking.take_at.Goals as goal
 pub returns-clause-indexed : goal.returns-clause-indexed
 returns-clause-indexed g c =
     let out = c.take-entry in
-    stop-taken c.args.queues.now c.args.names.now c.requires.indexed c.args.key c.requires.there out.result out.ensures.entry out.ensures.distinct out.new.self out.ensures.left c.remove.new.self c.remove.ensures.names c.remove.ensures.room
+    stop-taken c.args.queues.now c.args.names.now c.requires.indexed c.args.key c.requires.there out.result out.ensures.entry out.ensures.distinct out.new.self out.ensures.left c.remove.new.self c.remove.ensures.names c.remove.ensures.reserved
 
 pub returns-clause-pending : goal.returns-clause-pending
 returns-clause-pending g c x there same =

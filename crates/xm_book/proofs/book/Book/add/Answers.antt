@@ -13,7 +13,7 @@ invariant_of-self g c =
     let b = c.self.inside in
     let joined = c.push-key.ensures in
     order-joined b.queues b.names c.self.invariant c.args.order b.queues.adds c.push-key.result c.push-key.new.self joined.orders joined.used (rw (← c.self.view_is) at c.requires.name) c.requires.rest
-    c.insert.new.self c.insert.ensures.names c.insert.ensures.room
+    c.insert.new.self c.insert.ensures.names c.insert.ensures.reserved
 
 pub returns-clause-used : goal.returns-clause-used
 returns-clause-used g c =

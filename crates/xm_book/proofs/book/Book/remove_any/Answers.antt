@@ -11,7 +11,7 @@ pub invariant_of-self-in-Some : goal.invariant_of-self-in-Some
 invariant_of-self-in-Some g c =
     let b = c.self.inside in
     let left = c.take.ensures in
-    order-left b.queues b.names c.self.invariant c.args.member c.in-Some._reference c.in-Some.key (sym c.in-Some.ensures.key) left.distinct c.take.new.self left.left c.pop.new.self c.in-Some.ensures.left c.pop.ensures.room
+    order-left b.queues b.names c.self.invariant c.args.member c.in-Some._reference c.in-Some.key (sym c.in-Some.ensures.key) left.distinct c.take.new.self left.left c.pop.new.self c.in-Some.ensures.left c.pop.ensures.reserved
 
 pub returns-in-None-clause-none : goal.returns-in-None-clause-none
 returns-in-None-clause-none g c h =

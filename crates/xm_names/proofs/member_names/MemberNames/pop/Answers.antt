@@ -10,6 +10,6 @@ returns-in-None-clause-key g c =
     let absent : IfSome c.pop-in-None.result (λ name. lookup (nat_eq name.0) c.pop-in-None.new.self.entries ≡ None) =
     some_gives c.pop-in-None.result _ _ (λ name updates. updates.1) c.pop-in-None.ensures.updates in
     rw (← c.self.view_is)
-    (some_gives c.pop-in-None.result _ (λ name. key_of name.0 (record { table = n.table; rest = n.rest.entries; room = n.room }) ≡ Some name.1)
+    (some_gives c.pop-in-None.result _ (λ name. key_of name.0 (record { table = n.table; rest = n.rest.entries; reserved = n.reserved }) ≡ Some name.1)
     (λ name key. ap (λ (o : Option ℕ). first_of o (lookup (nat_eq name.0) n.rest.entries)) (c.in-None.ensures.none name.0) ∙ key)
     (popped_key n.rest.entries c.pop-in-None.new.self.entries c.pop-in-None.result c.pop-in-None.ensures.entries absent))

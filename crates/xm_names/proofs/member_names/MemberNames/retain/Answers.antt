@@ -22,7 +22,7 @@ invariant_of-self-2 g c =
     let later : (r : ℕ) → Retains A (lookup (nat_eq r) n.rest.entries) (lookup (nat_eq r) c.retain-2.new.self.entries) =
     λ r. retained A _ _ (λ k v b w f call. search rules) r _ _ c.len.ensures.unique c.retain-2.ensures.filtered in
     record {
-      room = c.self.invariant.room;
+      reserved = c.self.invariant.reserved;
       ready = omega (arith, c.self.invariant.ready, c.retain-2.ensures.room.0);
       apart = λ r some. still-none A (lookup (nat_eq r) n.rest.entries) (lookup (nat_eq r) c.retain-2.new.self.entries) (c.self.invariant.apart r (was-some A (table_key n.table r) (table_key c.retain.new.self r) (c.retain.ensures r) some)) (later r);
     }

@@ -1,7 +1,7 @@
 use Rattle.std.proofs.Common.{rules, ℕ, ◌==◌, if◌then◌else◌, Option, None, sym, ap, ◌∙◌}
 use Rattle.xm_names.specs.Names.{NamesOfMember, StandsAt, key_of}
 use Rattle.xm_names.proofs.Entries.{none_gives, some_gives}
-use Rattle.xm_names.proofs.Tables.{lookup-with, own-key, room-same, table-is, unchanged}
+use Rattle.xm_names.proofs.Tables.{lookup-with, own-key, reserved-same, table-is, unchanged}
 use Rattle.xm_names.proofs.members.Members.pop.Goals as goal
 
 pub returns-in-Some-clause-none : goal.returns-in-Some-clause-none
@@ -38,10 +38,10 @@ returns-in-Some-clause-unchanged g c =
     rw (← c.self.view_is)
     (none_gives c.pop.result (λ same. unchanged m c.args.member c.in-Some.place stands c.pop.new.self (same ∙ table)) c.pop.ensures.unchanged)
 
-pub returns-in-Some-clause-room : goal.returns-in-Some-clause-room
-returns-in-Some-clause-room g c =
+pub returns-in-Some-clause-reserved : goal.returns-in-Some-clause-reserved
+returns-in-Some-clause-reserved g c =
     let m = c.self.inside.members in
     let stands : StandsAt m.entries c.args.member c.in-Some.place = rw c.self.view_is c.in-Some.ensures.some in
     let table = table-is m c.args.member c.in-Some.place stands c.unwrap.result.now (search rules) in
     rw (← c.self.view_is)
-    (room-same m c.args.member c.in-Some.place stands c.get_index_mut.ensures.unique c.pop.new.self (c.pop.ensures.room ∙ ap (λ (x : NamesOfMember). x.room) table))
+    (reserved-same m c.args.member c.in-Some.place stands c.get_index_mut.ensures.unique c.pop.new.self (c.pop.ensures.reserved ∙ ap (λ (x : NamesOfMember). x.reserved) table))

@@ -1,14 +1,14 @@
 use Rattle.std.proofs.Common.{rules, ◌-◌, ap, ◌∙◌, arith}
 use Rattle.xm_names.specs.Names.{NamesOfMember, StandsAt, key_of}
-use Rattle.xm_names.proofs.Tables.{lookup-same, own-room, room-with, table-is}
+use Rattle.xm_names.proofs.Tables.{lookup-same, own-reserved, reserved-with, table-is}
 use Rattle.xm_names.proofs.members.Members.release.Goals as goal
 
 pub release-requires : goal.release-requires
 release-requires g c =
     let m = c.self.inside.members in
     let stands : StandsAt m.entries c.args.member c.in-Some.place = rw c.self.view_is c.in-Some.ensures.some in
-    let table = ap (λ (x : NamesOfMember). x.room) (table-is m c.args.member c.in-Some.place stands c.unwrap.result.now (search rules)) in
-    let own = own-room m c.args.member c.in-Some.place stands in
+    let table = ap (λ (x : NamesOfMember). x.reserved) (table-is m c.args.member c.in-Some.place stands c.unwrap.result.now (search rules)) in
+    let own = own-reserved m c.args.member c.in-Some.place stands in
     let some = rw (← c.self.view_is) at c.requires in
     omega arith
 
@@ -19,13 +19,13 @@ returns-in-Some-clause-names g c =
     let table = table-is m c.args.member c.in-Some.place stands c.unwrap.result.now (search rules) in
     rw (← c.self.view_is)
     (lookup-same m c.args.member c.in-Some.place stands c.get_index_mut.ensures.unique c.release.new.self
-    (λ r. ap (key_of r) (c.release.ensures ∙ (λ i. record (table i) { room = c.unwrap.result.now.room - 1 }))))
+    (λ r. ap (key_of r) (c.release.ensures ∙ (λ i. record (table i) { reserved = c.unwrap.result.now.reserved - 1 }))))
 
-pub returns-in-Some-clause-room : goal.returns-in-Some-clause-room
-returns-in-Some-clause-room g c =
+pub returns-in-Some-clause-reserved : goal.returns-in-Some-clause-reserved
+returns-in-Some-clause-reserved g c =
     let m = c.self.inside.members in
     let stands : StandsAt m.entries c.args.member c.in-Some.place = rw c.self.view_is c.in-Some.ensures.some in
     let table = table-is m c.args.member c.in-Some.place stands c.unwrap.result.now (search rules) in
     rw (← c.self.view_is)
-    (room-with m c.args.member c.in-Some.place stands c.get_index_mut.ensures.unique c.release.new.self (λ n. n - 1)
-    (ap (λ (x : NamesOfMember). x.room) c.release.ensures ∙ ap (λ (x : NamesOfMember). x.room - 1) table))
+    (reserved-with m c.args.member c.in-Some.place stands c.get_index_mut.ensures.unique c.release.new.self (λ n. n - 1)
+    (ap (λ (x : NamesOfMember). x.reserved) c.release.ensures ∙ ap (λ (x : NamesOfMember). x.reserved - 1) table))

@@ -6,4 +6,4 @@ use Rattle.xm_stops.proofs.stops.Stops.new.Goals as goal
 
 pub invariant_of-result : goal.invariant_of-result
 invariant_of-result g c =
-    subst (λ (v : QueuedStops). AreStopsIndexed v c.new-2.result) (sym c.new.ensures) (nothing-indexed c.new-2.result c.new-2.ensures.names c.new-2.ensures.room)
+    subst (λ (v : QueuedStops). AreStopsIndexed v c.new-2.result) (sym c.new.ensures) (nothing-indexed c.new-2.result c.new-2.ensures.names c.new-2.ensures.reserved)

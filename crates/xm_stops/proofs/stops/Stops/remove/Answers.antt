@@ -14,7 +14,7 @@ pub invariant_of-self-in-Some : goal.invariant_of-self-in-Some
 invariant_of-self-in-Some g c =
     let b = c.self.inside in
     let left = c.take.ensures in
-    stop-left b.queues b.names c.self.invariant c.args.member c.args.reference c.in-Some.key c.in-Some.ensures.key left.distinct c.take.new.self left.left c.remove.new.self c.remove.ensures.names c.remove.ensures.room
+    stop-left b.queues b.names c.self.invariant c.args.member c.args.reference c.in-Some.key c.in-Some.ensures.key left.distinct c.take.new.self left.left c.remove.new.self c.remove.ensures.names c.remove.ensures.reserved
 
 pub returns-in-None-clause-found : goal.returns-in-None-clause-found
 returns-in-None-clause-found g c =
