@@ -1,6 +1,6 @@
 -- What the level of one restriction answers of the orders that stand in it: its units, its earliest order, and which limits
 -- have a level.
-use Rattle.std.proofs.Common.{◌≡◌, ℕ, ◌+◌, ◌<◌, ◌≤◌, ◌==◌, Bool, true, false, ◌&&◌, not, if◌then◌else◌, List, [], ◌∷◌, length, get_or, filter, Contains, Option, Some, None, IfNone, IfSome, refl, sym, ap, ◌∙◌, subst, ◌⊎◌, inl, inr, arith}
+use Rattle.std.proofs.Common.{◌≡◌, ℕ, ◌+◌, ◌*◌, ◌<◌, ◌≤◌, ◌==◌, Bool, true, false, ◌&&◌, not, if◌then◌else◌, List, [], ◌∷◌, length, get_or, filter, Contains, Option, Some, None, IfNone, IfSome, refl, sym, ap, ◌∙◌, subst, ◌⊎◌, inl, inr, arith}
 use Rattle.std.specs.List.{All}
 use Rattle.std.specs.Prelude.{nat_le, slice_get}
 use Rattle.std.proofs.lemmas.Bool.{and_parts, and_from, false≢true, false_from_ne_true, leb-true, le-ltb, not-true}
@@ -75,7 +75,7 @@ units-inactive phase side r test xs e = ap units_in (filter_none (is_in phase si
 small-kept : (p : Listed Order → Bool) (xs : List (Listed Order)) → All (λ (x : Listed Order). x.item.rest ≤ MAX_QUANTITY) xs → All (λ (x : Listed Order). x.item.rest ≤ MAX_QUANTITY) (filter p xs)
 small-kept p xs h = λ i d lt. (let at = Passes-filter p xs (get_or (filter p xs) i d) (Contains-get_or (filter p xs) i d lt) in All-contains (λ (x : Listed Order). x.item.rest ≤ MAX_QUANTITY) xs (get_or (filter p xs) i d) h at.contains)
 
-pub units-bound : (p : Listed Order → Bool) (xs : List (Listed Order)) → All (λ (x : Listed Order). x.item.rest ≤ MAX_QUANTITY) xs → length xs ≤ MAX_PLACES → units_in (filter p xs) ≤ 2000000000000
+pub units-bound : (p : Listed Order → Bool) (xs : List (Listed Order)) → All (λ (x : Listed Order). x.item.rest ≤ MAX_QUANTITY) xs → length xs ≤ MAX_PLACES → units_in (filter p xs) ≤ MAX_QUANTITY * MAX_PLACES
 units-bound p xs h few =
     let most = units-few (filter p xs) (small-kept p xs h) in
     let long = length-kept p xs in

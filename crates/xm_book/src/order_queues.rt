@@ -1,9 +1,10 @@
 //! The orders of a book in their queues.
-ghost use Rattle.std.specs.Prelude.{◌≡◌, ◌+◌, ◌++◌, ◌∷◌, [], ◌<◌, ◌≤◌, ◌^◌, ◌&&◌, Contains, IfOk, IfSome, IsSome, IsTrue, OnErr, OnOk, Some, filter, length, map, option_copied, sum_by, true};
+ghost use Rattle.std.specs.Prelude.{◌≡◌, ◌+◌, ◌++◌, ◌*◌, ◌∷◌, [], ◌<◌, ◌≤◌, ◌^◌, ◌&&◌, Contains, IfOk, IfSome, IsSome, IsTrue, OnErr, OnOk, Some, filter, length, map, option_copied, sum_by, true};
 ghost use Rattle.std.specs.List.{list_all, list_any};
 ghost use Rattle.std.specs.Option.{option_map};
 ghost use Rattle.xm_slots.specs.Listing.{is_below, listed_item};
 ghost use Rattle.xm_book.specs.declared.places.TheConstants.{MAX_PLACES};
+ghost use Rattle.xm_ticks.specs.declared.numbers.TheConstants.{MAX_QUANTITY};
 ghost use Rattle.xm_book.specs.Fronts.{IsBestOf, IsFirstOf, IsKindOfFirst, better_of_two, earlier_of_two, goes_ahead, has_kind, has_kind_later, has_worse, is_any, is_earlier, is_in, is_on};
 ghost use Rattle.xm_slots.specs.Listing.{is_other_key, keys_in, listed_entry, rises};
 ghost use Rattle.xm_book.specs.Listing.{order_owner, reduced_at};
@@ -328,7 +329,7 @@ impl<A: Allocator + Copy> OrderQueues<A> {
     /// The units that rest in the orders of one restriction, where it is active.
     fn units_in(&self, side: Side, phase: Phase, restriction: Restriction, kind: &OrderKind) -> u64
         ensures units { result ≡ sum_by (λ (x : Listed Order). x.item.rest) (filter (is_in phase side restriction (has_kind kind.now)) self.now.orders) }
-        ensures few { result ≤ 2000000000000 }
+        ensures few { result ≤ MAX_QUANTITY * MAX_PLACES }
     {
         if !restriction.is_active(phase) {
             return 0;
