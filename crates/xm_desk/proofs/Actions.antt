@@ -4,12 +4,12 @@ use Rattle.std.specs.Option.{option_map}
 use Rattle.std.specs.Prelude.{nat_le}
 use Rattle.std.proofs.lemmas.Bool.{and_parts}
 use Rattle.std.proofs.lemmas.Bool.Decides.{nat_tests}
-use Rattle.xm_desk.proofs.CallsEnd.{in_range}
 use Rattle.xm_desk.proofs.Named.{find-named}
 use Rattle.xm_desk.specs.Accepted.{action_of, changing, ending, entering}
 use Rattle.xm_desk.specs.declared.accepted.Action.{Action}
 use Rattle.xm_desk.specs.declared.accepted.Action.TheVariants as action
 use Rattle.xm_rules.proofs.Accepted.{change-accepted, entry-accepted}
+use Rattle.xm_rules.proofs.Ranges.{range_high}
 use Rattle.xm_rules.specs.Auction.{auction_price}
 use Rattle.xm_rules.specs.Commands.{has_prices_in_range, is_immediate, is_in_range, trigger_of}
 use Rattle.xm_rules.specs.Orders.{is_named, with_rest}
@@ -82,10 +82,10 @@ immediate_if false h = cc
 trigger-within : (k : Kind) (trigger : ℕ) → has_prices_in_range k ≡ true → trigger_of k ≡ Some trigger → trigger ≤ MAX_PRICE
 trigger-within kind.Market trigger h e = cc
 trigger-within (kind.Limit p) trigger h e = cc
-trigger-within (kind.StopMarket t) trigger h e = let same : t ≡ trigger = cc in omega (arith, in_range t h, same)
+trigger-within (kind.StopMarket t) trigger h e = let same : t ≡ trigger = cc in omega (arith, range_high t h, same)
 trigger-within (kind.StopLimit t p) trigger h e =
     let same : t ≡ trigger = cc in
-    omega (arith, in_range t (and_parts (is_in_range t) (is_in_range p) h).0, same)
+    omega (arith, range_high t (and_parts (is_in_range t) (is_in_range p) h).0, same)
 
 module _ (s : State) (member reference : ℕ) (side : Side) (k : Kind) (quantity : ℕ) (v : Validity) (r : Restriction) (condition : Condition) where
   abbrev entry : Command

@@ -24,7 +24,9 @@ use Rattle.xm_rules.specs.declared.orders.Stop.{Stop}
 use Rattle.xm_rules.specs.declared.orders.Trade.{Trade}
 use Rattle.xm_rules.specs.declared.settings.DeskSettings.{DeskSettings}
 use Rattle.xm_stops.specs.HeldStops.{HeldStops, PendingStops}
-use Rattle.xm_ticks.specs.declared.numbers.TheConstants.{MAX_QUANTITY}
+use Rattle.xm_ticks.specs.declared.numbers.TheConstants.{MAX_JOURNAL_LIMIT, MAX_QUANTITY}
+use Rattle.xm_book.specs.declared.places.TheConstants.{MAX_PLACES}
+use Rattle.xm_rules.specs.declared.settings.TheConstants.{PHASE_COMMANDS_MORE}
 
 once_used-none : (ready : Ready) → places_in (once_used ready) ≡ []
 once_used-none Nothing = refl
@@ -83,7 +85,7 @@ ready_once Used = omega arith
 
 -- no more trades are possible than a book has orders
 pub few-possible : (u : Unsettled) (accepted limit room : ℕ) (book : TimeList) (held : HeldStops) (pending : PendingStops) (ready : Ready) → IsFramed accepted book held pending room ready
-    → u.state.orders ≡ book.orders → u.state.stops ≡ held.stops → u.pending ≡ pending.stops → u.ready ≡ ready → accepted ≤ limit + 64 → limit ≤ 1000000 → possible_trades u ≤ 2000000
+    → u.state.orders ≡ book.orders → u.state.stops ≡ held.stops → u.pending ≡ pending.stops → u.ready ≡ ready → accepted ≤ limit + PHASE_COMMANDS_MORE → limit ≤ MAX_JOURNAL_LIMIT → possible_trades u ≤ MAX_PLACES
 few-possible u accepted limit room book held pending ready f orders stops waiting is_ready below few =
     omega (
       arith,
@@ -97,7 +99,7 @@ few-possible u accepted limit room book held pending ready f orders stops waitin
       few,
     )
 
-module _ (u n : Unsettled) (m : Makes u n) (few : possible_trades u ≤ 2000000) where
+module _ (u n : Unsettled) (m : Makes u n) (few : possible_trades u ≤ MAX_PLACES) where
   -- the state that it leads to is counted
   pub counted-after : (t : Unsettled) → n ≡ record t { state = record t.state { accepted = t.state.accepted + 1 }; ready = Nothing } → t.pending ≡ [] → CanSettle t → IsCounted u.state
       → t.state.accepted ≡ u.state.accepted → IsCounted n.state

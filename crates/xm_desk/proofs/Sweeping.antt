@@ -4,7 +4,6 @@ use Rattle.std.specs.List.{list_any}
 use Rattle.std.specs.Prelude.{nat_lt}
 use Rattle.std.proofs.lemmas.Bool.Decides.{nat_tests}
 use Rattle.std.proofs.lemmas.List.Elements.{All-weaker}
-use Rattle.xm_desk.proofs.CallsEnd.{in_range}
 use Rattle.xm_desk.specs.Incoming.{CanJoin}
 use Rattle.xm_book.specs.Places.{place_of}
 use Rattle.xm_desk.specs.Made.{AreSized}
@@ -15,6 +14,7 @@ use Rattle.xm_rules.specs.Settling as settling
 use Rattle.xm_rules.specs.Settling.{swept}
 use Rattle.xm_rules.specs.Commands.{is_in_range}
 use Rattle.xm_ticks.specs.declared.numbers.TheConstants.{MAX_QUANTITY}
+use Rattle.xm_rules.proofs.Ranges.{range_high}
 use Rattle.xm_rules.proofs.SweepSizes.{each_sweep_trade, sweep_trades_sized}
 use Rattle.xm_rules.specs.Active.{Positioned, positioned_from}
 use Rattle.xm_rules.specs.Orders.{is_named, trade_between}
@@ -69,7 +69,7 @@ same-sweep t last last_auction orders incoming widths e f = rw (e, f) refl
 -- no trade is larger than the incoming order
 pub sized-swept : (number : ℕ) (w : Sweep) → is_in_range w.incoming.rest ≡ true → AreSized (sweep_trades number w)
 sized-swept number w rest =
-    let small = in_range w.incoming.rest rest in
+    let small = range_high w.incoming.rest rest in
     All-weaker (λ (t : Trade). t.quantity ≤ w.incoming.rest) (λ (t : Trade). t.quantity ≤ MAX_QUANTITY) (λ t h. omega (arith, h, small)) (sweep_trades number w) (sweep_trades_sized number w)
 
 some_left : (rest left : ℕ) → 0 < left → left ≤ rest → is_in_range rest ≡ true → is_in_range left ≡ true

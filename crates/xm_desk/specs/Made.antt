@@ -8,6 +8,7 @@ use Rattle.xm_rules.specs.declared.orders.Stop.{Stop}
 use Rattle.xm_rules.specs.declared.orders.Trade.{Trade}
 use Rattle.xm_rules.specs.declared.settings.TheConstants.{PHASE_COMMANDS_MORE}
 use Rattle.xm_ticks.specs.declared.numbers.TheConstants.{MAX_QUANTITY}
+use Rattle.xm_book.specs.declared.places.TheConstants.{MAX_PLACES}
 
 -- no quantity is above that of an order
 abbrev pub AreSized : List Trade → Type 0
@@ -33,7 +34,7 @@ uses member reference s = count_by (is_named member reference) s.orders + count_
 pub record IsCounted (s : State) : Type 0 where
   pub accepted : s.accepted ≤ s.settings.limit + PHASE_COMMANDS_MORE
   pub sweeps : s.sweeps + length s.stops ≤ came s.settings s.accepted
-  pub number : length s.trades ≤ 2000000 * s.accepted
+  pub number : length s.trades ≤ MAX_PLACES * s.accepted
   pub sized : AreSized s.trades
   pub names : (member reference : ℕ) → uses member reference s ≤ 1
   pub units : HaveUnits s.stops

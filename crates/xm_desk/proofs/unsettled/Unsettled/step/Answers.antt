@@ -5,6 +5,7 @@ use Rattle.xm_desk.specs.Settled.{Unsettled, possible_trades, came}
 use Rattle.xm_rules.proofs.Kept.{act-keeps, settle-keeps}
 use Rattle.xm_desk.proofs.unsettled.Unsettled.step.Given.{Over}
 use Rattle.xm_desk.proofs.unsettled.Unsettled.step.Goals as goal
+use Rattle.xm_book.specs.declared.places.TheConstants.{MAX_PLACES}
 
 pub settle-requires : goal.settle-requires
 settle-requires g c = can-settle c.args.self.now c.args.accepted.now.command.value c.requires.settled c.requires.accepted.lawful c.requires.counted c.act.new.self c.act.ensures.acted
@@ -27,7 +28,7 @@ returns-clause-made g c =
     (makes-none t n (ap (λ (w : Unsettled). w.state.trades) c.count.ensures) (omega (arith, ap possible_trades c.count.ensures)))
 
 -- no more trades are possible than a book has orders
-few : (g : Over) (c : goal.After-count g) → possible_trades c.args.self.now ≤ 2000000
+few : (g : Over) (c : goal.After-count g) → possible_trades c.args.self.now ≤ MAX_PLACES
 few g c =
     let u = c.self.inside in
     let v = c.args.self.now in
