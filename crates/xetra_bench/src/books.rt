@@ -11,7 +11,7 @@ use std::marker::Model;
 use std::rt::Clock;
 use xm_book::{Book, Place};
 use xm_memory::OutOfMemory;
-use xm_names::Seed;
+use xm_names::Storage;
 use xm_rules::{Order, OrderKind, Phase, Restriction, Side, Validity};
 use xm_ticks::Price;
 
@@ -151,7 +151,7 @@ impl<A: Allocator + Copy> Model for LoadedBook<A> {
 impl<A: Allocator + Copy> LoadedBook<A> {
     fn new(alloc: A) -> LoadedBook<A> {
         LoadedBook {
-            book: Book::new(alloc, Seed::fixed()),
+            book: Book::new(Storage::with_fixed_seed(alloc)),
             adds: 0,
             places: 0,
         }

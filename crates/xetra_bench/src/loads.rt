@@ -3,7 +3,7 @@
 use std::alloc::Global;
 use std::marker::Model;
 use xm_desk::Desk;
-use xm_names::Seed;
+use xm_names::Storage;
 use xm_rules::{
     Command, Condition, DeskSettings, Kind, Order, Phase, Quote, Refusal, Reply, Restriction, Side,
     Stop, Trade, Validity, Widths,
@@ -61,7 +61,7 @@ impl Loaded {
     /// A desk without orders.
     pub fn open(alloc: Global, opening: Opening) -> Result<Loaded, LoadFault> {
         let settings = opening.settings().ok_or(LoadFault)?;
-        match Desk::open(alloc, Seed::fixed(), settings) {
+        match Desk::open(Storage::with_fixed_seed(alloc), settings) {
             Ok(desk) => Ok(Loaded { desk }),
             Err(_) => Err(LoadFault),
         }

@@ -17,7 +17,7 @@ use crate::places::Place;
 use std::alloc::Allocator;
 use std::marker::Model;
 use xm_memory::OutOfMemory;
-use xm_names::{Names, Seed};
+use xm_names::{Names, Storage};
 use xm_rules::{Order, OrderKind, Phase, Side};
 use xm_slots::Entry;
 use xm_ticks::Price;
@@ -63,13 +63,13 @@ fn order_of(found: Option<&Entry<Order>>) -> Option<&Order>
 }
 
 impl<A: Allocator + Copy> Book<A> {
-    /// A book with no order, which takes no memory. Names are hashed by the seed, on which no answer depends.
-    pub fn new(alloc: A, seed: Seed) -> Book<A>
+    /// A book with no order, which takes no memory.
+    pub fn new(storage: Storage<A>) -> Book<A>
         ensures { result ≡ record { orders = []; reserved = []; adds = 0 } }
     {
         Book {
-            queues: OrderQueues::new(alloc),
-            names: Names::new(alloc, seed),
+            queues: OrderQueues::new(storage.alloc),
+            names: Names::new(storage),
         }
     }
 

@@ -9,7 +9,7 @@ use crate::statements::statement;
 use std::alloc::Global;
 use std::io;
 use xm_files::{Batch, RowReader, SegmentNames, read_orders, read_segment};
-use xm_names::Seed;
+use xm_names::Storage;
 use xm_segment::SegmentConfig;
 
 /// How many rows are read before they are taken, so that they are still in a near cache.
@@ -22,8 +22,7 @@ const BATCH: usize = 512;
 /// growth was refused. After these nothing was written. `WriteFailed`: the writer failed; what went
 /// out is a proper prefix of the statement. A refused row is counted and changes nothing.
 pub fn run_orders<R: io::Read, W: io::Write>(
-    alloc: Global,
-    seed: Seed,
+    storage: Storage<Global>,
     config: &SegmentConfig,
     names: &SegmentNames,
     orders: &mut R,
@@ -34,31 +33,30 @@ pub fn run_orders<R: io::Read, W: io::Write>(
     ensures ends { OrdersEnd config.now names.now (R.remaining orders.old) (W.contents out.old) (W.contents out.new) result }
     ensures untouched { IfErr result (λ fault. fault ≢ DayFault.WriteFailed → out.new ≡ out.old) }
 {
-    let bytes = match read_orders(alloc, orders) {
+    let bytes = match read_orders(storage.alloc, orders) {
         Ok(bytes) => bytes,
         Err(fault) => return Err(DayFault::Orders(fault)),
     };
     let mut file = RowReader::of(bytes.as_slice());
-    let day = run_rows(alloc, seed, config, names, &mut file)?;
-    statement(alloc, day.desks.as_slice(), names, &day.report, out)?;
+    let day = run_rows(storage, config, names, &mut file)?;
+    statement(storage.alloc, day.desks.as_slice(), names, &day.report, out)?;
     Ok(day.report)
 }
 
 /// Reads the rows of an order file, batch by batch, and takes them. A fault of the file comes before any other: where the
 /// desks can't be opened or lack memory, the rest is read all the same.
 fn run_rows(
-    alloc: Global,
-    seed: Seed,
+    storage: Storage<Global>,
     config: &SegmentConfig,
     names: &SegmentNames,
     file: &mut RowReader<'_>,
 ) -> Result<OpenDay, DayFault>
     ensures { RowsRun config.now names.now file.old result }
 {
-    let mut batch = Batch::new(alloc);
-    let mut day = open_day(alloc, seed, config);
+    let mut batch = Batch::new(storage.alloc);
+    let mut day = open_day(storage, config);
     'batches: loop {
-        let more = match file.read(alloc, &mut batch, BATCH, names, config) {
+        let more = match file.read(storage.alloc, &mut batch, BATCH, names, config) {
             Ok(more) => more,
             Err(fault) => return Err(DayFault::Orders(fault)),
         };
@@ -75,8 +73,7 @@ fn run_rows(
 /// `Segment`: the segment file has a fault; it is read first. The other faults are those of
 /// `run_orders`, in their order.
 pub fn run_alone<S: io::Read, R: io::Read, W: io::Write>(
-    alloc: Global,
-    seed: Seed,
+    storage: Storage<Global>,
     segment: &mut S,
     orders: &mut R,
     out: &mut W,
@@ -84,9 +81,9 @@ pub fn run_alone<S: io::Read, R: io::Read, W: io::Write>(
     ensures ends { DayEnds (S.remaining segment.old) (R.remaining orders.old) (W.contents out.old) (W.contents out.new) result }
     ensures untouched { IfErr result (λ fault. fault ≢ DayFault.WriteFailed → out.new ≡ out.old) }
 {
-    let (config, names) = match read_segment(alloc, segment) {
+    let (config, names) = match read_segment(storage.alloc, segment) {
         Ok(segment) => segment,
         Err(fault) => return Err(DayFault::Segment(fault)),
     };
-    run_orders(alloc, seed, &config, &names, orders, out)
+    run_orders(storage, &config, &names, orders, out)
 }

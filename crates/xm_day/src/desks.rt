@@ -11,7 +11,7 @@ use crate::report::DayReport;
 use std::alloc::{Allocator, Global};
 use xm_desk::Desk;
 use xm_memory::OutOfMemory;
-use xm_names::Seed;
+use xm_names::Storage;
 use xm_rules::Refusal;
 use xm_segment::{Row, SegmentConfig, open_desks};
 
@@ -24,13 +24,12 @@ pub(crate) struct OpenDay {
 
 /// Opens the desks of a segment for its day.
 pub(crate) fn open_day(
-    alloc: Global,
-    seed: Seed,
+    storage: Storage<Global>,
     config: &SegmentConfig,
 ) -> Result<OpenDay, DayFault>
     ensures { HasTaken config.now [] result }
 {
-    let desks = open_desks(alloc, seed, config)?;
+    let desks = open_desks(storage, config)?;
     let report = DayReport {
         accepted: 0,
         refused: 0,

@@ -14,7 +14,7 @@ use std::test::Fail;
 use xm_day::{DayFault, DayReport, run_alone};
 use xm_desk::OpenFault;
 use xm_files::{FileCause, FileFault};
-use xm_names::Seed;
+use xm_names::Storage;
 
 const STATEMENT: &str = "DAY 20260105
 SECURITY XYZ opening-call
@@ -40,7 +40,12 @@ fn has_statement(
     statement: &str,
 ) -> Result<(), Fail> {
     let mut out = Vec::new(rt.alloc());
-    let report = run_alone(rt.alloc(), Seed::fixed(), segment, orders, &mut out)?;
+    let report = run_alone(
+        Storage::with_fixed_seed(rt.alloc()),
+        segment,
+        orders,
+        &mut out,
+    )?;
     assert!(rt; (report.accepted, report.refused) == counts);
     assert!(rt; out.as_slice() == statement.as_bytes());
     Ok(())
@@ -65,7 +70,12 @@ fn has_fault(
     fault: DayFault,
 ) {
     let mut out = Vec::new(rt.alloc());
-    let answer = run_alone(rt.alloc(), Seed::fixed(), segment, orders, &mut out);
+    let answer = run_alone(
+        Storage::with_fixed_seed(rt.alloc()),
+        segment,
+        orders,
+        &mut out,
+    );
     assert_eq!(rt; answer.err(), Some(fault));
     assert!(rt; out.is_empty());
 }
@@ -230,8 +240,7 @@ fn fails_after(
 ) {
     let mut out = ShortWriter::new(rt.alloc(), start.len(), failure);
     let answer = run_alone(
-        rt.alloc(),
-        Seed::fixed(),
+        Storage::with_fixed_seed(rt.alloc()),
         &mut SEGMENT.as_bytes(),
         &mut orders.as_bytes(),
         &mut out,

@@ -14,7 +14,7 @@ use std::{fs, io};
 use xm_day::DayFault;
 use xm_desk::OpenFault;
 use xm_files::{FileCause, FileFault};
-use xm_names::Seed;
+use xm_names::Storage;
 use xm_program::{Failure, Input, Request, fault_line, open_input, read_words, run};
 
 const DAY: &[u8] = b"date = 20260105
@@ -238,16 +238,14 @@ fn unopened_files_fail_in_turn(rt: HostRuntime) {
     let mut orders: Input<File> = Input::Unopened;
     let mut out = Vec::new(rt.alloc());
     let both = run(
-        rt.alloc(),
-        Seed::fixed(),
+        Storage::with_fixed_seed(rt.alloc()),
         &mut missing,
         &mut orders,
         &mut out,
     );
     assert!(rt; both == Err(DayFault::Segment(at!(0, FileCause::ReadFailed))));
     let one = run(
-        rt.alloc(),
-        Seed::fixed(),
+        Storage::with_fixed_seed(rt.alloc()),
         &mut &DAY[..],
         &mut orders,
         &mut out,
@@ -260,8 +258,7 @@ fn unopened_files_fail_in_turn(rt: HostRuntime) {
 fn an_unflushed_statement_is_not_written(rt: HostRuntime) {
     let mut out = Vec::new(rt.alloc());
     let written = run(
-        rt.alloc(),
-        Seed::fixed(),
+        Storage::with_fixed_seed(rt.alloc()),
         &mut &DAY[..],
         &mut &NO_ORDERS[..],
         &mut out,
@@ -269,8 +266,7 @@ fn an_unflushed_statement_is_not_written(rt: HostRuntime) {
     assert!(rt; written.is_ok());
     assert!(rt; !out.is_empty());
     let unflushed = run(
-        rt.alloc(),
-        Seed::fixed(),
+        Storage::with_fixed_seed(rt.alloc()),
         &mut &DAY[..],
         &mut &NO_ORDERS[..],
         &mut Unflushed,

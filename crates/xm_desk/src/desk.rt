@@ -15,7 +15,7 @@ use crate::unsettled::market::Market;
 use std::alloc::Allocator;
 use std::marker::Model;
 use xm_memory::OutOfMemory;
-use xm_names::Seed;
+use xm_names::Storage;
 use xm_positions::Positions;
 use xm_rules::{
     Command, DeskSettings, Order, PHASE_COMMANDS_MORE, Phase, Quote, Refusal, Reply, Side, Stop,
@@ -54,8 +54,8 @@ impl<A: Allocator + Copy> Desk<A> {
     ///
     /// More than 1,000 members are `TooMany`. A width outside 1 to `MAX_WIDTH` thousandths, or a dynamic
     /// one that is not below the wide one, is `BadWidths`. Where the growth of the members' positions is refused, it is
-    /// `OutOfMemory`. The names of orders are hashed by the seed, on which no answer depends.
-    pub fn open(alloc: A, seed: Seed, settings: DeskSettings) -> Result<Desk<A>, OpenFault>
+    /// `OutOfMemory`.
+    pub fn open(storage: Storage<A>, settings: DeskSettings) -> Result<Desk<A>, OpenFault>
         ensures opened { IfOk result (λ desk. desk ≡ record { settings = settings; commands = [] }) }
         ensures sound { OnOk result (open_fault settings ≡ None) }
         ensures refused { IfErr result (λ fault. fault ≢ OpenFault.OutOfMemory tt → open_fault settings ≡ Some fault) }
@@ -64,10 +64,10 @@ impl<A: Allocator + Copy> Desk<A> {
         if let Some(fault) = open_fault(&settings) {
             return Err(fault);
         }
-        let positions = Positions::new(alloc, settings.members)?;
+        let positions = Positions::new(storage.alloc, settings.members)?;
         Ok(Desk {
-            market: Market::new(alloc, seed, settings),
-            journal: Vec::new(alloc),
+            market: Market::new(storage, settings),
+            journal: Vec::new(storage.alloc),
             positions,
         })
     }

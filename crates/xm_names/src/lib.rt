@@ -7,7 +7,9 @@ mod members;
 mod names;
 mod seed;
 mod slot;
+mod storage;
 mod table;
 
 pub use crate::names::Names;
 pub use crate::seed::{Seed, SeededHasher};
+pub use crate::storage::Storage;

@@ -4,6 +4,7 @@ ghost use Rattle.xm_names.specs.Names.{Retains, key_of};
 ghost use Rattle.std.specs.Map as map;
 
 use crate::seed::Seed;
+use crate::storage::Storage;
 use crate::table::NameTable;
 use indexmap::IndexMap;
 use std::alloc::Allocator;
@@ -42,15 +43,15 @@ impl<A: Allocator> Model for MemberNames<A> {
 
 impl<A: Allocator + Copy> MemberNames<A> {
     /// No name, and none reserved, which takes no memory.
-    pub fn new(alloc: A, seed: Seed) -> MemberNames<A>
+    pub fn new(storage: Storage<A>) -> MemberNames<A>
         ensures keys { (r : ℕ) → key_of r result ≡ None }
         ensures reserved { result.reserved ≡ 0 }
     {
         MemberNames {
-            table: NameTable::new(alloc, seed),
+            table: NameTable::new(storage),
             reserved: 0,
             ready: 0,
-            rest: IndexMap::with_hasher(alloc, seed),
+            rest: IndexMap::with_hasher(storage.alloc, storage.seed),
         }
     }
 

@@ -6,6 +6,7 @@ ghost use Rattle.xm_names.specs.Names.{Retains, StandsAt, key_of, lookup, names_
 
 use crate::member_names::MemberNames;
 use crate::seed::Seed;
+use crate::storage::Storage;
 use indexmap::IndexMap;
 use std::alloc::Allocator;
 use std::marker::Model;
@@ -34,13 +35,13 @@ impl<A: Allocator> Model for Members<A> {
 
 impl<A: Allocator + Copy> Members<A> {
     /// No name, and none reserved, which takes no memory.
-    pub fn new(alloc: A, seed: Seed) -> Members<A>
+    pub fn new(storage: Storage<A>) -> Members<A>
         ensures names { (m r : ℕ) → lookup result m r ≡ None }
         ensures reserved { (m : ℕ) → reserved result m ≡ 0 }
     {
         Members {
-            members: IndexMap::with_hasher(alloc, seed),
-            places: Vec::new(alloc),
+            members: IndexMap::with_hasher(storage.alloc, storage.seed),
+            places: Vec::new(storage.alloc),
         }
     }
 
@@ -65,13 +66,21 @@ impl<A: Allocator + Copy> Members<A> {
         ensures reserved { OnOk result ((m : ℕ) → reserved self.new m ≡ (if m == member then reserved self.old m + 1 else reserved self.old m)) }
         ensures err { OnErr result (self.new ≡ self.old) }
     {
-        let mut names = MemberNames::new(*self.members.allocator(), *self.members.hasher());
+        let mut names = MemberNames::new(self.storage());
         names.reserve()?;
         self.reserve_places()?;
         let place = self.members.len();
         self.members.insert(member, names)?;
         self.note(member, place);
         Ok(())
+    }
+
+    /// What the tables are made with.
+    fn storage(&self) -> Storage<A> {
+        Storage {
+            alloc: *self.members.allocator(),
+            seed: *self.members.hasher(),
+        }
     }
 }
 

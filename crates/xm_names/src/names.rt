@@ -3,7 +3,7 @@ ghost use Rattle.std.specs.Prelude.{◌≡◌, ℕ, List, true, false, ◌+◌, 
 ghost use Rattle.xm_names.specs.Names.{Retains, is_above, lookup, reserved};
 
 use crate::members::Members;
-use crate::seed::Seed;
+use crate::storage::Storage;
 use std::alloc::Allocator;
 use std::marker::Model;
 use xm_memory::OutOfMemory;
@@ -34,13 +34,13 @@ impl<A: Allocator> Model for Names<A> {
 
 impl<A: Allocator + Copy> Names<A> {
     /// No name, and none reserved, which takes no memory.
-    pub fn new(alloc: A, seed: Seed) -> Names<A>
+    pub fn new(storage: Storage<A>) -> Names<A>
         ensures names { (m r : ℕ) → lookup result m r ≡ None }
         ensures reserved { (m : ℕ) → reserved result m ≡ 0 }
     {
         Names {
-            members: Members::new(alloc, seed),
-            highest: Vec::new(alloc),
+            members: Members::new(storage),
+            highest: Vec::new(storage.alloc),
         }
     }
 

@@ -7,6 +7,7 @@ ghost use Rattle.xm_names.specs.Buckets.{key_in};
 use crate::bucket::Bucket;
 use crate::seed::Seed;
 use crate::slot::{Slot, VACANT};
+use crate::storage::Storage;
 use std::alloc::Allocator;
 use std::marker::Model;
 use xm_memory::OutOfMemory;
@@ -44,12 +45,12 @@ impl<A: Allocator> Model for NameTable<A> {
 
 impl<A: Allocator> NameTable<A> {
     /// A table without a bucket, which takes no memory.
-    pub fn new(alloc: A, seed: Seed) -> NameTable<A>
+    pub fn new(storage: Storage<A>) -> NameTable<A>
         ensures { (r : ℕ) → table_key result r ≡ None }
     {
         NameTable {
-            buckets: Vec::new(alloc),
-            seed,
+            buckets: Vec::new(storage.alloc),
+            seed: storage.seed,
             shift: 32,
             first: 0,
         }

@@ -19,7 +19,7 @@ use std::rt::{Env, Files};
 use std::{env, fs, io};
 use xm_day::DayFault;
 use xm_memory::OutOfMemory;
-use xm_names::Seed;
+use xm_names::{Seed, Storage};
 use xm_ticks::write_whole;
 
 /// Does what the command line asks for, tells on standard error where it can't, and gives the status to end with.
@@ -74,8 +74,11 @@ fn run_files<R: AllocGlobal + Files + RandomSource, W: Write>(
 {
     let mut segment = inputs::open_input(|path| fs::open(rt, path), segment);
     let mut orders = inputs::open_input(|path| fs::open(rt, path), orders);
-    let seed = Seed::drawn(rt);
-    run(rt.alloc(), seed, &mut segment, &mut orders, out)
+    let storage = Storage {
+        alloc: rt.alloc(),
+        seed: Seed::drawn(rt),
+    };
+    run(storage, &mut segment, &mut orders, out)
 }
 
 /// Prints a help text, or the version.
@@ -98,8 +101,7 @@ fn read_command_line<R: Env + AllocGlobal>(rt: &R) -> Result<Vec<String>, Failur
 
 /// Writes the statement of the day in two files, and sees that all of it went out.
 pub fn run<S: Read, O: Read, W: Write>(
-    alloc: Global,
-    seed: Seed,
+    storage: Storage<Global>,
     segment: &mut S,
     orders: &mut O,
     out: &mut W,
@@ -107,7 +109,7 @@ pub fn run<S: Read, O: Read, W: Write>(
     ensures ends { RunEnds (S.remaining segment.old) (O.remaining orders.old) (W.contents out.old) (W.contents out.new) result }
     ensures untouched { IfErr result (λ fault. fault ≢ DayFault.WriteFailed → out.new ≡ out.old) }
 {
-    match xm_day::run_alone(alloc, seed, segment, orders, out) {
+    match xm_day::run_alone(storage, segment, orders, out) {
         Ok(_) => out.flush().map_err(|_| DayFault::WriteFailed),
         Err(fault) => Err(told(fault)),
     }

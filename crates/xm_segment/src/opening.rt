@@ -8,7 +8,7 @@ use crate::config::{SecurityConfig, SegmentConfig};
 use std::alloc::Allocator;
 use xm_desk::{Desk, MAX_MEMBERS, OpenFault};
 use xm_memory::OutOfMemory;
-use xm_names::Seed;
+use xm_names::Storage;
 use xm_rules::DeskSettings;
 
 /// The most securities of a segment.
@@ -19,8 +19,7 @@ pub const MAX_SECURITIES: usize = 8;
 /// The fault is the first of the segment's own: no security, more than `MAX_SECURITIES` of them or `MAX_MEMBERS` members,
 /// and widths of a security that aren't lawful. It is `OutOfMemory` where a growth was refused.
 pub fn open_desks<A: Allocator + Copy>(
-    alloc: A,
-    seed: Seed,
+    storage: Storage<A>,
     config: &SegmentConfig,
 ) -> Result<Vec<Desk<A>, A>, OpenFault>
     ensures opened { IfOk result (λ desks. desks.items ≡ map (journal_of config.now) config.now.securities) }
@@ -31,22 +30,21 @@ pub fn open_desks<A: Allocator + Copy>(
     if let Some(fault) = config.segment_fault() {
         return Err(fault);
     }
-    desks_of(alloc, seed, config)
+    desks_of(storage, config)
 }
 
 /// The desks of a segment without a fault, unless memory is wanting.
 fn desks_of<A: Allocator + Copy>(
-    alloc: A,
-    seed: Seed,
+    storage: Storage<A>,
     config: &SegmentConfig,
 ) -> Result<Vec<Desk<A>, A>, OpenFault>
     requires { segment_fault config.now ≡ None }
     ensures memory { IfErr result (λ fault. fault ≡ OpenFault.OutOfMemory tt) }
     ensures opened { IfOk result (λ desks. desks.items ≡ map (journal_of config.now) config.now.securities) }
 {
-    let mut desks = Vec::new(alloc);
+    let mut desks = Vec::new(storage.alloc);
     for security in config.securities.as_slice() {
-        let desk = Desk::open(alloc, seed, config.settings_of(security))?;
+        let desk = Desk::open(storage, config.settings_of(security))?;
         desks.push(desk).map_err(OutOfMemory::from)?;
     }
     Ok(desks)

@@ -16,7 +16,7 @@ use crate::taking::{Reason, take_leaving};
 use std::alloc::Allocator;
 use std::marker::Model;
 use xm_memory::OutOfMemory;
-use xm_names::{Names, Seed};
+use xm_names::{Names, Storage};
 use xm_rules::Stop;
 use xm_slots::Entry;
 use xm_ticks::Price;
@@ -61,13 +61,13 @@ fn stop_of(found: Option<&Entry<Stop>>) -> Option<&Stop>
 }
 
 impl<A: Allocator + Copy> Stops<A> {
-    /// No stop, which takes no memory. Names are hashed by the seed, on which no answer depends.
-    pub fn new(alloc: A, seed: Seed) -> Stops<A>
+    /// No stop, which takes no memory.
+    pub fn new(storage: Storage<A>) -> Stops<A>
         ensures { result ≡ record { stops = []; ready = None } }
     {
         Stops {
-            queues: StopQueues::new(alloc),
-            names: Names::new(alloc, seed),
+            queues: StopQueues::new(storage.alloc),
+            names: Names::new(storage),
         }
     }
 

@@ -2,7 +2,7 @@
 use std::alloc::Allocator;
 use std::process::Abort;
 use xm_memory::OutOfMemory;
-use xm_names::{Names, Seed};
+use xm_names::{Names, Storage};
 use xm_refusing::Refusing;
 
 /// How many names there are, of three members in turn, each with its reference as its key.
@@ -67,7 +67,7 @@ fn fill<A: Allocator + Copy>(rt: &impl Abort, names: &mut Names<A>) -> u32 {
 fn a_refused_growth_leaves_the_names(rt: HostRuntime) {
     for nth in 1..200 {
         let alloc = Refusing::new(rt.alloc(), nth);
-        let refused = fill(&rt, &mut Names::new(&alloc, Seed::fixed()));
+        let refused = fill(&rt, &mut Names::new(Storage::with_fixed_seed(&alloc)));
         if !alloc.has_refused() {
             assert!(rt; refused == 0);
             assert!(rt; nth > 6);
@@ -80,7 +80,7 @@ fn a_refused_growth_leaves_the_names(rt: HostRuntime) {
 
 #[test]
 fn names_leave(rt: HostRuntime) {
-    let mut names = Names::new(rt.alloc(), Seed::fixed());
+    let mut names = Names::new(Storage::with_fixed_seed(rt.alloc()));
     assert!(rt; enter(&mut names, 1) && enter(&mut names, 2) && enter(&mut names, 4));
     assert!(rt; reserve_twice(&mut names, member_of(1)).is_ok());
     assert!(rt; names.remove(member_of(1), 1) == Some(1));

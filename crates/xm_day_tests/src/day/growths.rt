@@ -7,7 +7,7 @@ use std::test::Fail;
 use xm_day::{DayFault, DayReport, statement};
 use xm_desk::Desk;
 use xm_files::{read_rows, read_segment};
-use xm_names::Seed;
+use xm_names::Storage;
 use xm_refusing::Refusing;
 use xm_segment::Row;
 
@@ -44,7 +44,10 @@ fn refused_growths_of_a_statement(rt: HostRuntime) -> Result<(), Fail> {
     let (config, names) = read_segment(alloc, &mut SEGMENT.as_bytes())?;
     let rows = read_rows(alloc, &mut CASCADE.as_bytes(), &names, &config)?;
     let security = config.securities.as_slice().first().ok_or("no security")?;
-    let mut desk = Desk::open(alloc, Seed::fixed(), config.settings_of(security))?;
+    let mut desk = Desk::open(
+        Storage::with_fixed_seed(alloc),
+        config.settings_of(security),
+    )?;
     let report = take(&mut desk, rows.as_slice());
     let desks = [desk];
     assert!(&rt; names.securities() == 1);

@@ -5,7 +5,7 @@ use super::runtime::{Call, Stream};
 use std::alloc::Global;
 use std::process::ExitCode;
 use std::test::Fail;
-use xm_names::Seed;
+use xm_names::Storage;
 use xm_program::{run, run_program};
 
 /// What `run --help` prints.
@@ -146,8 +146,7 @@ fn the_day_of_the_help_runs(rt: HostRuntime) -> Result<(), Fail> {
     let orders = shown(rt.alloc(), printed.as_str(), "\norders.csv\n", "\n\nUsage:")?;
     let mut out = Vec::new(rt.alloc());
     let ran = run(
-        rt.alloc(),
-        Seed::fixed(),
+        Storage::with_fixed_seed(rt.alloc()),
         &mut segment.as_bytes(),
         &mut orders.as_bytes(),
         &mut out,

@@ -24,7 +24,7 @@ use std::snapshot::Snapshot;
 use xm_auction::auction_price;
 use xm_book::Book;
 use xm_memory::OutOfMemory;
-use xm_names::Seed;
+use xm_names::Storage;
 use xm_positions::Positions;
 use xm_rules::{Command, DeskSettings, Order, Phase, Refusal, Reply, Side, Stop, Trade};
 use xm_stops::{Pending, Stops};
@@ -53,7 +53,7 @@ impl<A: Allocator + Copy> Model for Market<A> {
 
 impl<A: Allocator + Copy> Market<A> {
     /// A security before the day.
-    pub fn new(alloc: A, seed: Seed, settings: DeskSettings) -> Market<A>
+    pub fn new(storage: Storage<A>, settings: DeskSettings) -> Market<A>
         requires { are_widths settings.widths ≡ true }
         ensures { result ≡ record { state = opening settings; ready = Nothing } }
     {
@@ -62,10 +62,10 @@ impl<A: Allocator + Copy> Market<A> {
                 settings,
                 accepted: 0,
                 phase: Phase::PreTrading,
-                book: Book::new(alloc, seed),
-                stops: Stops::new(alloc, seed),
-                pending: Pending::new(alloc),
-                tape: Tape::new(alloc, settings.reference),
+                book: Book::new(storage),
+                stops: Stops::new(storage),
+                pending: Pending::new(storage.alloc),
+                tape: Tape::new(storage.alloc, settings.reference),
                 sweeps: 0,
                 ready: Snapshot::of(&Ready::Nothing),
             },

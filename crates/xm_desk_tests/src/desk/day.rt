@@ -5,7 +5,7 @@ use std::process::Abort;
 use std::test::Fail;
 use xm_desk::{Desk, OpenFault};
 use xm_memory::OutOfMemory;
-use xm_names::Seed;
+use xm_names::Storage;
 use xm_rules::{
     Auction, CallStage, Command, DeskSettings, Order, Phase, Quote, Refusal, Reply, Side, Stop,
     Totals, Trade,
@@ -82,7 +82,7 @@ impl<A: Allocator + Copy> Day<A> {
     /// A day with these settings before the opening.
     pub fn opened(alloc: A, settings: DeskSettings) -> Result<Day<A>, OpenFault> {
         Ok(Day {
-            desk: Desk::open(alloc, Seed::fixed(), settings)?,
+            desk: Desk::open(Storage::with_fixed_seed(alloc), settings)?,
         })
     }
 

@@ -3,7 +3,7 @@ use super::settings;
 use std::alloc::Allocator;
 use std::test::Fail;
 use xm_desk::{Desk, OpenFault};
-use xm_names::Seed;
+use xm_names::Storage;
 use xm_refusing::Refusing;
 use xm_rules::{DeskSettings, Widths};
 
@@ -38,7 +38,10 @@ fn opening_faults(rt: HostRuntime) -> Result<(), Fail> {
             widths,
             ..settings(100)?
         };
-        assert_eq!(rt; Desk::open(rt.alloc(), Seed::fixed(), changed).err(), fault);
+        assert_eq!(rt;
+            Desk::open(Storage::with_fixed_seed(rt.alloc()), changed).err(),
+            fault
+        );
     }
     let texts = [
         (OpenFault::NoSecurity, "no security"),

@@ -10,7 +10,7 @@ use xm_auction::{allocate, auction_price};
 use xm_book::{Book, Place, Trades};
 use xm_match::{Swept, fillable, sweep};
 use xm_memory::OutOfMemory;
-use xm_names::Seed;
+use xm_names::Storage;
 use xm_rules::{Auction, CallStage, Order, Phase, Side, Widths};
 use xm_ticks::Price;
 
@@ -48,7 +48,7 @@ impl<A: Allocator + Copy> Model for Entries<A> {
 impl<A: Allocator + Copy> Entries<A> {
     pub fn new(alloc: A) -> Entries<A> {
         Entries {
-            book: Book::new(alloc, Seed::fixed()),
+            book: Book::new(Storage::with_fixed_seed(alloc)),
             entered: 0,
         }
     }

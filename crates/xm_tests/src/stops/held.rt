@@ -5,7 +5,7 @@ ghost use Rattle.xm_ticks.specs.declared.numbers.TheConstants.{MAX_PRICE};
 
 use std::alloc::Allocator;
 use xm_memory::OutOfMemory;
-use xm_names::Seed;
+use xm_names::Storage;
 use xm_rules::Stop;
 use xm_stops::{Pending, Stops};
 use xm_ticks::{MAX_PRICE, Price};
@@ -20,7 +20,7 @@ pub struct Held<A: Allocator + Copy> {
 impl<A: Allocator + Copy> Held<A> {
     pub fn new(alloc: A) -> Held<A> {
         Held {
-            stops: Stops::new(alloc, Seed::fixed()),
+            stops: Stops::new(Storage::with_fixed_seed(alloc)),
             pending: Pending::new(alloc),
         }
     }
