@@ -1,5 +1,5 @@
 -- What the end of a call leaves of a desk, and what it trades.
-use Rattle.std.proofs.Common.{◌≡◌, ℕ, ◌≤◌, true, length, arith}
+use Rattle.std.proofs.Common.{◌≡◌, ℕ, ◌≤◌, true, length}
 use Rattle.std.specs.List.{list_all}
 use Rattle.std.proofs.lemmas.List.Elements.{All-weaker}
 use Rattle.std.proofs.lemmas.List.Sums.{AllPass-from_list_all}
