@@ -20,6 +20,9 @@ impl<A: Allocator + Copy> Unsettled<A> {
         ensures standing { CanSettle self.new }
         ensures made { Makes self.old self.new }
     {
+        if self.stops.len() == 0 && self.pending.len() == 0 {
+            return;
+        }
         while self.settle_next() {}
     }
 
