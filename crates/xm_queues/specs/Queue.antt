@@ -34,6 +34,16 @@ abbrev pub end_after : Option ℕ → Option ℕ → Option ℕ → Option ℕ
 end_after end None to = to
 end_after end (Some key) to = end
 
+-- the ends of a queue once this key stands behind its last one
+abbrev pub with_last : Ends → ℕ → Ends
+with_last ends key = record { first = end_after ends.first ends.last (Some key); last = Some key }
+
+-- the ends of a queue once this key has left it
+abbrev pub ends_without : List Link → Ends → ℕ → Ends
+ends_without links ends key =
+    let link = link_at links key in
+    record { first = end_after ends.first link.prev link.next; last = end_after ends.last link.next link.prev }
+
 -- the links lead from what stands before these keys through them to what stands after, and back
 unfoldable pub IsSegment : List Link → Option ℕ → Option ℕ → List ℕ → Option ℕ → Option ℕ → Type 0
 IsSegment links before after [] first last = (first ≡ after) × (last ≡ before)

@@ -56,6 +56,17 @@ impl MaybeKey {
             Some(self.number as usize)
         }
     }
+
+    /// This end of a queue, or `to` where no key stands at `at`.
+    #[inline(always)]
+    pub fn after(self, at: MaybeKey, to: MaybeKey) -> MaybeKey
+        ensures { result ≡ end_after self at to }
+    {
+        match at.get() {
+            None => to,
+            Some(_) => self,
+        }
+    }
 }
 
 /// The keys beside a key in its queue.

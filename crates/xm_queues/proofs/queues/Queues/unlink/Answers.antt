@@ -1,4 +1,4 @@
-use Rattle.std.proofs.Common.{◌∙◌, length, arith, ap}
+use Rattle.std.proofs.Common.{◌∙◌, length, arith, ap, refl}
 use Rattle.xm_queues.proofs.Changes.{key_within, unlink_left, unlink_others}
 use Rattle.xm_queues.proofs.Walks.{has}
 use Rattle.xm_queues.proofs.Firsts.{read_link, prev_within, next_within}
@@ -38,3 +38,9 @@ returns-clause-others g c = λ other keys keys' q q' apart.
     let read = read_link _ c.args.self.now c.args.key _ c.self.view_is room c.index.ensures in
     rw (c.lead_back.ensures.links, c.lead_to.ensures.links, c.self.view_is, read)
     (unlink_others c.args.self.now c.args.ends.now c.args.key other keys keys' q at q' apart)
+
+pub returns-clause-ends : goal.returns-clause-ends
+returns-clause-ends g c =
+    let room = key_within c.args.self.now c.args.ends.now c.requires.keys c.args.key c.requires.queue c.requires.member in
+    let read = read_link _ c.args.self.now c.args.key _ c.self.view_is room c.index.ensures in
+    rw (c.lead_back.ensures.last, c.lead_to.ensures.first, read) refl
