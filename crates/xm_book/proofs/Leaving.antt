@@ -18,6 +18,7 @@ use Rattle.xm_ladders.specs.Ladder.{HasKind, IsCleared}
 use Rattle.xm_ladders.specs.Ladders.{ladder_on, level_on, side_of}
 use Rattle.xm_ladders.specs.declared.ladders.Ladders.{Ladders}
 use Rattle.xm_ladders.specs.declared.level.Level.{Level}
+use Rattle.xm_queues.proofs.Walks.{queue_nil}
 use Rattle.xm_queues.specs.Keys.{AreApart, AreDistinct, without}
 use Rattle.xm_queues.specs.Queue.{HasKey, IsQueue, key_limit}
 use Rattle.xm_queues.specs.declared.queues.Ends.{Ends}
@@ -59,6 +60,11 @@ one-less x (y ∷ ys) d at = less_by (λ c. one-less x ys d.1 c) (Contains-cases
     less_by : (Contains ys x → IsLess x ys) → (y ≡ x) ⊎ Contains ys x → IsLess x (y ∷ ys)
     less_by more (inl same) = gone (nat_eq y.key x.key) refl same
     less_by more (inr c) = later more (nat_eq y.key x.key) refl c
+
+-- a level that is found there
+pub some-found : (o : Option Level) → (level : Level) × IsLevelFound o level
+some-found None = (record { ends = record { first = None; last = None }; orders = 0; units = 0 }, (queue_nil, (refl, refl)))
+some-found (Some level) = (level, refl)
 
 module _ {A : Type 0} (xs : List (Listed Order)) (entries : SlotsView Order) (links : List Link) (ladders : Ladders A) (h : AreOrdersQueued xs entries links ladders) where
   module _ (x : Listed Order) (at : Contains xs x) (level : Level) (f : IsLevelFound (level_for x.item ladders) level) where

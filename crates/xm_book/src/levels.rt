@@ -1,9 +1,11 @@
 //! The level of an order.
-ghost use Rattle.std.specs.Prelude.{◌≡◌, if◌then◌else◌, ℕ, ◌+◌, ◌<◌, ◌&&◌, IsSome, IsTrue, None, OnOk, Some, false};
-ghost use Rattle.xm_book.specs.Levels.{IsLevelFound, IsLevelSet, at_level, level_for};
+ghost use Rattle.std.specs.Prelude.{◌≡◌, if◌then◌else◌, ℕ, ◌+◌, ◌<◌, ◌≤◌, ◌^◌, ◌&&◌, IsSome, IsTrue, None, OnOk, Some, false};
+ghost use Rattle.xm_book.specs.Levels.{IsLevelFound, IsLevelSet, at_level, level_for, level_joined, level_left};
 ghost use Rattle.xm_book.specs.Queued.{HasKindOf, is_limit};
-ghost use Rattle.xm_ladders.specs.Ladder.{HasKind, HasLevels, IsCleared};
+ghost use Rattle.xm_ladders.specs.Ladder.{HasKind, HasLevels, IsCleared, level_of};
 ghost use Rattle.xm_ladders.specs.Ladders.{ladder_on, level_on, side_of};
+ghost use Rattle.xm_ladders.specs.declared.level.Level.{Level};
+ghost use Rattle.xm_queues.specs.Queue.{HasKey, key_limit};
 ghost use Rattle.xm_rules.specs.Orders.{same_restriction};
 ghost use Rattle.xm_rules.specs.Sides.{same_side};
 ghost use Rattle.xm_rules.specs.declared.orders.OrderKind.{OrderKind};
@@ -12,19 +14,57 @@ ghost use Rattle.xm_rules.specs.declared.orders.Side.{Side};
 
 use crate::places::Place;
 use std::alloc::Allocator;
-use xm_ladders::{Ladders, Level};
+use xm_ladders::{Ladder, Ladders, Level};
 use xm_memory::OutOfMemory;
-use xm_rules::Order;
+use xm_queues::Queues;
+use xm_rules::{Order, OrderKind};
 
 /// The level in which an order stands or is to stand.
 #[inline(always)]
 pub fn level_for<A: Allocator + Copy>(ladders: &Ladders<A>, order: &Order) -> Level
     ensures { IsLevelFound (level_for order.now ladders.now) result }
 {
-    let ladder = ladders.of(order.side).of(order.restriction);
-    match ladder.level(order.kind) {
+    level_of_kind(ladders.of(order.side).of(order.restriction), order.kind)
+}
+
+/// The level of orders of a kind.
+#[inline(always)]
+fn level_of_kind<A: Allocator + Copy>(ladder: &Ladder<A>, kind: OrderKind) -> Level
+    ensures { IsLevelFound (level_of ladder.now kind) result }
+{
+    match ladder.level(kind) {
         Some(level) => level,
         None => Level::empty(),
+    }
+}
+
+/// A level once an order has joined it under this key, the last.
+#[inline(always)]
+fn level_joined<A: Allocator>(links: &Queues<A>, level: &Level, order: &Order, key: usize) -> Level
+    requires key { key < key_limit links.now }
+    requires orders { level.now.orders + 1 < 2 ^ 32 }
+    requires units { level.now.units + order.now.rest < 2 ^ 64 }
+    ensures { result ≡ level_joined level.now order.now key }
+{
+    Level {
+        ends: links.ends_with(&level.ends, key),
+        orders: level.orders + 1,
+        units: level.units + u64::from(order.rest),
+    }
+}
+
+/// A level once the order under this key has left it.
+#[inline(always)]
+fn level_left<A: Allocator>(links: &Queues<A>, level: &Level, order: &Order, key: usize) -> Level
+    requires key { HasKey links.now level.now.ends key }
+    requires orders { 1 ≤ level.now.orders }
+    requires units { order.now.rest ≤ level.now.units }
+    ensures { result ≡ level_left links.now level.now order.now key }
+{
+    Level {
+        ends: links.ends_without(&level.ends, key),
+        orders: level.orders - 1,
+        units: level.units - u64::from(order.rest),
     }
 }
 
@@ -46,22 +86,62 @@ pub fn put_level<A: Allocator + Copy>(ladders: &mut Ladders<A>, order: &Order, l
         .put(order.kind, level);
 }
 
-/// Puts a level where this order stands or stood; one without an order is cleared.
+/// An order joins the level in which it is to stand, under this key, the last. Gives the level before. The level is written
+/// where it was read: the links of its queue follow it.
 #[inline(always)]
-pub fn set_level<A: Allocator + Copy>(ladders: &mut Ladders<A>, order: &Order, level: Level)
+pub fn join_level<A: Allocator + Copy>(
+    ladders: &mut Ladders<A>,
+    links: &Queues<A>,
+    order: &Order,
+    key: usize,
+) -> Level
+    requires key { key < key_limit links.now }
+    requires orders { (level : Level) → IsLevelFound (level_for order.now ladders.old) level → level.orders + 1 < 2 ^ 32 }
+    requires units { (level : Level) → IsLevelFound (level_for order.now ladders.old) level → level.units + order.now.rest < 2 ^ 64 }
+    requires kind { HasKind (ladder_on order.now.restriction (side_of order.now.side ladders.old)) order.now.kind }
+    requires room { level_for order.now ladders.old ≡ None → HasLevels (ladder_on order.now.restriction (side_of order.now.side ladders.old)) order.now.kind 1 }
+    ensures found { IsLevelFound (level_for order.now ladders.old) result }
+    ensures levels { (s : Side) (r : Restriction) (k : OrderKind) → level_on (side_of s ladders.new) r k ≡ (if at_level s r k order.now then Some (level_joined result order.now key) else level_on (side_of s ladders.old) r k) }
+    ensures kinds_kept { (s : Side) (r : Restriction) (k : OrderKind) → HasKind (ladder_on r (side_of s ladders.old)) k → HasKind (ladder_on r (side_of s ladders.new)) k }
+    ensures room_used { (s : Side) (r : Restriction) (k : OrderKind) (n : ℕ) → HasLevels (ladder_on r (side_of s ladders.old)) k (n + 1) → HasLevels (ladder_on r (side_of s ladders.new)) k n }
+    ensures room_kept { IsSome (level_for order.now ladders.old) → (s : Side) (r : Restriction) (k : OrderKind) (n : ℕ) → HasLevels (ladder_on r (side_of s ladders.old)) k n → HasLevels (ladder_on r (side_of s ladders.new)) k n }
+    ensures other_ladder { (s : Side) (r : Restriction) → (same_side s order.now.side && same_restriction r order.now.restriction) ≡ false → ladder_on r (side_of s ladders.new) ≡ ladder_on r (side_of s ladders.old) }
+{
+    let ladder = ladders.of_mut(order.side).of_mut(order.restriction);
+    let before = level_of_kind(ladder, order.kind);
+    ladder.put(order.kind, level_joined(links, &before, order, key));
+    before
+}
+
+/// The order under this key leaves its level, which is cleared where it was the only one. Gives the level before. The level is
+/// written where it was read: the links of its queue follow it.
+#[inline(always)]
+pub fn leave_level<A: Allocator + Copy>(
+    ladders: &mut Ladders<A>,
+    links: &Queues<A>,
+    order: &Order,
+    key: usize,
+) -> Level
+    requires key { (level : Level) → IsLevelFound (level_for order.now ladders.old) level → HasKey links.now level.ends key }
+    requires orders { (level : Level) → IsLevelFound (level_for order.now ladders.old) level → 1 ≤ level.orders }
+    requires units { (level : Level) → IsLevelFound (level_for order.now ladders.old) level → order.now.rest ≤ level.units }
     requires kind { HasKind (ladder_on order.now.restriction (side_of order.now.side ladders.old)) order.now.kind }
     requires there { IsSome (level_for order.now ladders.old) }
-    ensures set { IsLevelSet (level_for order.now ladders.new) level }
+    ensures found { IsLevelFound (level_for order.now ladders.old) result }
+    ensures set { IsLevelSet (level_for order.now ladders.new) (level_left links.now result order.now key) }
     ensures others { (s : Side) (r : Restriction) (k : OrderKind) → at_level s r k order.now ≡ false → level_on (side_of s ladders.new) r k ≡ level_on (side_of s ladders.old) r k }
     ensures kinds_kept { (s : Side) (r : Restriction) (k : OrderKind) → HasKind (ladder_on r (side_of s ladders.old)) k → HasKind (ladder_on r (side_of s ladders.new)) k }
     ensures room_kept { (s : Side) (r : Restriction) (k : OrderKind) (n : ℕ) → HasLevels (ladder_on r (side_of s ladders.old)) k n → HasLevels (ladder_on r (side_of s ladders.new)) k n }
 {
     let ladder = ladders.of_mut(order.side).of_mut(order.restriction);
-    if level.orders == 0 {
+    let before = level_of_kind(ladder, order.kind);
+    let left = level_left(links, &before, order, key);
+    if left.orders == 0 {
         ladder.clear(order.kind);
     } else {
-        ladder.put(order.kind, level);
+        ladder.put(order.kind, left);
     }
+    before
 }
 
 /// Makes room for orders of a place's kind in its ladder, and for so many levels more.

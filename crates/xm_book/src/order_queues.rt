@@ -19,7 +19,7 @@ ghost use Rattle.xm_rules.specs.Commands.{is_in_range};
 ghost use Rattle.xm_rules.specs.declared.orders.OrderKind.TheVariants.{Limit};
 
 use crate::items::OrderItems;
-use crate::levels::{level_for, put_level, reserve_level, set_level};
+use crate::levels::{join_level, leave_level, level_for, put_level, reserve_level};
 use crate::places::{Place, Places};
 use std::alloc::Allocator;
 use std::marker::Model;
@@ -128,11 +128,8 @@ impl<A: Allocator + Copy> OrderQueues<A> {
     {
         let time = self.adds;
         let key = self.entries.insert(Entry { item: *order, time });
-        let mut level = level_for(&self.ladders, order);
-        self.links.push_back(&mut level.ends, key);
-        level.orders += 1;
-        level.units += u64::from(order.rest);
-        put_level(&mut self.ladders, order, level);
+        let mut ends = join_level(&mut self.ladders, &self.links, order, key).ends;
+        self.links.push_back(&mut ends, key);
         self.listing.join(&Listed {
             key,
             time,
@@ -152,11 +149,8 @@ impl<A: Allocator + Copy> OrderQueues<A> {
         ensures distinct { AreDistinct (keys_in self.old.orders) }
     {
         let entry = self.entries.entry(key);
-        let mut level = level_for(&self.ladders, &entry.item);
-        self.links.unlink(&mut level.ends, key);
-        level.orders -= 1;
-        level.units -= u64::from(entry.item.rest);
-        set_level(&mut self.ladders, &entry.item, level);
+        let mut ends = leave_level(&mut self.ladders, &self.links, &entry.item, key).ends;
+        self.links.unlink(&mut ends, key);
         let order = entry.item;
         self.entries.vacate(key);
         self.listing.leave(key);

@@ -35,8 +35,8 @@ end_after end None to = to
 end_after end (Some key) to = end
 
 -- the ends of a queue once this key stands behind its last one
-abbrev pub with_last : Ends → ℕ → Ends
-with_last ends key = record { first = end_after ends.first ends.last (Some key); last = Some key }
+abbrev pub ends_with : Ends → ℕ → Ends
+ends_with ends key = record { first = end_after ends.first ends.last (Some key); last = Some key }
 
 -- the ends of a queue once this key has left it
 abbrev pub ends_without : List Link → Ends → ℕ → Ends

@@ -1,7 +1,7 @@
 //! Queues, each of which its owner keeps the ends of.
 ghost use Rattle.std.specs.Prelude.{◌≡◌, ◌<◌, ◌≤◌, ℕ, List, [], ◌∷◌, ◌++◌, Contains, IsOk, OnErr, OnOk, slice_get};
 ghost use Rattle.xm_queues.specs.Keys.{AreApart, without};
-ghost use Rattle.xm_queues.specs.Queue.{HasKey, LacksKey, IsQueue, ends_without, key_limit, with_last};
+ghost use Rattle.xm_queues.specs.Queue.{HasKey, LacksKey, IsQueue, ends_with, ends_without, key_limit};
 ghost use Rattle.xm_queues.specs.declared.links.Link.{Link};
 ghost use Rattle.xm_queues.specs.declared.links.TheConstants.{MAX_KEYS};
 ghost use Rattle.xm_queues.specs.declared.queues.Ends.{Ends};
@@ -34,19 +34,6 @@ impl Ends {
         ensures { (links : List Link) (keys : List ℕ) → IsQueue links self.now keys → result ≡ slice_get keys 0 }
     {
         self.first.get()
-    }
-
-    /// The ends once a key stands behind the last one.
-    #[inline(always)]
-    pub fn with_last(&self, key: usize) -> Ends
-        requires { key < MAX_KEYS }
-        ensures { result ≡ with_last self.now key }
-    {
-        let joining = MaybeKey::some(key);
-        Ends {
-            first: self.first.after(self.last, joining),
-            last: joining,
-        }
     }
 }
 
@@ -111,6 +98,20 @@ impl<A: Allocator> Queues<A> {
         self.links[key].next.get()
     }
 
+    /// The ends of a queue once `key` stands behind its last one.
+    #[inline(always)]
+    pub fn ends_with(&self, ends: &Ends, key: usize) -> Ends
+        requires { key < key_limit self.now }
+        ensures { result ≡ ends_with ends.now key }
+    {
+        let _ = &self.links;
+        let joining = MaybeKey::some(key);
+        Ends {
+            first: ends.first.after(ends.last, joining),
+            last: joining,
+        }
+    }
+
     /// Puts `key`, which is in no queue, at the end of a queue.
     #[inline(always)]
     pub fn push_back(&mut self, ends: &mut Ends, key: usize)
@@ -120,7 +121,7 @@ impl<A: Allocator> Queues<A> {
             → IsQueue self.new ends.new (keys ++ key ∷ []) }
         ensures others { (other : Ends) (keys keys' : List ℕ) → IsQueue self.old ends.old keys
             → IsQueue self.old other keys' → AreApart keys keys' → ¬ Contains keys' key → IsQueue self.new other keys' }
-        ensures ends { ends.new ≡ with_last ends.old key }
+        ensures ends { ends.new ≡ ends_with ends.old key }
         ensures limit { key_limit self.new ≡ key_limit self.old }
     {
         let links = &mut self.links;

@@ -20,34 +20,37 @@ insert-key-requires-clause-room g c =
       some-place q.listing q.places q.entries q.ladders c.self.invariant.places c.args.order.now (without_one p q.places) (Gains-left p q.places there),
     )
 
-pub push_back-requires-clause-queue : goal.push_back-requires-clause-queue
-push_back-requires-clause-queue g c =
-    let q = c.self.inside in
-    lacks q.listing q.entries q.links q.ladders c.self.invariant.queued c.args.order.now c.level_for-level.result c.level_for-level.ensures c.insert-key.result c.insert-key.ensures.vacant
+pub join_level-ends-requires-clause-key : goal.join_level-ends-requires-clause-key
+join_level-ends-requires-clause-key g c = omega (arith, c.insert-key.ensures.within, c.self.invariant.queued.fits)
 
-pub overflow_add-level : goal.overflow_add-level
-overflow_add-level g c =
+pub join_level-ends-requires-clause-orders : goal.join_level-ends-requires-clause-orders
+join_level-ends-requires-clause-orders g c level found =
     let q = c.self.inside in
-    record { fits = omega (arith, orders-fit q.listing q.entries q.links q.ladders c.self.invariant.queued c.args.order.now c.level_for-level.result c.level_for-level.ensures) }
+    omega (arith, orders-fit q.listing q.entries q.links q.ladders c.self.invariant.queued c.args.order.now level found)
 
-pub overflow_add-level-2 : goal.overflow_add-level-2
-overflow_add-level-2 g c =
+pub join_level-ends-requires-clause-units : goal.join_level-ends-requires-clause-units
+join_level-ends-requires-clause-units g c level found =
     let q = c.self.inside in
-    record { fits = omega (arith, c.from.ensures, range_high c.args.order.now.rest c.requires.rest, units-fit q.listing q.entries q.links q.ladders c.self.invariant.queued c.args.order.now c.level_for-level.result c.level_for-level.ensures) }
+    omega (arith, range_high c.args.order.now.rest c.requires.rest, units-fit q.listing q.entries q.links q.ladders c.self.invariant.queued c.args.order.now level found)
 
-pub put_level-requires-clause-kind : goal.put_level-requires-clause-kind
-put_level-requires-clause-kind g c =
+pub join_level-ends-requires-clause-kind : goal.join_level-ends-requires-clause-kind
+join_level-ends-requires-clause-kind g c =
     let q = c.self.inside in
     let p = place_of c.args.order.now in
     let there = rw (← c.self.view_is) at c.requires.reserved in
     kind-room q.listing q.places q.entries q.ladders c.self.invariant.places c.args.order.now (without_one p q.places) (Gains-left p q.places there)
 
-pub put_level-requires-clause-room : goal.put_level-requires-clause-room
-put_level-requires-clause-room g c vacant =
+pub join_level-ends-requires-clause-room : goal.join_level-ends-requires-clause-room
+join_level-ends-requires-clause-room g c vacant =
     let q = c.self.inside in
     let p = place_of c.args.order.now in
     let there = rw (← c.self.view_is) at c.requires.reserved in
     level-room q.listing q.places q.entries q.ladders c.self.invariant.places c.args.order.now (without_one p q.places) (Gains-left p q.places there)
+
+pub push_back-requires-clause-queue : goal.push_back-requires-clause-queue
+push_back-requires-clause-queue g c =
+    let q = c.self.inside in
+    lacks q.listing q.entries q.links q.ladders c.self.invariant.queued c.args.order.now c.join_level-ends.result c.join_level-ends.ensures.found c.insert-key.result c.insert-key.ensures.vacant
 
 pub release-requires : goal.release-requires
 release-requires g c = rw c.of.ensures (rw (← c.self.view_is) at c.requires.reserved)
@@ -58,15 +61,15 @@ invariant_of-self g c =
     let o = c.args.order.now in
     let slots = c.insert-key in
     let links = c.push_back in
-    let put = c.put_level in
+    let join = c.join_level-ends in
     let gain : Gains (place_of o) c.release.new.self q.places = rw c.of.ensures at c.release.ensures in
     let few = few-orders q.listing q.places q.entries q.ladders c.self.invariant.places o c.release.new.self gain in
     let kind = kind-room q.listing q.places q.entries q.ladders c.self.invariant.places o c.release.new.self gain in
     rw c.join.ensures (record {
-      queued = joined q.listing q.entries q.links q.ladders c.self.invariant.queued o c.level_for-level.result c.level_for-level.ensures q.adds slots.result
+      queued = joined q.listing q.entries q.links q.ladders c.self.invariant.queued o join.result join.ensures.found q.adds slots.result
           slots.ensures.vacant slots.new.self slots.ensures.updates slots.ensures.used slots.ensures.capacity links.new.self links.new.ends links.ensures.last links.ensures.others links.ensures.limit
-          put.new.ladders (rw c.from.ensures at put.ensures.levels) few (range_high o.rest c.requires.rest) kind put.ensures.kinds_kept;
+          join.new.ladders (rw (← links.ensures.ends) at join.ensures.levels) few (range_high o.rest c.requires.rest) kind join.ensures.kinds_kept;
       places = places-used q.listing q.places q.entries q.ladders c.self.invariant.places o c.release.new.self gain _ slots.new.self slots.ensures.capacity
-          put.new.ladders put.ensures.kinds_kept put.ensures.room_used put.ensures.room_kept put.ensures.other_ladder;
+          join.new.ladders join.ensures.kinds_kept join.ensures.room_used join.ensures.room_kept join.ensures.other_ladder;
       rise = rises-push 0 q.listing _ c.self.invariant.rise;
     })

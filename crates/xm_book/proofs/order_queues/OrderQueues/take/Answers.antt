@@ -4,7 +4,8 @@ use Rattle.xm_slots.proofs.Tests.{length-kept}
 use Rattle.xm_slots.proofs.Keeping.{rises-kept}
 use Rattle.xm_slots.proofs.Leaving.{there-at}
 use Rattle.xm_book.proofs.Keeping.{places-kept}
-use Rattle.xm_book.proofs.Leaving.{key-there, kind-there, left-queued, level-there, orders-there, units-there}
+use Rattle.xm_book.proofs.Leaving.{key-there, kind-there, left-queued, level-there, orders-there, some-found, units-there}
+use Rattle.xm_book.specs.Levels.{level_for}
 use Rattle.xm_book.proofs.order_queues.OrderQueues.take.Goals as goal
 
 pub entry-entry-requires : goal.entry-entry-requires
@@ -12,30 +13,37 @@ entry-entry-requires g c =
     let q = c.self.inside in
     there-at q.listing q.entries c.self.invariant.queued.lie c.args.key (rw (← c.self.view_is) at c.requires)
 
+pub leave_level-ends-requires-clause-key : goal.leave_level-ends-requires-clause-key
+leave_level-ends-requires-clause-key g c level found =
+    let q = c.self.inside in
+    key-there q.listing q.entries q.links q.ladders c.self.invariant.queued c.args.key (rw (← c.self.view_is) at c.requires) c.entry-entry.result.now c.entry-entry.ensures level found
+
+pub leave_level-ends-requires-clause-orders : goal.leave_level-ends-requires-clause-orders
+leave_level-ends-requires-clause-orders g c level found =
+    let q = c.self.inside in
+    orders-there q.listing q.entries q.links q.ladders c.self.invariant.queued c.args.key (rw (← c.self.view_is) at c.requires) c.entry-entry.result.now c.entry-entry.ensures level found
+
+pub leave_level-ends-requires-clause-units : goal.leave_level-ends-requires-clause-units
+leave_level-ends-requires-clause-units g c level found =
+    let q = c.self.inside in
+    units-there q.listing q.entries q.links q.ladders c.self.invariant.queued c.args.key (rw (← c.self.view_is) at c.requires) c.entry-entry.result.now c.entry-entry.ensures level found
+
+pub leave_level-ends-requires-clause-kind : goal.leave_level-ends-requires-clause-kind
+leave_level-ends-requires-clause-kind g c =
+    let q = c.self.inside in
+    let found = some-found (level_for c.entry-entry.result.now.item q.ladders) in
+    kind-there q.listing q.entries q.links q.ladders c.self.invariant.queued c.args.key (rw (← c.self.view_is) at c.requires) c.entry-entry.result.now c.entry-entry.ensures found.0 found.1
+
+pub leave_level-ends-requires-clause-there : goal.leave_level-ends-requires-clause-there
+leave_level-ends-requires-clause-there g c =
+    let q = c.self.inside in
+    let found = some-found (level_for c.entry-entry.result.now.item q.ladders) in
+    level-there q.listing q.entries q.links q.ladders c.self.invariant.queued c.args.key (rw (← c.self.view_is) at c.requires) c.entry-entry.result.now c.entry-entry.ensures found.0 found.1
+
 pub unlink-requires : goal.unlink-requires
 unlink-requires g c =
     let q = c.self.inside in
-    key-there q.listing q.entries q.links q.ladders c.self.invariant.queued c.args.key (rw (← c.self.view_is) at c.requires) c.entry-entry.result.now c.entry-entry.ensures c.level_for-level.result c.level_for-level.ensures
-
-pub overflow_sub-level : goal.overflow_sub-level
-overflow_sub-level g c =
-    let q = c.self.inside in
-    orders-there q.listing q.entries q.links q.ladders c.self.invariant.queued c.args.key (rw (← c.self.view_is) at c.requires) c.entry-entry.result.now c.entry-entry.ensures c.level_for-level.result c.level_for-level.ensures
-
-pub overflow_sub-level-2 : goal.overflow_sub-level-2
-overflow_sub-level-2 g c =
-    let q = c.self.inside in
-    omega (arith, c.from.ensures, units-there q.listing q.entries q.links q.ladders c.self.invariant.queued c.args.key (rw (← c.self.view_is) at c.requires) c.entry-entry.result.now c.entry-entry.ensures c.level_for-level.result c.level_for-level.ensures)
-
-pub set_level-requires-clause-kind : goal.set_level-requires-clause-kind
-set_level-requires-clause-kind g c =
-    let q = c.self.inside in
-    kind-there q.listing q.entries q.links q.ladders c.self.invariant.queued c.args.key (rw (← c.self.view_is) at c.requires) c.entry-entry.result.now c.entry-entry.ensures c.level_for-level.result c.level_for-level.ensures
-
-pub set_level-requires-clause-there : goal.set_level-requires-clause-there
-set_level-requires-clause-there g c =
-    let q = c.self.inside in
-    level-there q.listing q.entries q.links q.ladders c.self.invariant.queued c.args.key (rw (← c.self.view_is) at c.requires) c.entry-entry.result.now c.entry-entry.ensures c.level_for-level.result c.level_for-level.ensures
+    key-there q.listing q.entries q.links q.ladders c.self.invariant.queued c.args.key (rw (← c.self.view_is) at c.requires) c.entry-entry.result.now c.entry-entry.ensures c.leave_level-ends.result c.leave_level-ends.ensures.found
 
 pub invariant_of-self : goal.invariant_of-self
 invariant_of-self g c =
@@ -43,10 +51,10 @@ invariant_of-self g c =
     let slots = c.vacate in
     let links = c.unlink in
     rw c.leave.ensures (record {
-      queued = left-queued q.listing q.entries q.links q.ladders c.self.invariant.queued c.args.key (rw (← c.self.view_is) at c.requires) c.entry-entry.result.now c.entry-entry.ensures c.level_for-level.result c.level_for-level.ensures
+      queued = left-queued q.listing q.entries q.links q.ladders c.self.invariant.queued c.args.key (rw (← c.self.view_is) at c.requires) c.entry-entry.result.now c.entry-entry.ensures c.leave_level-ends.result c.leave_level-ends.ensures.found
           slots.new.self slots.ensures.updates slots.ensures.used slots.ensures.capacity links.new.self links.new.ends links.ensures.left links.ensures.others links.ensures.limit
-          c.set_level.new.ladders (rw c.from.ensures at c.set_level.ensures.set) c.set_level.ensures.others c.set_level.ensures.kinds_kept;
+          c.leave_level-ends.new.ladders (rw (← links.ensures.ends) at c.leave_level-ends.ensures.set) c.leave_level-ends.ensures.others c.leave_level-ends.ensures.kinds_kept;
       places = places-kept q.listing q.places q.entries q.ladders c.self.invariant.places (filter (is_other_key c.args.key) q.listing) (length-kept (is_other_key c.args.key) q.listing)
-          slots.new.self (omega (arith, slots.ensures.capacity)) c.set_level.new.ladders c.set_level.ensures.kinds_kept c.set_level.ensures.room_kept;
+          slots.new.self (omega (arith, slots.ensures.capacity)) c.leave_level-ends.new.ladders c.leave_level-ends.ensures.kinds_kept c.leave_level-ends.ensures.room_kept;
       rise = rises-kept (is_other_key c.args.key) 0 q.listing q.adds c.self.invariant.rise;
     })
