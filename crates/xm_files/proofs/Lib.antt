@@ -1,4 +1,5 @@
 mod Batches
+mod Formats
 mod Hinted
 mod Known
 mod NameFacts

@@ -9,7 +9,7 @@ use Rattle.csv.specs.Reading.{default_config}
 use Rattle.csv.specs.declared.parser.Action.TheVariants as act
 use Rattle.csv.specs.declared.parser.State.{State}
 use Rattle.csv.specs.declared.parser.State.TheVariants as st
-use Rattle.xm_files.specs.Plain.{EndsAt, IsBehind, IsNextMark, ReadsLine, TextFrom, is_mark, is_plain, rest_of}
+use Rattle.xm_files.specs.Plain.{EndsAt, IsBehind, IsNextMark, TextFrom, is_mark, is_plain, rest_of}
 
 none-of : (a b c d : Bool) → not (a || (b || (c || d))) ≡ true → (a ≡ false) × (b ≡ false) × (c ≡ false) × (d ≡ false)
 none-of false false false false h = (refl, refl, refl, refl)
@@ -83,32 +83,14 @@ last-field fields (byte ∷ field) more plain =
     let parts = and_parts (not (is_mark byte)) (is_plain field) plain in
     copied st.StartField byte fields [] (field ++ 10 ∷ more) (joins-next byte parts.0) ∙ to-line fields (byte ∷ []) field more parts.1
 
-first-of : (text field rest : List ℕ) → EndsAt 44 text field rest → next_record default_config st.StartRecord [] [] text ≡ next_record default_config st.StartField (field ∷ []) [] rest
+pub first-of : (text field rest : List ℕ) → EndsAt 44 text field rest → next_record default_config st.StartRecord [] [] text ≡ next_record default_config st.StartField (field ∷ []) [] rest
 first-of text field rest ends = ap (next_record default_config st.StartRecord [] []) ends.0 ∙ first-field field rest ends.1
 
-next-of : (fields : List (List ℕ)) (text field rest : List ℕ) → EndsAt 44 text field rest → next_record default_config st.StartField fields [] text ≡ next_record default_config st.StartField (fields ++ field ∷ []) [] rest
+pub next-of : (fields : List (List ℕ)) (text field rest : List ℕ) → EndsAt 44 text field rest → next_record default_config st.StartField fields [] text ≡ next_record default_config st.StartField (fields ++ field ∷ []) [] rest
 next-of fields text field rest ends = ap (next_record default_config st.StartField fields []) ends.0 ∙ next-field fields field rest ends.1
 
-last-of : (fields : List (List ℕ)) (text field more : List ℕ) → EndsAt 10 text field more → next_record default_config st.StartField fields [] text ≡ Some (fields ++ field ∷ [], st.StartRecord, more)
+pub last-of : (fields : List (List ℕ)) (text field more : List ℕ) → EndsAt 10 text field more → next_record default_config st.StartField fields [] text ≡ Some (fields ++ field ∷ [], st.StartRecord, more)
 last-of fields text field more ends = ap (next_record default_config st.StartField fields []) ends.0 ∙ last-field fields field more ends.1
-
--- a line of twelve fields
-pub line-read : (a b c d e f g h i j k l : List ℕ) (t0 t1 t2 t3 t4 t5 t6 t7 t8 t9 t10 t11 more : List ℕ)
-    → EndsAt 44 t0 a t1 → EndsAt 44 t1 b t2 → EndsAt 44 t2 c t3 → EndsAt 44 t3 d t4 → EndsAt 44 t4 e t5 → EndsAt 44 t5 f t6 → EndsAt 44 t6 g t7 → EndsAt 44 t7 h t8 → EndsAt 44 t8 i t9 → EndsAt 44 t9 j t10 → EndsAt 44 t10 k t11
-    → EndsAt 10 t11 l more → ReadsLine t0 (a ∷ b ∷ c ∷ d ∷ e ∷ f ∷ g ∷ h ∷ i ∷ j ∷ k ∷ l ∷ []) more
-line-read a b c d e f g h i j k l t0 t1 t2 t3 t4 t5 t6 t7 t8 t9 t10 t11 more e0 e1 e2 e3 e4 e5 e6 e7 e8 e9 e10 e11 =
-    first-of t0 a t1 e0
-    ∙ next-of (a ∷ []) t1 b t2 e1
-    ∙ next-of (a ∷ b ∷ []) t2 c t3 e2
-    ∙ next-of (a ∷ b ∷ c ∷ []) t3 d t4 e3
-    ∙ next-of (a ∷ b ∷ c ∷ d ∷ []) t4 e t5 e4
-    ∙ next-of (a ∷ b ∷ c ∷ d ∷ e ∷ []) t5 f t6 e5
-    ∙ next-of (a ∷ b ∷ c ∷ d ∷ e ∷ f ∷ []) t6 g t7 e6
-    ∙ next-of (a ∷ b ∷ c ∷ d ∷ e ∷ f ∷ g ∷ []) t7 h t8 e7
-    ∙ next-of (a ∷ b ∷ c ∷ d ∷ e ∷ f ∷ g ∷ h ∷ []) t8 i t9 e8
-    ∙ next-of (a ∷ b ∷ c ∷ d ∷ e ∷ f ∷ g ∷ h ∷ i ∷ []) t9 j t10 e9
-    ∙ next-of (a ∷ b ∷ c ∷ d ∷ e ∷ f ∷ g ∷ h ∷ i ∷ j ∷ []) t10 k t11 e10
-    ∙ last-of (a ∷ b ∷ c ∷ d ∷ e ∷ f ∷ g ∷ h ∷ i ∷ j ∷ k ∷ []) t11 l more e11
 
 from-mark : (text : List ℕ) (n d mark : ℕ) → n < length text → get_or text n d ≡ mark → drop n text ≡ mark ∷ drop (n + 1) text
 from-mark text n d mark within is =

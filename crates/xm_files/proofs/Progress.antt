@@ -1,5 +1,5 @@
 -- How far the rows of an order file were read.
-use Rattle.std.proofs.Common.{[], Bor, ◌≡◌, ℕ, ◌+◌, ◌<◌, ◌≤◌, Bool, true, false, ◌==◌, if◌then◌else◌, List, ◌∷◌, length, Option, Some, Result, Ok, Err, refl, ap, arith, sym, ◌∙◌}
+use Rattle.std.proofs.Common.{[], Bor, ◌++◌, nat_lt, ◌≡◌, ℕ, ◌+◌, ◌<◌, ◌≤◌, Bool, true, false, ◌==◌, if◌then◌else◌, List, ◌∷◌, length, Option, Some, Result, Ok, Err, refl, ap, arith, sym, ◌∙◌}
 use Rattle.std.proofs.lemmas.Bool.{and_left}
 use Rattle.std.proofs.lemmas.Bool.Decides.{nat_tests}
 use Rattle.std.specs.Option.{option_map_or}
@@ -13,9 +13,11 @@ use Rattle.xm_files.specs.FileFaults.{fault_at, result_then}
 use Rattle.xm_files.specs.Names.{NameLists}
 use Rattle.xm_files.specs.Orders.{with_record, with_rows, rows_after}
 use Rattle.xm_files.specs.Plain.{IsBehindHeader, ReadsLine}
-use Rattle.xm_files.specs.Rows.{is_header, rows_of_record}
+use Rattle.xm_files.specs.Rows.{columns_of, is_header, rows_of_record}
 use Rattle.xm_files.specs.declared.file_faults.FileCause.TheVariants.{Syntax, BadHeader}
 use Rattle.xm_files.specs.declared.file_faults.FileFault.{FileFault}
+use Rattle.xm_files.specs.declared.order_format.OrderFormat.{OrderFormat}
+use Rattle.xm_files.specs.declared.order_format.OrderFormat.TheVariants.{First}
 use Rattle.xm_segment.specs.declared.config.SegmentConfig.{SegmentConfig}
 use Rattle.xm_segment.specs.declared.rows.Row.{Row}
 
@@ -27,18 +29,23 @@ first-line line e = rw e refl
 
 -- what a record gives: the first one, and any other
 pub header-record : (names : NameLists) (config : SegmentConfig) (line : ℕ) (rows : List Row) (fields : List (List ℕ)) → line ≡ 1
-    → with_record names config line rows fields ≡ (if is_header fields then Ok rows else Err (fault_at 1 BadHeader))
+    → with_record names config line rows fields ≡ (if is_header First fields then Ok rows else Err (fault_at 1 BadHeader))
 header-record names config line rows fields first = rw first refl
 
 pub row-record : (names : NameLists) (config : SegmentConfig) (line : ℕ) (rows : List Row) (fields : List (List ℕ)) → 2 ≤ line → length fields ≡ 12
-    → with_record names config line rows fields ≡ with_rows line rows (rows_of_record names config fields)
+    → with_record names config line rows fields ≡ with_rows line rows (rows_of_record First names config fields)
 row-record names config line rows fields later twelve = rw (not-first line later, twelve) refl
 
 pub other-record : (names : NameLists) (config : SegmentConfig) (line : ℕ) (rows : List Row) (fields : List (List ℕ)) → 2 ≤ line → (length fields == 12) ≡ false
     → with_record names config line rows fields ≡ Err (fault_at line Syntax)
 other-record names config line rows fields later other = rw (not-first line later, other) refl
 
-pub no-header : (fields : List (List ℕ)) → (length fields == 12) ≡ false → is_header fields ≡ false
+pub rows-fit : (line : ℕ) (rows more : List Row) → length rows + length more ≤ 1000000 → with_rows line rows (Some more) ≡ Ok (rows ++ more)
+rows-fit line rows more fits =
+    let few : nat_lt 1000000 (length rows + length more) ≡ false = grind (arith, nat_tests) in
+    rw few refl
+
+pub no-header : (fields : List (List ℕ)) → (length fields == 12) ≡ false → is_header First fields ≡ false
 no-header fields other = and_left (length fields == 12) _ other
 
 -- lines were read, and behind the line feed of the last one comes the record with this number
@@ -79,29 +86,30 @@ feed-begins text more line later fed =
     }
 
 -- the record behind the line feed, and what comes after it
-next-line : (names : NameLists) (config : SegmentConfig) (all : Result (List Row) FileFault) (text more : List ℕ) (line : ℕ) (rows : List Row) (fields : List (List ℕ)) → Lines names config all text line rows
-    → ReadsLine text fields more → length fields ≡ 12
-    → all ≡ result_then (with_rows line rows (rows_of_record names config fields)) (λ sum. rows_after names config (line + 1) sum (records default_config (10 ∷ more)))
-next-line names config all text more line rows fields p reads twelve =
+next-line : (names : NameLists) (config : SegmentConfig) (all : Result (List Row) FileFault) (text more : List ℕ) (line : ℕ) (rows : List Row) (format : OrderFormat) (fields : List (List ℕ)) → Lines names config all text line rows
+    → ReadsLine text fields more → format ≡ First → length fields ≡ length (columns_of format)
+    → all ≡ result_then (with_rows line rows (rows_of_record format names config fields)) (λ sum. rows_after names config (line + 1) sum (records default_config (10 ∷ more)))
+next-line names config all text more line rows format fields p reads first count =
     p.so_far
     ∙ ap (rows_after names config line rows) (fed-records text ∙ line-records text more fields reads)
-    ∙ ap (λ (r : Result (List Row) FileFault). result_then r (λ sum. rows_after names config (line + 1) sum (records default_config (10 ∷ more)))) (row-record names config line rows fields p.later twelve)
+    ∙ ap (λ (r : Result (List Row) FileFault). result_then r (λ sum. rows_after names config (line + 1) sum (records default_config (10 ∷ more)))) (row-record names config line rows fields p.later (count ∙ ap (λ (f : OrderFormat). length (columns_of f)) first)
+    ∙ ap (λ (f : OrderFormat). with_rows line rows (rows_of_record f names config fields)) (sym first))
 
-pub lines-more : (names : NameLists) (config : SegmentConfig) (all : Result (List Row) FileFault) (text more : List ℕ) (line : ℕ) (rows sum : List Row) (fields : List (List ℕ)) → Lines names config all text line rows
-    → ReadsLine text fields more → length fields ≡ 12 → with_rows line rows (rows_of_record names config fields) ≡ Ok sum → Lines names config all more (line + 1) sum
-lines-more names config all text more line rows sum fields p reads twelve good =
+pub lines-more : (names : NameLists) (config : SegmentConfig) (all : Result (List Row) FileFault) (text more : List ℕ) (line : ℕ) (rows sum : List Row) (format : OrderFormat) (fields : List (List ℕ)) → Lines names config all text line rows
+    → ReadsLine text fields more → format ≡ First → length fields ≡ length (columns_of format) → with_rows line rows (rows_of_record format names config fields) ≡ Ok sum → Lines names config all more (line + 1) sum
+lines-more names config all text more line rows sum format fields p reads first count good =
     let shorter = line-shorter text more fields reads in
     let lines = p.lines in
     let later = p.later in
     record {
-      so_far = next-line names config all text more line rows fields p reads twelve ∙ rw good refl;
+      so_far = next-line names config all text more line rows format fields p reads first count ∙ rw good refl;
       later = omega (arith, later);
       lines = omega (arith, shorter, lines);
     }
 
-pub lines-fault : (names : NameLists) (config : SegmentConfig) (all : Result (List Row) FileFault) (text more : List ℕ) (line : ℕ) (rows : List Row) (fields : List (List ℕ)) (fault : FileFault) → Lines names config all text line rows
-    → ReadsLine text fields more → length fields ≡ 12 → with_rows line rows (rows_of_record names config fields) ≡ Err fault → all ≡ Err fault
-lines-fault names config all text more line rows fields fault p reads twelve bad = next-line names config all text more line rows fields p reads twelve ∙ rw bad refl
+pub lines-fault : (names : NameLists) (config : SegmentConfig) (all : Result (List Row) FileFault) (text more : List ℕ) (line : ℕ) (rows : List Row) (format : OrderFormat) (fields : List (List ℕ)) (fault : FileFault) → Lines names config all text line rows
+    → ReadsLine text fields more → format ≡ First → length fields ≡ length (columns_of format) → with_rows line rows (rows_of_record format names config fields) ≡ Err fault → all ≡ Err fault
+lines-fault names config all text more line rows format fields fault p reads first count bad = next-line names config all text more line rows format fields p reads first count ∙ rw bad refl
 
 -- CSV reads on from the line feed
 pub lines-end : (names : NameLists) (config : SegmentConfig) (all : Result (List Row) FileFault) (left more : List ℕ) (line : ℕ) (rows : List Row) → Lines names config all more line rows → left ≡ 10 ∷ more

@@ -3,7 +3,8 @@ use Rattle.std.specs.Prelude.{ℕ, ◌+◌, not, if◌then◌else◌, nat_lt, �
 use Rattle.csv.specs.Reading.{default_config, records, strip_bom}
 use Rattle.xm_files.specs.FileFaults.{fault_at, max_bytes, result_then}
 use Rattle.xm_files.specs.Names.{NameLists}
-use Rattle.xm_files.specs.Rows.{is_header, rows_of_record}
+use Rattle.xm_files.specs.Rows.{columns_of, is_header, rows_of_record}
+use Rattle.xm_files.specs.declared.order_format.OrderFormat.TheVariants.{First}
 use Rattle.xm_segment.specs.declared.config.SegmentConfig.{SegmentConfig}
 use Rattle.xm_files.specs.declared.file_faults.FileCause.TheVariants.{TooLong, Syntax, BadHeader, BadField, TooManyRows}
 use Rattle.xm_files.specs.declared.file_faults.FileFault.{FileFault}
@@ -21,8 +22,8 @@ with_rows line rows (Some more) = if nat_lt max_rows (length rows + length more)
 -- the same of a record's fields; the first record is the header, which gives no row and says how many fields each has
 abbrev pub with_record : NameLists → SegmentConfig → ℕ → List Row → List (List ℕ) → Result (List Row) FileFault
 with_record names config line rows fields =
-    if line == 1 then (if is_header fields then Ok rows else Err (fault_at 1 BadHeader))
-    else (if not (length fields == 12) then Err (fault_at line Syntax) else with_rows line rows (rows_of_record names config fields))
+    if line == 1 then (if is_header First fields then Ok rows else Err (fault_at 1 BadHeader))
+    else (if not (length fields == length (columns_of First)) then Err (fault_at line Syntax) else with_rows line rows (rows_of_record First names config fields))
 
 -- these rows and those of the records, of which the first has this number, or the first fault
 abbrev pub rows_after : NameLists → SegmentConfig → ℕ → List Row → List (List (List ℕ)) → Result (List Row) FileFault

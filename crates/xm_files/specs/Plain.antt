@@ -6,6 +6,7 @@ use Rattle.csv.specs.Machine.{next_record}
 use Rattle.csv.specs.Reading.{default_config, strip_bom}
 use Rattle.csv.specs.declared.parser.State.TheVariants as state
 use Rattle.xm_files.specs.Rows.{is_header}
+use Rattle.xm_files.specs.declared.order_format.OrderFormat.TheVariants.{First}
 
 -- a line feed, a carriage return, a quote or a comma
 abbrev pub is_mark : ℕ → Bool
@@ -55,4 +56,4 @@ ReadsLine text fields more = next_record default_config state.StartRecord [] [] 
 
 -- the text begins with the line of the header and has nothing before it, and goes on so behind it
 abbrev pub IsBehindHeader : List ℕ → List ℕ → Type 0
-IsBehindHeader text more = (header : List (List ℕ)) × (is_header header ≡ true) × (strip_bom text ≡ text) × ReadsLine text header more
+IsBehindHeader text more = (header : List (List ℕ)) × (is_header First header ≡ true) × (strip_bom text ≡ text) × ReadsLine text header more

@@ -1,6 +1,6 @@
 -- The rows of one record of an order file.
-use Rattle.std.specs.Prelude.{ℕ, Bool, ◌&&◌, ◌||◌, if◌then◌else◌, nat_le, ◌==◌, List, [], ◌∷◌, length, map, Option, Some, None, option_map, get_or, slice_get, Result, Ok, Err, codes}
-use Rattle.std.specs.List.{list_all, position_or_len, range_with_len}
+use Rattle.std.specs.Prelude.{ℕ, Bool, ◌&&◌, ◌||◌, if◌then◌else◌, nat_le, ◌==◌, List, [], ◌∷◌, length, map, Option, Some, None, option_map, get_or, slice_get, take, Result, Ok, Err, codes}
+use Rattle.std.specs.List.{list_all, list_any, position_or_len, range_with_len}
 use Rattle.std.specs.Option.{option_map_or}
 use Rattle.std.specs.Str.{bytes_eq}
 use Rattle.xm_rules.specs.declared.commands.Command.{Command}
@@ -28,14 +28,16 @@ use Rattle.xm_files.specs.declared.entries.RecordEntry.{RecordEntry}
 use Rattle.xm_files.specs.declared.entries.RecordEntry.TheVariants.{One, Each}
 use Rattle.xm_files.specs.declared.entries.Word.{Word}
 use Rattle.xm_files.specs.declared.entries.Word.TheVariants as word
+use Rattle.xm_files.specs.declared.order_format.OrderFormat.{OrderFormat}
+use Rattle.xm_files.specs.declared.order_format.OrderFormat.TheVariants.{First}
 use Rattle.xm_files.specs.declared.records.Fields.{Fields}
 use Rattle.xm_segment.specs.declared.rows.Row.{Row}
 
--- the columns, in their order
-abbrev pub columns : List Column
-columns = column.Command ∷ column.Member ∷ column.Reference ∷ column.Security ∷ column.Side ∷ column.Kind ∷ column.Limit ∷ column.Trigger ∷ column.Quantity ∷ column.Validity ∷ column.Restriction ∷ column.Condition ∷ []
+-- every column that a format may have
+abbrev pub every_column : List Column
+every_column = column.Command ∷ column.Member ∷ column.Reference ∷ column.Security ∷ column.Side ∷ column.Kind ∷ column.Limit ∷ column.Trigger ∷ column.Quantity ∷ column.Validity ∷ column.Restriction ∷ column.Condition ∷ []
 
--- where a column stands
+-- where a column stands among all
 abbrev pub column_index : Column → ℕ
 column_index column.Command = 0
 column_index column.Member = 1
@@ -65,19 +67,51 @@ title_of column.Validity = codes "validity"
 title_of column.Restriction = codes "restriction"
 title_of column.Condition = codes "condition"
 
--- the fields of a record, in their order
-abbrev pub texts_of : Fields → List (List ℕ)
-texts_of f =
-    f.command.now ∷ f.member.now ∷ f.reference.now ∷ f.security.now ∷ f.side.now ∷ f.kind.now ∷ f.limit.now ∷ f.trigger.now ∷ f.quantity.now ∷ f.validity.now ∷ f.restriction.now
-    ∷ f.condition.now ∷ []
+-- the columns of a format, in their order
+abbrev pub columns_of : OrderFormat → List Column
+columns_of First = every_column
 
--- the field of a record in a column
+-- the kinds of commands of a format, by their words
+abbrev pub kinds_of : OrderFormat → List Word
+kinds_of First = word.Enter ∷ word.Change ∷ word.Cancel ∷ word.CancelAll ∷ word.Open ∷ word.Intraday ∷ word.Close ∷ word.Uncross ∷ word.End ∷ []
+
+-- where a command word stands among all
+abbrev pub word_index : Word → ℕ
+word_index word.Enter = 0
+word_index word.Change = 1
+word_index word.Cancel = 2
+word_index word.CancelAll = 3
+word_index word.Open = 4
+word_index word.Intraday = 5
+word_index word.Close = 6
+word_index word.Uncross = 7
+word_index word.End = 8
+
+-- where a column stands among these, and their number where it isn't one of them
+abbrev pub column_place : List Column → Column → ℕ
+column_place columns column = position_or_len (λ other. column_index other == column_index column) columns
+
+-- the fields of a record with these columns, by column; that of a column that isn't one of them is empty
+abbrev pub by_column : List Column → List (List ℕ) → List (List ℕ)
+by_column columns fields = map (λ column. get_or fields (column_place columns column) []) every_column
+
+-- the fields of a record, in the order of its format
+abbrev pub record_of : Fields → List (List ℕ)
+record_of f = take (length (columns_of f.format)) (map (λ text. text.now) f.texts)
+
+-- the fields of a record, by column
+unfoldable pub texts_of : Fields → List (List ℕ)
+texts_of f = by_column (columns_of f.format) (record_of f)
+
+-- the field in a column, of those by column
 abbrev pub field : Column → List (List ℕ) → List ℕ
 field column fields = get_or fields (column_index column) []
 
 -- the header has a field for each column, which is the column's title
-abbrev pub is_header : List (List ℕ) → Bool
-is_header fields = (length fields == 12) && list_all (λ column. bytes_eq (field column fields) (title_of column)) columns
+abbrev pub is_header : OrderFormat → List (List ℕ) → Bool
+is_header format fields =
+    (length fields == length (columns_of format))
+    && list_all (λ column. bytes_eq (field column (by_column (columns_of format) fields)) (title_of column)) (columns_of format)
 
 -- the fields in these columns are empty
 abbrev pub are_empty : List Column → List (List ℕ) → Bool
@@ -247,14 +281,23 @@ entry_with (Some word.Close) names securities fields = phase_entry command.Start
 entry_with (Some word.Uncross) names securities fields = phase_entry command.Uncross names fields
 entry_with (Some word.End) names securities fields = phase_entry command.EndDay names fields
 
-abbrev pub record_entry : NameLists → List SecurityConfig → List (List ℕ) → Option RecordEntry
-record_entry names securities fields = entry_with (word_of (field column.Command fields)) names securities fields
+-- records of a format give the kind of command with this word
+abbrev pub has_word : OrderFormat → Word → Bool
+has_word format word = list_any (λ other. word_index other == word_index word) (kinds_of format)
+
+-- the kind of command that a text names, if records of a format give it
+abbrev pub kind_in : OrderFormat → List ℕ → Option Word
+kind_in format text = word_of text >>= (λ kind. if has_word format kind then Some kind else None)
+
+abbrev pub record_entry : OrderFormat → NameLists → List SecurityConfig → List (List ℕ) → Option RecordEntry
+record_entry format names securities fields = entry_with (kind_in format (field column.Command fields)) names securities fields
 
 -- the rows of an entry in a segment of so many securities: one, or one per security in index order
 abbrev pub rows_of_entry : ℕ → RecordEntry → List Row
 rows_of_entry count (One row) = row ∷ []
 rows_of_entry count (Each phase) = map (λ security. record { security = security; command = phase }) (range_with_len 0 count)
 
--- the rows of a record, if it is lawful
-abbrev pub rows_of_record : NameLists → SegmentConfig → List (List ℕ) → Option (List Row)
-rows_of_record names config fields = option_map (rows_of_entry (length names.securities)) (record_entry names config.securities fields)
+-- the rows of a record of a format, if it is lawful
+abbrev pub rows_of_record : OrderFormat → NameLists → SegmentConfig → List (List ℕ) → Option (List Row)
+rows_of_record format names config fields =
+    option_map (rows_of_entry (length names.securities)) (record_entry format names config.securities (by_column (columns_of format) fields))

@@ -1,8 +1,8 @@
 //! The columns of the order file.
 ghost use Rattle.std.specs.Prelude.{◌≡◌};
-ghost use Rattle.xm_files.specs.Rows.{title_of};
+ghost use Rattle.xm_files.specs.Rows.{column_index, title_of};
 
-/// A column of the order file. They stand in this order.
+/// A column that a format of order files may have.
 #[derive(Clone, Copy, PartialEq, Eq, Debug)]
 pub(crate) enum Column {
     Command,
@@ -20,6 +20,7 @@ pub(crate) enum Column {
 }
 
 impl Column {
+    /// Every column.
     pub(crate) const ALL: [Column; 12] = [
         Column::Command,
         Column::Member,
@@ -34,6 +35,27 @@ impl Column {
         Column::Restriction,
         Column::Condition,
     ];
+
+    /// Where the column stands among all.
+    #[inline(always)]
+    pub(crate) fn index(self) -> usize
+        ensures { result ≡ column_index self }
+    {
+        match self {
+            Column::Command => 0,
+            Column::Member => 1,
+            Column::Reference => 2,
+            Column::Security => 3,
+            Column::Side => 4,
+            Column::Kind => 5,
+            Column::Limit => 6,
+            Column::Trigger => 7,
+            Column::Quantity => 8,
+            Column::Validity => 9,
+            Column::Restriction => 10,
+            Column::Condition => 11,
+        }
+    }
 
     /// What the header says of the column.
     pub(crate) fn title(self) -> &'static str

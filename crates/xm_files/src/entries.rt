@@ -20,7 +20,7 @@ pub(crate) enum RecordEntry {
 
 /// The command words.
 #[derive(Clone, Copy, PartialEq, Eq, Debug)]
-enum Word {
+pub(crate) enum Word {
     Enter,
     Change,
     Cancel,
@@ -32,15 +32,34 @@ enum Word {
     End,
 }
 
+impl Word {
+    /// Every command word.
+    pub(crate) const ALL: [Word; 9] = [
+        Word::Enter,
+        Word::Change,
+        Word::Cancel,
+        Word::CancelAll,
+        Word::Open,
+        Word::Intraday,
+        Word::Close,
+        Word::Uncross,
+        Word::End,
+    ];
+}
+
 /// What a record says, if each of its fields is lawful.
 pub(crate) fn parse_entry(
     fields: &Fields,
     names: &SegmentNames,
     config: &SegmentConfig,
 ) -> Option<RecordEntry>
-    ensures { result ≡ record_entry names.now config.now.securities (texts_of fields.now) }
+    ensures { result ≡ record_entry fields.now.format names.now config.now.securities (texts_of fields.now) }
 {
-    match parse_word(fields.text(Column::Command))? {
+    let word = parse_word(fields.text(Column::Command))?;
+    if !fields.format().has_word(word) {
+        return None;
+    }
+    match word {
         Word::Enter => enter(fields, names, config.securities.as_slice()),
         Word::Change => change(fields, names, config.securities.as_slice()),
         Word::Cancel => cancel(fields, names),

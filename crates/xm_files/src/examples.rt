@@ -2,10 +2,13 @@
 ghost use Rattle.std.specs.Prelude.{◌≡◌, codes, map, [], ◌∷◌, Some, None, Ok, Err, true, false};
 ghost use Rattle.xm_files.specs.Examples.{change_record, entered_row, every_title, order_record, phase_record, record_names, record_settings, round_rows, row_of};
 ghost use Rattle.xm_files.specs.Orders.{with_record};
-ghost use Rattle.xm_files.specs.Rows.{columns, condition_of, is_header, name_index, restriction_of, rows_of_record, side_named, title_of, validity_of, whole_of};
+ghost use Rattle.xm_files.specs.Rows.{by_column, columns_of, condition_of, field, is_header, kind_in, name_index, restriction_of, rows_of_record, side_named, title_of, validity_of, whole_of};
 ghost use Rattle.xm_files.specs.Segment.{are_distinct, is_name};
 ghost use Rattle.xm_files.specs.Timetable.{rounds_of, share_of};
 ghost use Rattle.xm_files.specs.declared.file_faults.FileCause.TheVariants.{BadField, BadHeader, Syntax};
+ghost use Rattle.xm_files.specs.declared.columns.Column.TheVariants as column;
+ghost use Rattle.xm_files.specs.declared.entries.Word.TheVariants as word;
+ghost use Rattle.xm_files.specs.declared.order_format.OrderFormat.TheVariants.{First};
 ghost use Rattle.xm_rules.specs.declared.commands.Command.TheVariants.{Cancel, CancelAll, Change, EndDay, StartClosing, StartIntraday, StartOpening, Uncross};
 ghost use Rattle.xm_rules.specs.declared.commands.Condition.TheVariants.{Fok, Ioc, Plain};
 ghost use Rattle.xm_rules.specs.declared.commands.Kind.TheVariants.{Limit, Market, StopLimit, StopMarket};
@@ -15,10 +18,25 @@ ghost use Rattle.xm_rules.specs.declared.orders.Validity.TheVariants.{Day, TillC
 
 /// The titles of the columns, and the header that they make.
 pub fn titles()
-    ensures titles { map title_of columns ≡ every_title }
-    ensures header { is_header every_title ≡ true }
-    ensures short { is_header (codes "command" ∷ []) ≡ false }
-    ensures long { is_header (codes "command" ∷ every_title) ≡ false }
+    ensures titles { map title_of (columns_of First) ≡ every_title }
+    ensures header { is_header First every_title ≡ true }
+    ensures short { is_header First (codes "command" ∷ []) ≡ false }
+    ensures long { is_header First (codes "command" ∷ every_title) ≡ false }
+{}
+
+/// Fields are found by the columns of their format, in whichever order they stand. A column that isn't one of them has an empty field.
+pub fn fields_by_column()
+    ensures first { by_column (columns_of First) every_title ≡ every_title }
+    ensures turned { field column.Command (by_column (column.Member ∷ column.Command ∷ []) (codes "AAA" ∷ codes "open" ∷ [])) ≡ codes "open" }
+    ensures other { field column.Member (by_column (column.Member ∷ column.Command ∷ []) (codes "AAA" ∷ codes "open" ∷ [])) ≡ codes "AAA" }
+    ensures absent { field column.Security (by_column (column.Member ∷ column.Command ∷ []) (codes "AAA" ∷ codes "open" ∷ [])) ≡ [] }
+{}
+
+/// The command words of a format. Another word names no kind of command.
+pub fn command_words()
+    ensures members { map (kind_in First) (codes "enter" ∷ codes "change" ∷ codes "cancel" ∷ codes "cancel-all" ∷ []) ≡ Some word.Enter ∷ Some word.Change ∷ Some word.Cancel ∷ Some word.CancelAll ∷ [] }
+    ensures phases { map (kind_in First) (codes "open" ∷ codes "intraday" ∷ codes "close" ∷ codes "uncross" ∷ codes "end" ∷ []) ≡ Some word.Open ∷ Some word.Intraday ∷ Some word.Close ∷ Some word.Uncross ∷ Some word.End ∷ [] }
+    ensures none { map (kind_in First) (codes "" ∷ codes "Enter" ∷ codes "quote" ∷ []) ≡ None ∷ None ∷ None ∷ [] }
 {}
 
 /// The words of sides, restrictions and conditions. An empty field is the plain case, and another word is none.
@@ -61,39 +79,39 @@ pub fn names()
 
 /// The rows of records that enter an order or a stop, at ticks of 50 in the first security.
 pub fn orders_entered()
-    ensures limit { rows_of_record record_names record_settings (order_record (codes "XYZ") (codes "limit") (codes "1.005") (codes "")) ≡ Some (entered_row 0 (Limit 201) ∷ []) }
-    ensures market { rows_of_record record_names record_settings (order_record (codes "UVW") (codes "market") (codes "") (codes "")) ≡ Some (entered_row 1 Market ∷ []) }
-    ensures stop_market { rows_of_record record_names record_settings (order_record (codes "XYZ") (codes "stop-market") (codes "") (codes "1")) ≡ Some (entered_row 0 (StopMarket 200) ∷ []) }
-    ensures stop_limit { rows_of_record record_names record_settings (order_record (codes "XYZ") (codes "stop-limit") (codes "1.005") (codes "1")) ≡ Some (entered_row 0 (StopLimit 200 201) ∷ []) }
-    ensures off_tick { rows_of_record record_names record_settings (order_record (codes "XYZ") (codes "limit") (codes "1.001") (codes "")) ≡ Some (entered_row 0 (Limit 0) ∷ []) }
-    ensures unknown_security { rows_of_record record_names record_settings (order_record (codes "ABC") (codes "limit") (codes "1.001") (codes "")) ≡ Some (entered_row 2 (Limit 10010) ∷ []) }
-    ensures no_number { rows_of_record record_names record_settings (order_record (codes "XYZ") (codes "limit") (codes "a") (codes "")) ≡ None }
-    ensures no_limit { rows_of_record record_names record_settings (order_record (codes "XYZ") (codes "limit") (codes "") (codes "")) ≡ None }
-    ensures trigger { rows_of_record record_names record_settings (order_record (codes "XYZ") (codes "limit") (codes "1") (codes "1")) ≡ None }
-    ensures market_limit { rows_of_record record_names record_settings (order_record (codes "XYZ") (codes "market") (codes "1") (codes "")) ≡ None }
-    ensures kind { rows_of_record record_names record_settings (order_record (codes "XYZ") (codes "stop") (codes "") (codes "1")) ≡ None }
+    ensures limit { rows_of_record First record_names record_settings (order_record (codes "XYZ") (codes "limit") (codes "1.005") (codes "")) ≡ Some (entered_row 0 (Limit 201) ∷ []) }
+    ensures market { rows_of_record First record_names record_settings (order_record (codes "UVW") (codes "market") (codes "") (codes "")) ≡ Some (entered_row 1 Market ∷ []) }
+    ensures stop_market { rows_of_record First record_names record_settings (order_record (codes "XYZ") (codes "stop-market") (codes "") (codes "1")) ≡ Some (entered_row 0 (StopMarket 200) ∷ []) }
+    ensures stop_limit { rows_of_record First record_names record_settings (order_record (codes "XYZ") (codes "stop-limit") (codes "1.005") (codes "1")) ≡ Some (entered_row 0 (StopLimit 200 201) ∷ []) }
+    ensures off_tick { rows_of_record First record_names record_settings (order_record (codes "XYZ") (codes "limit") (codes "1.001") (codes "")) ≡ Some (entered_row 0 (Limit 0) ∷ []) }
+    ensures unknown_security { rows_of_record First record_names record_settings (order_record (codes "ABC") (codes "limit") (codes "1.001") (codes "")) ≡ Some (entered_row 2 (Limit 10010) ∷ []) }
+    ensures no_number { rows_of_record First record_names record_settings (order_record (codes "XYZ") (codes "limit") (codes "a") (codes "")) ≡ None }
+    ensures no_limit { rows_of_record First record_names record_settings (order_record (codes "XYZ") (codes "limit") (codes "") (codes "")) ≡ None }
+    ensures trigger { rows_of_record First record_names record_settings (order_record (codes "XYZ") (codes "limit") (codes "1") (codes "1")) ≡ None }
+    ensures market_limit { rows_of_record First record_names record_settings (order_record (codes "XYZ") (codes "market") (codes "1") (codes "")) ≡ None }
+    ensures kind { rows_of_record First record_names record_settings (order_record (codes "XYZ") (codes "stop") (codes "") (codes "1")) ≡ None }
 {}
 
 /// The rows of records that change or cancel.
 pub fn changes_and_cancellations()
-    ensures limited { rows_of_record record_names record_settings (change_record (codes "change") (codes "7") (codes "1") (codes "20")) ≡ Some (row_of 0 (Change 1 7 20 (Some 200)) ∷ []) }
-    ensures unlimited { rows_of_record record_names record_settings (change_record (codes "change") (codes "7") (codes "") (codes "20")) ≡ Some (row_of 0 (Change 1 7 20 None) ∷ []) }
-    ensures no_quantity { rows_of_record record_names record_settings (change_record (codes "change") (codes "7") (codes "1") (codes "")) ≡ None }
-    ensures cancelled { rows_of_record record_names record_settings (change_record (codes "cancel") (codes "7") (codes "") (codes "")) ≡ Some (row_of 0 (Cancel 1 7) ∷ []) }
-    ensures too_much { rows_of_record record_names record_settings (change_record (codes "cancel") (codes "7") (codes "") (codes "20")) ≡ None }
-    ensures all { rows_of_record record_names record_settings (change_record (codes "cancel-all") (codes "") (codes "") (codes "")) ≡ Some (row_of 0 (CancelAll 1) ∷ []) }
-    ensures one_of_all { rows_of_record record_names record_settings (change_record (codes "cancel-all") (codes "7") (codes "") (codes "")) ≡ None }
+    ensures limited { rows_of_record First record_names record_settings (change_record (codes "change") (codes "7") (codes "1") (codes "20")) ≡ Some (row_of 0 (Change 1 7 20 (Some 200)) ∷ []) }
+    ensures unlimited { rows_of_record First record_names record_settings (change_record (codes "change") (codes "7") (codes "") (codes "20")) ≡ Some (row_of 0 (Change 1 7 20 None) ∷ []) }
+    ensures no_quantity { rows_of_record First record_names record_settings (change_record (codes "change") (codes "7") (codes "1") (codes "")) ≡ None }
+    ensures cancelled { rows_of_record First record_names record_settings (change_record (codes "cancel") (codes "7") (codes "") (codes "")) ≡ Some (row_of 0 (Cancel 1 7) ∷ []) }
+    ensures too_much { rows_of_record First record_names record_settings (change_record (codes "cancel") (codes "7") (codes "") (codes "20")) ≡ None }
+    ensures all { rows_of_record First record_names record_settings (change_record (codes "cancel-all") (codes "") (codes "") (codes "")) ≡ Some (row_of 0 (CancelAll 1) ∷ []) }
+    ensures one_of_all { rows_of_record First record_names record_settings (change_record (codes "cancel-all") (codes "7") (codes "") (codes "")) ≡ None }
 {}
 
 /// The rows of the phases: in one security, or one for each in index order.
 pub fn phases()
-    ensures open { rows_of_record record_names record_settings (phase_record (codes "open") (codes "*")) ≡ Some (row_of 0 StartOpening ∷ row_of 1 StartOpening ∷ []) }
-    ensures intraday { rows_of_record record_names record_settings (phase_record (codes "intraday") (codes "UVW")) ≡ Some (row_of 1 StartIntraday ∷ []) }
-    ensures close { rows_of_record record_names record_settings (phase_record (codes "close") (codes "XYZ")) ≡ Some (row_of 0 StartClosing ∷ []) }
-    ensures uncross { rows_of_record record_names record_settings (phase_record (codes "uncross") (codes "XYZ")) ≡ Some (row_of 0 Uncross ∷ []) }
-    ensures end { rows_of_record record_names record_settings (phase_record (codes "end") (codes "ABC")) ≡ Some (row_of 2 EndDay ∷ []) }
-    ensures nowhere { rows_of_record record_names record_settings (phase_record (codes "end") (codes "")) ≡ None }
-    ensures word { rows_of_record record_names record_settings (phase_record (codes "begin") (codes "*")) ≡ None }
+    ensures open { rows_of_record First record_names record_settings (phase_record (codes "open") (codes "*")) ≡ Some (row_of 0 StartOpening ∷ row_of 1 StartOpening ∷ []) }
+    ensures intraday { rows_of_record First record_names record_settings (phase_record (codes "intraday") (codes "UVW")) ≡ Some (row_of 1 StartIntraday ∷ []) }
+    ensures close { rows_of_record First record_names record_settings (phase_record (codes "close") (codes "XYZ")) ≡ Some (row_of 0 StartClosing ∷ []) }
+    ensures uncross { rows_of_record First record_names record_settings (phase_record (codes "uncross") (codes "XYZ")) ≡ Some (row_of 0 Uncross ∷ []) }
+    ensures end { rows_of_record First record_names record_settings (phase_record (codes "end") (codes "ABC")) ≡ Some (row_of 2 EndDay ∷ []) }
+    ensures nowhere { rows_of_record First record_names record_settings (phase_record (codes "end") (codes "")) ≡ None }
+    ensures word { rows_of_record First record_names record_settings (phase_record (codes "begin") (codes "*")) ≡ None }
 {}
 
 /// The first record is the header, and each other one has as many fields; a fault has the number of its record.

@@ -10,6 +10,7 @@ mod fields;
 mod file_faults;
 mod marks;
 mod names;
+mod order_format;
 mod orders;
 mod records;
 mod segment;

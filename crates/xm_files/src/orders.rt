@@ -9,7 +9,7 @@ ghost use Rattle.xm_files.specs.FileFaults.{is_from_outside};
 ghost use Rattle.xm_files.specs.Names.{NameLists};
 ghost use Rattle.xm_files.specs.Orders.{orders_of, rows_after, rows_of_records, with_record, with_rows};
 ghost use Rattle.xm_files.specs.Plain.{IsBehind, IsBehindHeader, rest_of};
-ghost use Rattle.xm_files.specs.Rows.{is_header, rows_of_entry, rows_of_record, texts_of};
+ghost use Rattle.xm_files.specs.Rows.{is_header, record_of, rows_of_entry, rows_of_record};
 
 use crate::batch::Batch;
 use crate::bytes::{MAX_BYTES, read_whole};
@@ -17,6 +17,7 @@ use crate::entries::{RecordEntry, parse_entry};
 use crate::file_faults::{FileCause, FileFault, csv_fault};
 use crate::marks::Marks;
 use crate::names::SegmentNames;
+use crate::order_format::OrderFormat;
 use crate::records::Fields;
 use csv::{ByteRecord, ReaderBuilder};
 use std::alloc::Global;
@@ -202,7 +203,7 @@ fn add_lines<'a>(
     let Some((mut marks, mut line)) = begin_lines(text, first) else {
         return Ok((text, first, false));
     };
-    let mut fields = Fields::empty();
+    let mut fields = Fields::empty(OrderFormat::First);
     'lines: loop {
         let left = marks.left();
         let Some(()) = fields.read_line(&mut marks) else {
@@ -252,7 +253,7 @@ fn behind_header(text: &[u8]) -> Option<Marks<'_>>
     ensures behind { IfSome result (IsBehind 10) }
 {
     let mut marks = Marks::of(text)?;
-    let mut fields = Fields::empty();
+    let mut fields = Fields::empty(OrderFormat::First);
     fields.read_line(&mut marks)?;
     if text[0] != BYTE_ORDER_MARK && fields.is_header() {
         Some(marks)
@@ -282,7 +283,7 @@ fn add_fields(
     ensures err { IfErr result (λ fault. fault.cause ≢ FileCause.OutOfMemory tt → with_record names.now config.now line (rows_so_far batch.old) (fields_of row.now) ≡ Err fault) }
     ensures memory { IfErr result (λ fault. OnTrue (is_from_outside fault.cause) (fault.line ≡ 0)) }
 {
-    match Fields::of(row) {
+    match Fields::of(OrderFormat::First, row) {
         Some(fields) => {
             if line == 1 {
                 check_header(&fields)
@@ -302,7 +303,7 @@ fn add_fields(
 
 /// Sees that the fields of the first record are the header.
 fn check_header(fields: &Fields) -> Result<(), FileFault>
-    ensures { result ≡ (if is_header (texts_of fields.now) then Ok tt else Err (record { line = 1; cause = FileCause.BadHeader })) }
+    ensures { result ≡ (if is_header fields.now.format (record_of fields.now) then Ok tt else Err (record { line = 1; cause = FileCause.BadHeader })) }
 {
     if fields.is_header() {
         Ok(())
@@ -319,9 +320,9 @@ fn add_record(
     names: &SegmentNames,
     config: &SegmentConfig,
 ) -> Result<(), FileFault>
-    ensures ok { OnOk result (with_rows line (rows_so_far batch.old) (rows_of_record names.now config.now (texts_of fields.now)) ≡ Ok (rows_so_far batch.new)) }
+    ensures ok { OnOk result (with_rows line (rows_so_far batch.old) (rows_of_record fields.now.format names.now config.now (record_of fields.now)) ≡ Ok (rows_so_far batch.new)) }
     ensures earlier { OnOk result (batch.new.earlier ≡ batch.old.earlier) }
-    ensures err { IfErr result (λ fault. fault.cause ≢ FileCause.OutOfMemory tt → with_rows line (rows_so_far batch.old) (rows_of_record names.now config.now (texts_of fields.now)) ≡ Err fault) }
+    ensures err { IfErr result (λ fault. fault.cause ≢ FileCause.OutOfMemory tt → with_rows line (rows_so_far batch.old) (rows_of_record fields.now.format names.now config.now (record_of fields.now)) ≡ Err fault) }
     ensures memory { IfErr result (λ fault. OnTrue (is_from_outside fault.cause) (fault.line ≡ 0)) }
 {
     let entry = parse_entry(fields, names, config).ok_or(fault_at(line, FileCause::BadField))?;

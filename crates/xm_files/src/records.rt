@@ -4,68 +4,45 @@ ghost use Rattle.std.specs.List.{list_all};
 ghost use Rattle.std.specs.Str.{bytes_eq};
 ghost use Rattle.csv.specs.Records.{fields_of};
 ghost use Rattle.xm_files.specs.Plain.{IsBehind, ReadsLine, rest_of};
-ghost use Rattle.xm_files.specs.Rows.{are_empty, field, is_header, texts_of, title_of};
+ghost use Rattle.xm_files.specs.Rows.{are_empty, columns_of, field, is_header, record_of, texts_of, title_of};
 
 use crate::columns::Column;
 use crate::marks::Marks;
+use crate::order_format::{MOST_COLUMNS, OrderFormat};
 use csv::ByteRecord;
 
-/// The fields of a record, by their columns.
+/// The fields of a record of a format.
 #[derive(Clone, Copy)]
 pub(crate) struct Fields<'a> {
-    command: &'a [u8],
-    member: &'a [u8],
-    reference: &'a [u8],
-    security: &'a [u8],
-    side: &'a [u8],
-    kind: &'a [u8],
-    limit: &'a [u8],
-    trigger: &'a [u8],
-    quantity: &'a [u8],
-    validity: &'a [u8],
-    restriction: &'a [u8],
-    condition: &'a [u8],
+    format: OrderFormat,
+    // In the order of the format's columns; those behind them are no fields.
+    texts: [&'a [u8]; MOST_COLUMNS],
 }
 
 impl<'a> Fields<'a> {
     /// The record that CSV read, if it has a field for each column.
-    pub(crate) fn of(row: &'a ByteRecord) -> Option<Fields<'a>>
-        ensures { option_map texts_of result ≡ (if length (fields_of row.now) == 12 then Some (fields_of row.now) else None) }
+    pub(crate) fn of(format: OrderFormat, row: &'a ByteRecord) -> Option<Fields<'a>>
+        ensures fields { option_map record_of result ≡ (if length (fields_of row.now) == length (columns_of format) then Some (fields_of row.now) else None) }
+        ensures format { IfSome result (λ fields. fields.format ≡ format) }
     {
-        if row.len() != 12 {
+        let count = format.columns().len();
+        if row.len() != count {
             return None;
         }
-        Some(Fields {
-            command: text_at(row, 0),
-            member: text_at(row, 1),
-            reference: text_at(row, 2),
-            security: text_at(row, 3),
-            side: text_at(row, 4),
-            kind: text_at(row, 5),
-            limit: text_at(row, 6),
-            trigger: text_at(row, 7),
-            quantity: text_at(row, 8),
-            validity: text_at(row, 9),
-            restriction: text_at(row, 10),
-            condition: text_at(row, 11),
-        })
+        let mut fields = Fields::empty(format);
+        for place in 0..count {
+            fields.texts[place] = text_at(row, place);
+        }
+        Some(fields)
     }
 
     /// A record of empty fields.
-    pub(crate) fn empty() -> Fields<'a> {
+    pub(crate) fn empty(format: OrderFormat) -> Fields<'a>
+        ensures { result.format ≡ format }
+    {
         Fields {
-            command: &[],
-            member: &[],
-            reference: &[],
-            security: &[],
-            side: &[],
-            kind: &[],
-            limit: &[],
-            trigger: &[],
-            quantity: &[],
-            validity: &[],
-            restriction: &[],
-            condition: &[],
+            format,
+            texts: [&[]; MOST_COLUMNS],
         }
     }
 
@@ -75,22 +52,26 @@ impl<'a> Fields<'a> {
     #[inline(always)]
     pub(crate) fn read_line(&mut self, line: &mut Marks<'a>) -> Option<()>
         ensures text { line.new.text ≡ line.old.text }
-        ensures line { IfSome result (λ _. ReadsLine (rest_of line.old) (texts_of self.new) (rest_of line.new)) }
+        ensures format { self.new.format ≡ self.old.format }
+        ensures line { IfSome result (λ _. ReadsLine (rest_of line.old) (record_of self.new) (rest_of line.new)) }
+        ensures count { IfSome result (λ _. length (record_of self.new) ≡ length (columns_of self.old.format)) }
         ensures behind { IfSome result (λ _. IsBehind 10 line.new) }
     {
-        self.command = line.field(b',')?;
-        self.member = line.field(b',')?;
-        self.reference = line.field(b',')?;
-        self.security = line.field(b',')?;
-        self.side = line.field(b',')?;
-        self.kind = line.field(b',')?;
-        self.limit = line.field(b',')?;
-        self.trigger = line.field(b',')?;
-        self.quantity = line.field(b',')?;
-        self.validity = line.field(b',')?;
-        self.restriction = line.field(b',')?;
-        self.condition = line.field(b'\n')?;
+        let last = self.format.columns().len() - 1;
+        self.texts[0] = line.field(b',')?;
+        for place in 1..last {
+            self.texts[place] = line.field(b',')?;
+        }
+        self.texts[last] = line.field(b'\n')?;
         Some(())
+    }
+
+    /// The format of the record.
+    #[inline(always)]
+    pub(crate) fn format(&self) -> OrderFormat
+        ensures { result ≡ self.now.format }
+    {
+        self.format
     }
 
     /// The field in a column.
@@ -98,19 +79,11 @@ impl<'a> Fields<'a> {
     pub(crate) fn text(&self, column: Column) -> &'a [u8]
         ensures { result.now ≡ field column (texts_of self.now) }
     {
-        match column {
-            Column::Command => self.command,
-            Column::Member => self.member,
-            Column::Reference => self.reference,
-            Column::Security => self.security,
-            Column::Side => self.side,
-            Column::Kind => self.kind,
-            Column::Limit => self.limit,
-            Column::Trigger => self.trigger,
-            Column::Quantity => self.quantity,
-            Column::Validity => self.validity,
-            Column::Restriction => self.restriction,
-            Column::Condition => self.condition,
+        let place = self.format.place(column);
+        if place < self.format.columns().len() {
+            self.texts[place]
+        } else {
+            &[]
         }
     }
 
@@ -124,9 +97,9 @@ impl<'a> Fields<'a> {
 
     /// Whether it is the header: the field of each column is the column's title.
     pub(crate) fn is_header(&self) -> bool
-        ensures { result ≡ is_header (texts_of self.now) }
+        ensures { result ≡ is_header self.now.format (record_of self.now) }
     {
-        has_titles(self, &Column::ALL)
+        has_titles(self, self.format.columns())
     }
 }
 

@@ -1,0 +1,55 @@
+//! The formats of order files: the columns of each, and its kinds of commands.
+ghost use Rattle.std.specs.Prelude.{◌≡◌};
+ghost use Rattle.xm_files.specs.Rows.{columns_of, has_word, kinds_of, column_place};
+
+use crate::columns::Column;
+use crate::entries::Word;
+
+/// The most columns that a format has.
+pub(crate) const MOST_COLUMNS: usize = 12;
+
+/// A format of order files. It says which columns a record has, in which order, and which commands records give.
+#[derive(Clone, Copy, PartialEq, Eq, Debug)]
+pub(crate) enum OrderFormat {
+    First,
+}
+
+impl OrderFormat {
+    /// The columns, in their order.
+    #[inline(always)]
+    pub(crate) fn columns(self) -> &'static [Column]
+        ensures { result.now ≡ columns_of self }
+    {
+        match self {
+            OrderFormat::First => &Column::ALL,
+        }
+    }
+
+    /// Where a column stands; the number of columns where it isn't one of them.
+    #[inline(always)]
+    pub(crate) fn place(self, column: Column) -> usize
+        ensures { result ≡ column_place (columns_of self) column }
+    {
+        match self {
+            OrderFormat::First => column.index(),
+        }
+    }
+
+    /// The kinds of commands, by their words.
+    #[inline(always)]
+    fn kinds(self) -> &'static [Word]
+        ensures { result.now ≡ kinds_of self }
+    {
+        match self {
+            OrderFormat::First => &Word::ALL,
+        }
+    }
+
+    /// Whether records give the kind of command with this word.
+    #[inline(always)]
+    pub(crate) fn has_word(self, word: Word) -> bool
+        ensures { result ≡ has_word self word }
+    {
+        self.kinds().iter().any(|other| *other == word)
+    }
+}
