@@ -7,7 +7,7 @@ use Rattle.xm_desk.specs.declared.opening.OpenFault.{OpenFault}
 use Rattle.xm_day.proofs.Days.{lacks-more}
 use Rattle.xm_day.specs.Answers.{AreRowsOf, HasTaken, OrdersEnd, RowsRun, statement_of}
 use Rattle.xm_day.specs.declared.desks.OpenDay.{OpenDay}
-use Rattle.xm_files.specs.Batches.{RowsLeft, rows_from}
+use Rattle.xm_files.specs.Batches.{RowsLeft, rows_from, text_left}
 use Rattle.xm_files.specs.FileFaults.{is_from_outside}
 use Rattle.xm_files.specs.Orders.{orders_of}
 use Rattle.xm_files.specs.declared.file_faults.FileFault.{FileFault}
@@ -56,7 +56,7 @@ run-done config names file (Err (Orders fault)) rows read has = absurd has
 
 -- what the bytes of an order file give
 pub orders-read : (names : NameLists) (config : SegmentConfig) (file : Option (List ℕ)) (read : List ℕ) (left : RowsLeft) (rows : Result (List Row) FileFault) → IfSome file (λ bytes. read ≡ bytes) → length read ≤ 16777216
-    → left ≡ record { left = read; line = 1 } → rows_from names config left [] ≡ rows → IfSome file (λ bytes. orders_of names config bytes ≡ rows)
+    → left ≡ text_left read 1 → rows_from names config left [] ≡ rows → IfSome file (λ bytes. orders_of names config bytes ≡ rows)
 orders-read names config None read left rows is short begun gives = tt
 orders-read names config (Some bytes) read left rows is short begun gives =
     let within : nat_lt 16777216 (length read) ≡ false = le-ltb 16777216 (length read) short in

@@ -8,12 +8,12 @@ use crate::report::DayReport;
 use crate::statements::statement;
 use std::alloc::Global;
 use std::io;
-use xm_files::{Batch, RowReader, SegmentNames, read_orders, read_segment};
+use xm_files::{Batch, Part, RowReader, SegmentNames, read_orders, read_segment};
 use xm_names::Storage;
 use xm_segment::SegmentConfig;
 
 /// How many rows are read before they are taken, so that they are still in a near cache.
-const BATCH: usize = 512;
+const BATCH: Part = Part::Rows(512);
 
 /// Runs the day of a segment whose file is read: reads the order file, takes its rows, and writes
 /// the statement. The checks come in this order.

@@ -15,3 +15,7 @@ mod LineRecords
 mod Progress
 pub mod PassedErrors
 mod Timetables
+mod OneRound
+mod RowKinds
+mod PartsRead
+mod CsvParts

@@ -16,7 +16,7 @@ same-by n m s text None e same = records-none n s text e ∙ sym (records-none m
 same-by n m s text (Some read) e same =
     records-more n s text read e ∙ ap (λ (more : List (List (List ℕ))). read.0 ∷ more) (same read e) ∙ sym (records-more m s text read e)
 
-same-records : (n m : ℕ) (s : State) (text : List ℕ) → ends_at_end s ≡ false → length text < n → length text < m → records_from default_config n s text ≡ records_from default_config m s text
+pub same-records : (n m : ℕ) (s : State) (text : List ℕ) → ends_at_end s ≡ false → length text < n → length text < m → records_from default_config n s text ≡ records_from default_config m s text
 same-records zero m s text between h k = absurd (omega arith)
 same-records (suc n) zero s text between h k = absurd (omega arith)
 same-records (suc n) (suc m) s text between h k =

@@ -1,14 +1,10 @@
 -- How far the rows of an order file were read.
-use Rattle.std.proofs.Common.{[], Bor, ◌++◌, nat_lt, ◌≡◌, ℕ, ◌+◌, ◌<◌, ◌≤◌, Bool, true, false, ◌==◌, if◌then◌else◌, List, ◌∷◌, length, Option, Some, Result, Ok, Err, refl, ap, arith, sym, ◌∙◌}
+use Rattle.std.proofs.Common.{◌++◌, nat_lt, ◌≡◌, ℕ, ◌+◌, ◌≤◌, true, false, ◌==◌, if◌then◌else◌, List, ◌∷◌, length, Some, Result, Ok, Err, refl, ap, arith, sym, ◌∙◌}
 use Rattle.std.proofs.lemmas.Bool.{and_left}
 use Rattle.std.proofs.lemmas.Bool.Decides.{nat_tests}
-use Rattle.std.specs.Option.{option_map_or}
-use Rattle.csv.specs.Machine.{next_record}
-use Rattle.csv.specs.Reading.{default_config, records, records_from, source_of, strip_bom, took_first, ReadRecord}
-use Rattle.csv.specs.declared.reader.Reader.{Reader}
+use Rattle.csv.specs.Reading.{default_config, records, strip_bom}
 use Rattle.xm_files.proofs.LineRecords.{fed-records, line-records, line-shorter, strip-fed}
-use Rattle.xm_files.proofs.Unread.{known, Unread, Next, read-next, none-left}
-use Rattle.xm_files.specs.Batches.{BeginsLines, rows_from}
+use Rattle.xm_files.specs.Batches.{BeginsLines}
 use Rattle.xm_files.specs.FileFaults.{fault_at, result_then}
 use Rattle.xm_files.specs.Names.{NameLists}
 use Rattle.xm_files.specs.Orders.{with_record, with_rows, rows_after}
@@ -117,69 +113,9 @@ pub lines-end : (names : NameLists) (config : SegmentConfig) (all : Result (List
 lines-end names config all left more line rows p fed =
     p.so_far ∙ ap (λ (text : List ℕ). rows_after names config line rows (records default_config text)) (sym (ap strip_bom fed ∙ strip-fed more))
 
--- these rows were read; the rest of the records, of which the first has this number, decides
-pub record Progress (names : NameLists) (config : SegmentConfig) (all : Result (List Row) FileFault) (reader : Reader (Bor (List ℕ))) (line : ℕ) (rows : List Row) : Type 0 where
-  pub left : List ℕ
-  pub rest : List (List (List ℕ))
-  pub unread : Unread reader left rest
-  pub so_far : all ≡ rows_after names config line rows rest
-  pub counted : 1 ≤ line
-  pub lines : line + length left ≤ 16777218
-
--- the end of the records
-at-end : (names : NameLists) (config : SegmentConfig) (all : Result (List Row) FileFault) (old new : Reader (Bor (List ℕ))) (line : ℕ) (rows : List Row) (f : List (List ℕ)) → Progress names config all old line rows → ReadRecord known old new false f
-    → all ≡ (if line == 1 then Err (fault_at 1 BadHeader) else Ok rows)
-at-end names config all old new line rows f p r = p.so_far ∙ ap (rows_after names config line rows) (none-left old new p.left p.rest f p.unread r)
-
-abbrev Ended : ℕ → List Row → Bool → Result (List Row) FileFault
-Ended line rows first = if first then Err (fault_at 1 BadHeader) else Ok rows
-
-pub end-first : (names : NameLists) (config : SegmentConfig) (all : Result (List Row) FileFault) (old new : Reader (Bor (List ℕ))) (line : ℕ) (rows : List Row) (f : List (List ℕ)) → Progress names config all old line rows → ReadRecord known old new false f
-    → line ≡ 1 → all ≡ Err (fault_at 1 BadHeader)
-end-first names config all old new line rows f p r first = at-end names config all old new line rows f p r ∙ ap (Ended line rows) (first-line line first)
-
-pub end-later : (names : NameLists) (config : SegmentConfig) (all : Result (List Row) FileFault) (old new : Reader (Bor (List ℕ))) (line : ℕ) (rows : List Row) (f : List (List ℕ)) → Progress names config all old line rows → ReadRecord known old new false f
-    → 2 ≤ line → all ≡ Ok rows
-end-later names config all old new line rows f p r later = at-end names config all old new line rows f p r ∙ ap (Ended line rows) (not-first line later)
-
--- a record that was read, and what its rows give
-with-next : (names : NameLists) (config : SegmentConfig) (all : Result (List Row) FileFault) (old new : Reader (Bor (List ℕ))) (line : ℕ) (rows : List Row) (f : List (List ℕ)) → (p : Progress names config all old line rows)
-    → (n : Next old new p.left p.rest f) → all ≡ result_then (with_record names config line rows f) (λ sum. rows_after names config (line + 1) sum n.more)
-with-next names config all old new line rows f p n = p.so_far ∙ ap (rows_after names config line rows) n.taken
-
-pub bad-record : (names : NameLists) (config : SegmentConfig) (all : Result (List Row) FileFault) (old new : Reader (Bor (List ℕ))) (line : ℕ) (rows : List Row) (f : List (List ℕ)) (fault : FileFault) → (p : Progress names config all old line rows)
-    → ReadRecord known old new true f → took_first new ≡ true → with_record names config line rows f ≡ Err fault → all ≡ Err fault
-bad-record names config all old new line rows f fault p r first bad =
-    with-next names config all old new line rows f p (read-next old new p.left p.rest f p.unread r first) ∙ rw bad refl
-
--- one more record
-pub progress-more : (names : NameLists) (config : SegmentConfig) (all : Result (List Row) FileFault) (old new : Reader (Bor (List ℕ))) (line : ℕ) (rows sum : List Row) (f : List (List ℕ)) → (p : Progress names config all old line rows)
-    → ReadRecord known old new true f → took_first new ≡ true → with_record names config line rows f ≡ Ok sum → Progress names config all new (line + 1) sum
-progress-more names config all old new line rows sum f p r first good =
-    let n = read-next old new p.left p.rest f p.unread r first in
-    let fewer = n.fewer in
-    let lines = p.lines in
-    let counted = p.counted in
-    record {
-      left = n.after;
-      rest = n.more;
-      unread = n.unread;
-      so_far = with-next names config all old new line rows f p n ∙ rw good refl;
-      counted = omega (arith, counted);
-      lines = omega (arith, fewer, lines);
-    }
-
-shorter-source : (old new : Option (List ℕ)) (left after : List ℕ) → old ≡ Some left → new ≡ Some after → length after < length left → option_map_or length new 0 < option_map_or length old 0
-shorter-source old new left after e d h = rw (e, d) h
-
--- what a reader has left gets shorter
-pub shorter : (names : NameLists) (config : SegmentConfig) (all : Result (List Row) FileFault) (old new : Reader (Bor (List ℕ))) (line : ℕ) (rows : List Row) (f : List (List ℕ)) → (p : Progress names config all old line rows)
-    → ReadRecord known old new true f → took_first new ≡ true → option_map_or length (source_of known new) 0 < option_map_or length (source_of known old) 0
-shorter names config all old new line rows f p r first =
-    let n = read-next old new p.left p.rest f p.unread r first in
-    shorter-source (source_of known old) (source_of known new) p.left n.after p.unread.source n.unread.source n.fewer
-
--- nothing is left of a file
-pub nothing-left : (names : NameLists) (config : SegmentConfig) (rows : List Row) → rows_from names config (record { left = []; line = 2 }) rows ≡ Ok rows
-unfolding records_from strip_bom next_record
-nothing-left names config rows = refl
+-- the record behind the line feed comes first
+pub line-next : (names : NameLists) (config : SegmentConfig) (left text more : List ℕ) (line : ℕ) (rows : List Row) (fields : List (List ℕ)) → left ≡ 10 ∷ text → ReadsLine text fields more
+    → rows_after names config line rows (records default_config (strip_bom left)) ≡ rows_after names config line rows (fields ∷ records default_config (10 ∷ more))
+line-next names config left text more line rows fields fed reads =
+    ap (λ (t : List ℕ). rows_after names config line rows (records default_config t)) (ap strip_bom fed ∙ strip-fed text)
+    ∙ ap (rows_after names config line rows) (fed-records text ∙ line-records text more fields reads)

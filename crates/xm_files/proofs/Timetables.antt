@@ -8,13 +8,13 @@ use Rattle.xm_files.specs.declared.timetable.Round.{Round}
 use Rattle.xm_segment.specs.declared.rows.Row.{Row}
 
 -- how many members' rows come first, and how many phase rows
-abbrev members_first : List Row → ℕ
+abbrev pub members_first : List Row → ℕ
 members_first rows = position_or_len (λ row. not (is_of_member row)) rows
 
-abbrev phases_first : List Row → ℕ
+abbrev pub phases_first : List Row → ℕ
 phases_first rows = position_or_len is_of_member rows
 
-abbrev round_at : ℕ → ℕ → ℕ → Round
+abbrev pub round_at : ℕ → ℕ → ℕ → Round
 round_at at members phases = record { first = at; phase = at + members; end = at + members + phases }
 
 -- a member's row before rounds
@@ -32,17 +32,17 @@ joined-phase at members phases rounds more e none =
     ap (with_phase at) e ∙ rw test (ap (λ (k : ℕ). record { first = at; phase = k; end = at + 1 + members + phases } ∷ more) begins ∙ ap (λ (k : ℕ). record { first = at; phase = at + 0; end = k } ∷ more) ends)
 
 -- and of which the first has one
-apart : (at members phases : ℕ) (rounds more : List Round) → rounds ≡ round_at (at + 1) members phases ∷ more → 0 < members → with_phase at rounds ≡ round_at at 0 1 ∷ rounds
+pub apart : (at members phases : ℕ) (rounds more : List Round) → rounds ≡ round_at (at + 1) members phases ∷ more → 0 < members → with_phase at rounds ≡ round_at at 0 1 ∷ rounds
 apart at members phases rounds more e some =
     let test : nat_lt (at + 1) (at + 1 + members) ≡ true = grind (arith, nat_tests, some) in
     let begins : at ≡ at + 0 = omega arith in
     rw e (rw test (ap (λ (k : ℕ). record { first = at; phase = k; end = k + 1 } ∷ round_at (at + 1) members phases ∷ more) begins))
 
 -- the first round of rows has so many rows of members and of phases
-abbrev BeginsWith : ℕ → List Row → ℕ → ℕ → Type 0
+abbrev pub BeginsWith : ℕ → List Row → ℕ → ℕ → Type 0
 BeginsWith at rows members phases = rounds_from at rows ≡ round_at at members phases ∷ rounds_from (at + members + phases) (drop (members + phases) rows)
 
-abbrev Begins : ℕ → List Row → Type 0
+abbrev pub Begins : ℕ → List Row → Type 0
 Begins at rows = BeginsWith at rows (members_first rows) (phases_first (drop (members_first rows) rows))
 
 to-begins : (at : ℕ) (rows : List Row) (members phases : ℕ) → members_first rows ≡ members → phases_first (drop members rows) ≡ phases → BeginsWith at rows members phases → Begins at rows
@@ -50,7 +50,7 @@ to-begins at rows members phases e f h =
     let g : phases_first (drop (members_first rows) rows) ≡ phases = ap (λ (k : ℕ). phases_first (drop k rows)) e ∙ f in
     subst (λ (k : ℕ). BeginsWith at rows k (phases_first (drop (members_first rows) rows))) (sym e) (subst (λ (k : ℕ). BeginsWith at rows members k) (sym g) h)
 
-members-of-member : (row : Row) (rows : List Row) → is_of_member row ≡ true → members_first (row ∷ rows) ≡ 1 + members_first rows
+pub members-of-member : (row : Row) (rows : List Row) → is_of_member row ≡ true → members_first (row ∷ rows) ≡ 1 + members_first rows
 members-of-member row rows of = rw of refl
 
 members-of-phase : (row : Row) (rows : List Row) → is_of_member row ≡ false → members_first (row ∷ rows) ≡ 0
@@ -62,10 +62,10 @@ phases-of-member row rows of = rw of refl
 phases-of-phase : (row : Row) (rows : List Row) → is_of_member row ≡ false → phases_first (row ∷ rows) ≡ 1 + phases_first rows
 phases-of-phase row rows of = rw of refl
 
-rounds-of-member : (at : ℕ) (row : Row) (rows : List Row) → is_of_member row ≡ true → rounds_from at (row ∷ rows) ≡ with_member at (rounds_from (at + 1) rows)
+pub rounds-of-member : (at : ℕ) (row : Row) (rows : List Row) → is_of_member row ≡ true → rounds_from at (row ∷ rows) ≡ with_member at (rounds_from (at + 1) rows)
 rounds-of-member at row rows of = rw of refl
 
-rounds-of-phase : (at : ℕ) (row : Row) (rows : List Row) → is_of_member row ≡ false → rounds_from at (row ∷ rows) ≡ with_phase at (rounds_from (at + 1) rows)
+pub rounds-of-phase : (at : ℕ) (row : Row) (rows : List Row) → is_of_member row ≡ false → rounds_from at (row ∷ rows) ≡ with_phase at (rounds_from (at + 1) rows)
 rounds-of-phase at row rows of = rw of refl
 
 drop-next : (n k : ℕ) (row : Row) (rows : List Row) → n ≡ suc k → drop n (row ∷ rows) ≡ drop k rows
@@ -124,7 +124,7 @@ either at row rows true of later = after-member at row rows of later
 either at row rows false of later = after-phase at row rows of later
 
 -- the first round has the members' rows that come first and the phase rows after them
-first-round : (at : ℕ) (rows : List Row) → 0 < length rows → Begins at rows
+pub first-round : (at : ℕ) (rows : List Row) → 0 < length rows → Begins at rows
 first-round at [] some = absurd (omega arith)
 first-round at (row ∷ rows) some = either at row rows (is_of_member row) refl (first-round (at + 1) rows)
 

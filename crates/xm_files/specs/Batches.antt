@@ -24,14 +24,18 @@ rows_after_batch (Batch rows earlier) = earlier.value ++ rows.value.items
 unfoldable pub earlier_rows : Earlier → List Row
 earlier_rows earlier = fold-Earlier (List Row) rows_after_batch earlier
 
--- what isn't read yet of an order file, and the number of its first record, the header being 1
+-- what isn't read yet of an order file: its records, and the number of the first, the header being 1
 pub record RowsLeft : Type 0 where
-  pub left : List ℕ
+  pub records : List (List (List ℕ))
   pub line : ℕ
+
+-- a text of which nothing is read yet, and the number of its first record
+abbrev pub text_left : List ℕ → ℕ → RowsLeft
+text_left text line = record { records = records default_config (strip_bom text); line = line }
 
 -- what an order file gives of which these rows were read
 abbrev pub rows_from : NameLists → SegmentConfig → RowsLeft → List Row → Result (List Row) FileFault
-rows_from names config file rows = rows_after names config file.line rows (records default_config (strip_bom file.left))
+rows_from names config file rows = rows_after names config file.line rows file.records
 
 -- records are read on from a place in a line as from the text that it begins, of which the first record has a number
 pub record BeginsLines (text : List ℕ) (first : ℕ) (more : List ℕ) (line : ℕ) : Type 0 where

@@ -4,8 +4,10 @@ pub mod FileFaults
 pub mod Hints
 pub mod Names
 pub mod Orders
+pub mod Parts
 pub mod Plain
 pub mod Rows
 pub mod Segment
 pub mod Steps
 pub mod Timetable
+pub mod Unread

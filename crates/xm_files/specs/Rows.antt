@@ -1,5 +1,5 @@
 -- The rows of one record of an order file.
-use Rattle.std.specs.Prelude.{ℕ, Bool, ◌&&◌, ◌||◌, if◌then◌else◌, nat_le, ◌==◌, List, [], ◌∷◌, length, map, Option, Some, None, option_map, get_or, slice_get, take, Result, Ok, Err, codes}
+use Rattle.std.specs.Prelude.{ℕ, Bool, true, false, ◌&&◌, ◌||◌, if◌then◌else◌, nat_le, ◌==◌, List, [], ◌∷◌, length, map, Option, Some, None, option_map, get_or, slice_get, take, Result, Ok, Err, codes}
 use Rattle.std.specs.List.{list_all, list_any, position_or_len, range_with_len}
 use Rattle.std.specs.Option.{option_map_or}
 use Rattle.std.specs.Str.{bytes_eq}
@@ -280,6 +280,22 @@ entry_with (Some word.Intraday) names securities fields = phase_entry command.St
 entry_with (Some word.Close) names securities fields = phase_entry command.StartClosing names fields
 entry_with (Some word.Uncross) names securities fields = phase_entry command.Uncross names fields
 entry_with (Some word.End) names securities fields = phase_entry command.EndDay names fields
+
+-- the command word of a record of a format
+abbrev pub command_in : OrderFormat → List (List ℕ) → List ℕ
+command_in format fields = field column.Command (by_column (columns_of format) fields)
+
+-- a member gives the command with this word, and not a phase
+abbrev pub is_members_word : Word → Bool
+is_members_word word.Enter = true
+is_members_word word.Change = true
+is_members_word word.Cancel = true
+is_members_word word.CancelAll = true
+is_members_word _ = false
+
+-- a text is such a word
+abbrev pub names_members_command : List ℕ → Bool
+names_members_command text = option_map_or is_members_word (word_of text) false
 
 -- records of a format give the kind of command with this word
 abbrev pub has_word : OrderFormat → Word → Bool

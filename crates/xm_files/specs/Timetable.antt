@@ -1,6 +1,6 @@
 -- The rounds of a day's rows, and the share that a worker has in a round.
-use Rattle.std.specs.Prelude.{ℕ, ◌+◌, ◌%◌, ◌==◌, Bool, false, if◌then◌else◌, nat_lt, List, [], ◌∷◌, is_some}
-use Rattle.std.specs.List.{filter}
+use Rattle.std.specs.Prelude.{ℕ, ◌+◌, ◌-◌, ◌%◌, ◌==◌, Bool, true, false, not, ◌&&◌, if◌then◌else◌, nat_lt, List, [], ◌∷◌, length, is_some, slice_get}
+use Rattle.std.specs.List.{filter, list_all}
 use Rattle.std.specs.Option.{option_map_or}
 use Rattle.xm_rules.specs.Commands.{member_of}
 use Rattle.xm_files.specs.declared.timetable.Round.{Round}
@@ -30,6 +30,20 @@ rounds_from at (row ∷ rows) = if is_of_member row then with_member at (rounds_
 -- a round is a longest run of members' rows, and the phase rows after it; the rounds cover the rows in order
 abbrev pub rounds_of : List Row → List Round
 rounds_of rows = rounds_from 0 rows
+
+-- the last row is one of the phases
+abbrev pub ends_with_phase : List Row → Bool
+ends_with_phase rows = option_map_or (λ row. not (is_of_member row)) (slice_get rows (length rows - 1)) false
+
+-- rows of one round: members' rows, and then phase rows alone
+abbrev pub is_one_round : List Row → Bool
+is_one_round [] = true
+is_one_round (row ∷ rows) = if is_of_member row then is_one_round rows else list_all (λ other. not (is_of_member other)) rows
+
+-- a round ends between rows and those after them: there are none after them, or a member's row follows a phase row
+abbrev pub ends_round : List Row → List Row → Bool
+ends_round rows [] = true
+ends_round rows (next ∷ more) = ends_with_phase rows && is_of_member next
 
 -- a worker works the rows of the members whose index leaves its number, divided by the number of workers
 abbrev pub is_worked_by : ℕ → ℕ → Row → Bool

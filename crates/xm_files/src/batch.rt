@@ -1,8 +1,10 @@
 //! The rows of an order file, a batch at a time.
 ghost use Rattle.std.specs.Prelude.{◌≡◌, ◌+◌, ◌<◌, ◌≤◌, ◌∷◌, ◌++◌, [], OnOk, length};
 ghost use Rattle.xm_files.specs.Batches.{rows_so_far};
+ghost use Rattle.xm_files.specs.Timetable.{ends_with_phase};
 
 use crate::orders::MAX_ROWS;
+use crate::timetable::is_of_member;
 use std::alloc::Global;
 use std::marker::Model;
 use std::mem;
@@ -73,6 +75,14 @@ impl Batch {
         ensures few { result ≤ MAX_ROWS }
     {
         self.count + self.rows.len()
+    }
+
+    /// Whether the last row of the batch is one of the phases.
+    pub(crate) fn ends_with_phase(&self) -> bool
+        ensures { result ≡ ends_with_phase self.now.rows }
+    {
+        let count = self.rows.len();
+        count > 0 && !is_of_member(&self.rows[count - 1])
     }
 
     /// Begins another batch. The room of this one stays.

@@ -1,7 +1,7 @@
 //! What one record of the order file says.
 ghost use Rattle.std.specs.Prelude.{◌≡◌};
 ghost use Rattle.xm_files.specs.declared.columns.Column.TheVariants as column;
-ghost use Rattle.xm_files.specs.Rows.{cancel_all_entry, cancel_entry, change_command, change_entry, enter_entry, record_entry, field, given_limit, limit_in, market_in, name_index, kind_in_record, order_command, phase_entry, stop_limit_in, stop_market_in, texts_of, tick_of, word_of};
+ghost use Rattle.xm_files.specs.Rows.{cancel_all_entry, cancel_entry, change_command, change_entry, enter_entry, record_entry, field, given_limit, limit_in, market_in, name_index, names_members_command, kind_in_record, order_command, phase_entry, stop_limit_in, stop_market_in, texts_of, tick_of, word_of};
 
 use crate::columns::Column;
 use crate::fields::{condition, is_word, price, restriction, side, validity, whole};
@@ -45,6 +45,16 @@ impl Word {
         Word::Uncross,
         Word::End,
     ];
+}
+
+/// Whether a text is the word of a command that a member gives.
+pub(crate) fn names_members_command(text: &[u8]) -> bool
+    ensures { result ≡ names_members_command text.now }
+{
+    match parse_word(text) {
+        Some(Word::Enter | Word::Change | Word::Cancel | Word::CancelAll) => true,
+        _ => false,
+    }
 }
 
 /// What a record says, if each of its fields is lawful.

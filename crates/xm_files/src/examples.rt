@@ -2,9 +2,9 @@
 ghost use Rattle.std.specs.Prelude.{◌≡◌, codes, map, [], ◌∷◌, Some, None, Ok, Err, true, false};
 ghost use Rattle.xm_files.specs.Examples.{change_record, entered_row, every_title, order_record, phase_record, record_names, record_settings, round_rows, row_of};
 ghost use Rattle.xm_files.specs.Orders.{with_record};
-ghost use Rattle.xm_files.specs.Rows.{by_column, columns_of, condition_of, field, is_header, kind_in, name_index, restriction_of, rows_of_record, side_named, title_of, validity_of, whole_of};
+ghost use Rattle.xm_files.specs.Rows.{by_column, columns_of, condition_of, field, is_header, kind_in, name_index, names_members_command, restriction_of, rows_of_record, side_named, title_of, validity_of, whole_of};
 ghost use Rattle.xm_files.specs.Segment.{are_distinct, is_name};
-ghost use Rattle.xm_files.specs.Timetable.{rounds_of, share_of};
+ghost use Rattle.xm_files.specs.Timetable.{ends_round, is_one_round, rounds_of, share_of};
 ghost use Rattle.xm_files.specs.declared.file_faults.FileCause.TheVariants.{BadField, BadHeader, Syntax};
 ghost use Rattle.xm_files.specs.declared.columns.Column.TheVariants as column;
 ghost use Rattle.xm_files.specs.declared.entries.Word.TheVariants as word;
@@ -128,4 +128,22 @@ pub fn rounds_and_shares()
     ensures rounds { rounds_of round_rows ≡ record { first = 0; phase = 0; end = 1 } ∷ record { first = 1; phase = 3; end = 5 } ∷ record { first = 5; phase = 6; end = 6 } ∷ [] }
     ensures even { share_of 0 2 round_rows ≡ row_of 1 (Cancel 2 1) ∷ [] }
     ensures odd { share_of 1 2 round_rows ≡ row_of 0 (Cancel 1 1) ∷ row_of 0 (CancelAll 1) ∷ [] }
+{}
+
+/// Which rows make one round, and where a round ends: between a phase row and a member's row, or at the last row.
+pub fn ends_of_rounds()
+    ensures one { is_one_round (row_of 0 (Cancel 1 1) ∷ row_of 0 Uncross ∷ row_of 0 StartClosing ∷ []) ≡ true }
+    ensures phases { is_one_round (row_of 0 Uncross ∷ row_of 0 StartClosing ∷ []) ≡ true }
+    ensures more { is_one_round round_rows ≡ false }
+    ensures phase_before_member { ends_round (row_of 0 (Cancel 1 1) ∷ row_of 0 Uncross ∷ []) (row_of 0 (CancelAll 1) ∷ []) ≡ true }
+    ensures phase_before_phase { ends_round (row_of 0 (Cancel 1 1) ∷ row_of 0 Uncross ∷ []) (row_of 0 StartClosing ∷ []) ≡ false }
+    ensures member_before_member { ends_round (row_of 0 (Cancel 1 1) ∷ []) (row_of 0 (CancelAll 1) ∷ []) ≡ false }
+    ensures last { ends_round (row_of 0 (Cancel 1 1) ∷ []) [] ≡ true }
+{}
+
+/// The words of commands that members give.
+pub fn words_of_members()
+    ensures members { map names_members_command (codes "enter" ∷ codes "change" ∷ codes "cancel" ∷ codes "cancel-all" ∷ []) ≡ true ∷ true ∷ true ∷ true ∷ [] }
+    ensures phases { map names_members_command (codes "open" ∷ codes "intraday" ∷ codes "close" ∷ codes "uncross" ∷ codes "end" ∷ []) ≡ false ∷ false ∷ false ∷ false ∷ false ∷ [] }
+    ensures none { map names_members_command (codes "" ∷ codes "Enter" ∷ codes "quote" ∷ []) ≡ false ∷ false ∷ false ∷ [] }
 {}

@@ -98,10 +98,3 @@ pub(crate) fn parse_cause(error: &toml::de::Error) -> FileCause
         FileCause::Syntax
     }
 }
-
-/// Why CSV doesn't read a text on, whose records may have any length: memory was wanting.
-pub(crate) fn csv_fault(error: &csv::Error) -> FileFault
-    ensures { result ≡ record { line = 0; cause = FileCause.OutOfMemory tt } }
-{
-    FileFault::from(OutOfMemory::told_by(error))
-}

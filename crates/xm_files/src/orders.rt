@@ -1,25 +1,30 @@
 //! The order file.
-ghost use Rattle.std.specs.Prelude.{◌≡◌, ◌≢◌, ◌+◌, ◌<◌, ◌≤◌, ◌∷◌, ◌++◌, List, [], length, map, true, false, OnOk, OnErr, IfOk, IfErr, IfSome, Ok, Err, if◌then◌else◌};
+ghost use Rattle.std.specs.Prelude.{◌≡◌, ◌≢◌, ◌==◌, ◌+◌, ◌<◌, ◌≤◌, ◌∷◌, ◌++◌, List, [], length, map, true, false, OnOk, OnErr, IfOk, IfErr, IfSome, Ok, Err, if◌then◌else◌};
 ghost use Rattle.std.specs.Bool.{OnTrue, OnFalse};
 ghost use Rattle.std.specs.List.{list_all, range_with_len};
 ghost use Rattle.csv.specs.Reading.{default_config, records, strip_bom};
 ghost use Rattle.csv.specs.Records.{fields_of};
-ghost use Rattle.xm_files.specs.Batches.{BeginsLines, rows_from, rows_so_far};
+ghost use Rattle.xm_files.specs.Batches.{BeginsLines, rows_from, rows_so_far, text_left};
 ghost use Rattle.xm_files.specs.FileFaults.{is_from_outside};
 ghost use Rattle.xm_files.specs.Names.{NameLists};
 ghost use Rattle.xm_files.specs.Orders.{orders_of, rows_after, rows_of_records, with_record, with_rows};
+ghost use Rattle.xm_files.specs.Parts.{IsFull, IsRound, ends_before, is_so_far};
 ghost use Rattle.xm_files.specs.Plain.{IsBehind, IsBehindHeader, rest_of};
-ghost use Rattle.xm_files.specs.Rows.{is_header, record_of, rows_of_entry, rows_of_record};
+ghost use Rattle.xm_files.specs.Rows.{columns_of, command_in, is_header, record_of, rows_of_entry, rows_of_record};
+ghost use Rattle.xm_files.specs.Unread.{csv_left};
+ghost use Rattle.xm_files.specs.declared.order_format.OrderFormat.TheVariants.{First};
 
 use crate::batch::Batch;
 use crate::bytes::{MAX_BYTES, read_whole};
+use crate::csv_records::CsvRecords;
 use crate::entries::{RecordEntry, parse_entry};
-use crate::file_faults::{FileCause, FileFault, csv_fault};
+use crate::file_faults::{FileCause, FileFault};
 use crate::marks::Marks;
 use crate::names::SegmentNames;
 use crate::order_format::OrderFormat;
+use crate::part::Part;
 use crate::records::Fields;
-use csv::{ByteRecord, ReaderBuilder};
+use csv::ByteRecord;
 use std::alloc::Global;
 use std::io::Read;
 use std::marker::Model;
@@ -55,7 +60,8 @@ pub fn read_rows<R: Read>(
 {
     let bytes = read_orders(alloc, reader)?;
     let mut batch = Batch::new(alloc);
-    RowReader::of(bytes.as_slice()).read(alloc, &mut batch, MAX_ROWS + 1, names, config)?;
+    let part = Part::Rows(MAX_ROWS + 1);
+    RowReader::of(bytes.as_slice()).read(alloc, &mut batch, part, names, config)?;
     Ok(batch.into_rows())
 }
 
@@ -70,26 +76,39 @@ pub fn read_orders<R: Read>(alloc: Global, reader: &mut R) -> Result<Vec<u8>, Fi
 }
 
 /// What isn't read yet of an order file.
-#[derive(Drop)]
 pub struct RowReader<'a> {
     // The whole text at first, and then what comes from the line feed before the next record on.
     left: &'a [u8],
     // The number of the next record, the header being 1.
     line: u32,
+    // From the first record on that is no line without quotes: what CSV reads, in place of the two.
+    csv: Option<CsvRecords<'a>>,
+}
+
+impl Drop for RowReader<'_> {
+    fn drop(self) {
+        let RowReader {
+            left: _left,
+            line: _line,
+            csv: _csv,
+        } = self;
+    }
 }
 
 impl<'a> Model for RowReader<'a> {
     ghost use Rattle.std.specs.Prelude.{◌≡◌, ◌+◌, ◌≤◌, length};
-    ghost use Rattle.xm_files.specs.Batches.{RowsLeft};
+    ghost use Rattle.xm_files.specs.Batches.{RowsLeft, text_left};
+    ghost use Rattle.xm_files.specs.Unread.{left_of_either};
 
     ghost Value = { RowsLeft };
 
-    ghost view = { λ r. record { left = r.left.now; line = r.line } };
+    ghost view = { λ r. left_of_either r.csv (text_left r.left.now r.line) };
 
     ghost invariant = { λ r. record {
       begun : 1 ≤ r.line;
       whole : r.line ≡ 1 → length r.left.now ≤ 16777216;
       short : r.line + length r.left.now ≤ 16777218;
+      within : (left_of_either r.csv (text_left r.left.now r.line)).line ≤ 16777218;
     } };
 }
 
@@ -97,21 +116,23 @@ impl<'a> RowReader<'a> {
     /// An order file of which nothing is read yet.
     pub fn of(text: &'a [u8]) -> RowReader<'a>
         requires { length text.now ≤ MAX_BYTES }
-        ensures { result ≡ record { left = text.now; line = 1 } }
+        ensures { result ≡ text_left text.now 1 }
     {
         RowReader {
             left: text,
             line: 1,
+            csv: None,
         }
     }
 
-    /// Reads on until a batch has this many rows or the file ends, and answers whether there may be more. Lines without
-    /// quotes are taken apart in place; from the first record on that isn't such a line, CSV reads the rest of the file.
+    /// Reads a part on: until a batch has so many rows, or the rows of a round, or the file ends. Answers whether there may
+    /// be more. Lines without quotes are taken apart in place; from the first record on that isn't such a line, CSV reads
+    /// the file.
     pub fn read(
         &mut self,
         alloc: Global,
         batch: &mut Batch,
-        most: usize,
+        part: Part,
         names: &SegmentNames,
         config: &SegmentConfig,
     ) -> Result<bool, FileFault>
@@ -119,85 +140,122 @@ impl<'a> RowReader<'a> {
         ensures ended { result ≡ Ok false → rows_from names.now config.now self.new (rows_so_far batch.new) ≡ Ok (rows_so_far batch.new) }
         ensures earlier { OnOk result (batch.new.earlier ≡ rows_so_far batch.old) }
         ensures few { OnOk result (length (rows_so_far batch.new) ≤ MAX_ROWS) }
-        ensures full { result ≡ Ok true → most ≤ length batch.new.rows }
+        ensures full { result ≡ Ok true → IsFull part batch.new.rows }
+        ensures round { part ≡ Part.Round → OnOk result (IsRound names.now config.now self.new batch.new) }
         ensures further { result ≡ Ok true → self.old.line < self.new.line }
         ensures bounded { self.new.line ≤ 16777218 }
         ensures err { IfErr result (λ fault. fault.cause ≢ FileCause.OutOfMemory tt → rows_from names.now config.now self.old (rows_so_far batch.old) ≡ Err fault) }
         ensures memory { IfErr result (λ fault. OnTrue (is_from_outside fault.cause) (fault.line ≡ 0)) }
     {
         batch.begin();
-        let (left, line, full) = add_lines(batch, self.left, self.line, most, names, config)?;
+        if let Some(csv) = &mut self.csv {
+            let more = add_records(batch, csv, part, names, config)?;
+            let _ = batch.total(); // What every batch keeps is known of one whose rows are counted.
+            return Ok(more);
+        }
+        let (left, line, full) = add_lines(batch, self.left, self.line, part, names, config)?;
         if full {
             self.left = left;
             self.line = line;
             let _ = batch.total(); // What every batch keeps is known of one whose rows are counted.
             return Ok(true);
         }
-        add_records(alloc, batch, left, line, names, config)?;
-        self.left = &[];
-        self.line = 2;
+        let mut csv = CsvRecords::of(alloc, left, line);
+        let more = add_records(batch, &mut csv, part, names, config)?;
+        self.csv = Some(csv);
         let _ = batch.total(); // What every batch keeps is known of one whose rows are counted.
+        Ok(more)
+    }
+}
+
+/// Adds the rows of the records that CSV reads, up to the end of a part that a batch begins or goes on. Answers whether there
+/// may be more.
+fn add_records(
+    batch: &mut Batch,
+    csv: &mut CsvRecords,
+    part: Part,
+    names: &SegmentNames,
+    config: &SegmentConfig,
+) -> Result<bool, FileFault>
+    requires begun { is_so_far part batch.old.rows ≡ true }
+    requires header { 0 < length batch.old.rows → 2 ≤ csv.old.line }
+    ensures read { OnOk result (rows_from names.now config.now (csv_left csv.old) (rows_so_far batch.old) ≡ rows_from names.now config.now (csv_left csv.new) (rows_so_far batch.new)) }
+    ensures ended { result ≡ Ok false → rows_from names.now config.now (csv_left csv.new) (rows_so_far batch.new) ≡ Ok (rows_so_far batch.new) }
+    ensures earlier { OnOk result (batch.new.earlier ≡ batch.old.earlier) }
+    ensures full { result ≡ Ok true → IsFull part batch.new.rows }
+    ensures round { part ≡ Part.Round → OnOk result (IsRound names.now config.now (csv_left csv.new) batch.new) }
+    ensures onward { csv.old.line ≤ csv.new.line }
+    ensures further { result ≡ Ok true → length batch.old.rows ≡ 0 → csv.old.line < csv.new.line }
+    ensures within { csv.new.line ≤ 16777218 }
+    ensures err { IfErr result (λ fault. fault.cause ≢ FileCause.OutOfMemory tt → rows_from names.now config.now (csv_left csv.old) (rows_so_far batch.old) ≡ Err fault) }
+    ensures memory { IfErr result (λ fault. OnTrue (is_from_outside fault.cause) (fault.line ≡ 0)) }
+{
+    'records: loop {
+        match csv.look_ahead() {
+            Ok(true) => {}
+            Ok(false) => return end_of(csv.line()),
+            Err(wanting) => return Err(FileFault::from(wanting)),
+        }
+        if ends_before(part, batch, csv.row()) {
+            return Ok(true);
+        }
+        match add_fields(batch, csv.line(), csv.row(), names, config) {
+            Ok(()) => {}
+            Err(fault) => return Err(fault),
+        }
+        csv.take();
+        if part.is_whole_part(batch.len()) {
+            return Ok(true);
+        }
+    }
+}
+
+/// The answer where no record has this number: without any the file lacks the header.
+fn end_of(line: u32) -> Result<bool, FileFault>
+    ensures ok { OnOk result (line ≢ 1) }
+    ensures ended { result ≢ Ok true }
+    ensures err { IfErr result (λ fault. (line ≡ 1) × (fault ≡ record { line = 1; cause = FileCause.BadHeader })) }
+{
+    if line == 1 {
+        Err(fault_at(1, FileCause::BadHeader))
+    } else {
         Ok(false)
     }
 }
 
-/// Adds the rows of the records of a text, of which the first has this number.
-fn add_records(
-    alloc: Global,
-    batch: &mut Batch,
-    text: &[u8],
-    first: u32,
-    names: &SegmentNames,
-    config: &SegmentConfig,
-) -> Result<(), FileFault>
-    requires begun { 1 ≤ first }
-    requires short { first + length text.now ≤ 16777218 }
-    ensures ok { OnOk result (rows_after names.now config.now first (rows_so_far batch.old) (records default_config (strip_bom text.now)) ≡ Ok (rows_so_far batch.new)) }
-    ensures earlier { OnOk result (batch.new.earlier ≡ batch.old.earlier) }
-    ensures err { IfErr result (λ fault. fault.cause ≢ FileCause.OutOfMemory tt → rows_after names.now config.now first (rows_so_far batch.old) (records default_config (strip_bom text.now)) ≡ Err fault) }
-    ensures memory { IfErr result (λ fault. OnTrue (is_from_outside fault.cause) (fault.line ≡ 0)) }
+/// Whether a part whose rows are those of a batch ends before a record that CSV read.
+fn ends_before(part: Part, batch: &Batch, row: &ByteRecord) -> bool
+    ensures { result ≡ (if length (fields_of row.now) == length (columns_of First) then ends_before part batch.now.rows (command_in First (fields_of row.now)) else false) }
 {
-    let mut reader = ReaderBuilder::new()
-        .has_headers(false)
-        .flexible(true)
-        .from_reader(alloc, text);
-    let mut row = ByteRecord::new(alloc);
-    let mut line = first;
-    'records: loop {
-        match reader.read_byte_record(&mut row) {
-            Ok(true) => {}
-            Ok(false) => {
-                if line == 1 {
-                    return Err(fault_at(1, FileCause::BadHeader));
-                }
-                return Ok(());
-            }
-            Err(error) => return Err(csv_fault(&error)),
-        }
-        add_fields(batch, line, &row, names, config)?;
-        line += 1;
+    match Fields::of(OrderFormat::First, row) {
+        Some(fields) => part.ends_before(batch, &fields),
+        None => false,
     }
 }
 
-/// Adds the rows of the lines that a text begins with, of which the first has this number, until there are as many as
-/// asked for, and as long as none has a quote or a carriage return, and each has as many fields as columns. Gives what is
-/// left of the text, the number of its first record, and whether there are as many rows.
+/// Adds the rows of the lines that a text begins with, of which the first has this number, up to the end of a part that a
+/// batch begins, and as long as none has a quote or a carriage return, and each has as many fields as columns. Gives what is
+/// left of the text, the number of its first record, and whether the part is at its end.
 fn add_lines<'a>(
     batch: &mut Batch,
     text: &'a [u8],
     first: u32,
-    most: usize,
+    part: Part,
     names: &SegmentNames,
     config: &SegmentConfig,
 ) -> Result<(&'a [u8], u32, bool), FileFault>
     requires begun { 1 ≤ first }
     requires whole { first ≡ 1 → length text.now ≤ MAX_BYTES }
     requires short { first + length text.now ≤ 16777218 }
-    ensures ok { IfOk result (λ p. rows_after names.now config.now first (rows_so_far batch.old) (records default_config (strip_bom text.now)) ≡ rows_after names.now config.now p.1 (rows_so_far batch.new) (records default_config (strip_bom p.0.now))) }
+    requires empty { batch.old.rows ≡ [] }
+    ensures ok { IfOk result (λ p. rows_from names.now config.now (text_left text.now first) (rows_so_far batch.old) ≡ rows_from names.now config.now (text_left p.0.now p.1) (rows_so_far batch.new)) }
     ensures earlier { OnOk result (batch.new.earlier ≡ batch.old.earlier) }
-    ensures lines { IfOk result (λ p. (1 ≤ p.1) × (p.1 + length p.0.now ≤ 16777218)) }
-    ensures full { IfOk result (λ p. p.2 ≡ true → (most ≤ length batch.new.rows) × (first < p.1)) }
-    ensures err { IfErr result (λ fault. fault.cause ≢ FileCause.OutOfMemory tt → rows_after names.now config.now first (rows_so_far batch.old) (records default_config (strip_bom text.now)) ≡ Err fault) }
+    ensures lines { IfOk result (λ p. (first ≤ p.1) × (p.1 + length p.0.now ≤ 16777218)) }
+    ensures begun { OnOk result (is_so_far part batch.new.rows ≡ true) }
+    ensures further { IfOk result (λ p. 0 < length batch.new.rows → first < p.1) }
+    ensures full { IfOk result (λ p. p.2 ≡ true → IsFull part batch.new.rows × (first < p.1)) }
+    ensures round { part ≡ Part.Round → IfOk result (λ p. p.2 ≡ true → IsRound names.now config.now (text_left p.0.now p.1) batch.new) }
+    ensures err { IfErr result (λ fault. fault.cause ≢ FileCause.OutOfMemory tt → rows_from names.now config.now (text_left text.now first) (rows_so_far batch.old) ≡ Err fault) }
     ensures memory { IfErr result (λ fault. OnTrue (is_from_outside fault.cause) (fault.line ≡ 0)) }
 {
     let Some((mut marks, mut line)) = begin_lines(text, first) else {
@@ -209,12 +267,15 @@ fn add_lines<'a>(
         let Some(()) = fields.read_line(&mut marks) else {
             return Ok((left, line, false));
         };
+        if part.ends_before(batch, &fields) {
+            return Ok((left, line, true));
+        }
         match add_record(batch, line, &fields, names, config) {
             Ok(()) => {}
             Err(fault) => return Err(fault),
         }
         line += 1;
-        if batch.len() >= most {
+        if part.is_whole_part(batch.len()) {
             return Ok((marks.left(), line, true));
         }
     }

@@ -60,7 +60,7 @@ fn first_member(rows: &[Row]) -> usize
 }
 
 /// Whether a member gives the row's command.
-fn is_of_member(row: &Row) -> bool
+pub(crate) fn is_of_member(row: &Row) -> bool
     ensures { result ≡ is_of_member row.now }
 {
     row.command.member().is_some()

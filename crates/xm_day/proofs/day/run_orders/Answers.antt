@@ -1,8 +1,9 @@
-use Rattle.std.proofs.Common.{◌∙◌, List, Result, Err, length, ap, sym, subst, arith}
+use Rattle.std.proofs.Common.{◌∙◌, ℕ, List, Result, Err, length, ap, sym, subst, arith}
 use Rattle.std.specs.Io.KnownBytes.{Appends}
 use Rattle.xm_rules.specs.Step.{Journal}
 use Rattle.xm_ticks.specs.Writing.{AppendsPrefix}
 use Rattle.xm_day.proofs.Endings.{OrdersEnd-of_writing, orders-read, some-security}
+use Rattle.xm_files.specs.Batches.{text_left}
 use Rattle.xm_files.proofs.PassedErrors.{is_passed}
 use Rattle.xm_day.specs.Answers.{OrdersEnd, RowsRun, statement_of}
 use Rattle.xm_day.specs.Day.{Day, day_of}
@@ -31,7 +32,7 @@ returns-clause-ends g c =
     let taken = ap (λ (js : List Journal). day_of js report.accepted report.refused) c.as_slice-2.ensures.value ∙ ran.2.2 in
     let WritesOf : Day → Type 0 = λ d. Appends (g.W.Write.contents c.args.out.now) (g.W.Write.contents c.statement.new.out) (statement_of names d) in (
       ran.0,
-      orders-read names config _ c.in-Ok.bytes.items c.of-file.result _ c.in-Ok.ensures.bytes c.in-Ok.ensures.short (c.of-file.ensures ∙ ap (λ left. record { left = left; line = 1 }) c.as_slice.ensures.value) ran.1,
+      orders-read names config _ c.in-Ok.bytes.items c.of-file.result _ c.in-Ok.ensures.bytes c.in-Ok.ensures.short (c.of-file.ensures ∙ ap (λ (text : List ℕ). text_left text 1) c.as_slice.ensures.value) ran.1,
       (
         ran.2.0,
         record {
@@ -54,5 +55,5 @@ returns-in_err-statement-clause-ends g c =
     let Ends : Result DayReport DayFault → Type 0 = λ r. OrdersEnd config names (g.R.Read.remaining c.args.orders.now) (g.W.Write.contents c.args.out.now) (g.W.Write.contents c.statement.new.out) r in
     subst Ends (sym (is_passed c.from_residual-in_err-statement.result fault c.from_residual-in_err-statement.ensures.1))
     (OrdersEnd-of_writing config names ran.0 _ _ _ fault
-    (orders-read names config _ c.in-Ok.bytes.items c.of-file.result _ c.in-Ok.ensures.bytes c.in-Ok.ensures.short (c.of-file.ensures ∙ ap (λ left. record { left = left; line = 1 }) c.as_slice.ensures.value) ran.1)
+    (orders-read names config _ c.in-Ok.bytes.items c.of-file.result _ c.in-Ok.ensures.bytes c.in-Ok.ensures.short (c.of-file.ensures ∙ ap (λ (text : List ℕ). text_left text 1) c.as_slice.ensures.value) ran.1)
     ran.2.0 c.in_err-statement.ensures.faults (λ failed. subst WritesOf taken (c.in_err-statement.ensures.failed (ap Err failed))))

@@ -1,68 +1,78 @@
-use Rattle.std.proofs.Common.{◌≤◌, inr, refl, arith, ◌∙◌}
-use Rattle.csv.specs.Reading.{default_config, records, strip_bom}
+use Rattle.std.proofs.Common.{◌≡◌, ◌≢◌, ℕ, List, Some, Ok, refl, ap, sym, arith, ◌∙◌}
 use Rattle.csv.specs.Records.{fields_of}
-use Rattle.xm_files.proofs.PassedErrors.{if_passed}
-use Rattle.xm_files.proofs.Progress.{bad-record, end-first, end-later, progress-more, shorter}
-use Rattle.xm_files.proofs.Unread.{start-unread, strip-shorter}
+use Rattle.xm_files.proofs.CsvParts.{csv-ended, csv-fault, csv-more, csv-next, same-fields, tested, waiting, where-ok}
+use Rattle.xm_files.proofs.PartsRead.{ended-part, round-before, round-ended, so-far-record}
 use Rattle.xm_files.specs.Batches.{rows_so_far}
+use Rattle.xm_files.specs.Orders.{with_record}
+use Rattle.xm_files.specs.Parts.{IsRound, ends_before}
+use Rattle.xm_files.specs.Rows.{command_in}
+use Rattle.xm_files.specs.Unread.{CsvLeft, csv_left}
+use Rattle.xm_files.specs.declared.order_format.OrderFormat.TheVariants.{First}
 use Rattle.xm_files.proofs.orders.add_records.Goals as goal
 
-pub records-init : goal.records-init
-records-init c =
-    let text = c.args.text.now in
-    let fr = c.from_reader-reader.ensures in
-    let e = c.has_headers.ensures in
-    let f = c.flexible.ensures in
-    let short = strip-shorter text in
-    record {
-      progress = record {
-        left = strip_bom text;
-        rest = records default_config (strip_bom text);
-        unread = start-unread c.from_reader-reader.result (strip_bom text) (rw (f, e) at fr.trim ∙ c.new.ensures.trim) (inr (inr (rw (f, e) at fr.has_headers, fr.headers))) (rw (f, e) at fr.config ∙ c.new.ensures.config) fr.state fr.source;
-        so_far = refl;
-        counted = c.requires.begun;
-        lines = omega (arith, c.requires.short, short);
-      };
-      earlier = refl;
-    }
+pub returns-in-Ok-false-clause-round : goal.returns-in-Ok-false-clause-round
+returns-in-Ok-false-clause-round c = λ round.
+    let csv = c.look_ahead.new.self in
+    let arm = c.in-Ok-false in
+    let none = arm.ensures.ended (ap Ok arm.field-0-test) in
+    where-ok (c.line.result ≢ 1) (IsRound c.args.names.now c.args.config.now (csv_left csv) c.records.batch) c.end_of.result c.end_of.ensures.ok
+    (λ later.
+    let other : csv.line ≢ 1 = λ e. later (c.line.ensures ∙ e) in
+    round-ended c.args.names.now c.args.config.now c.args.part (csv_left csv) c.records.batch (csv-ended c.args.names.now c.args.config.now csv (rows_so_far c.records.batch) none other) c.records.invariant.so_far round)
 
-pub returns-then-line-eq1-clause-err : goal.returns-then-line-eq1-clause-err
-returns-then-line-eq1-clause-err c = λ _.
-    let p = c.records.invariant.progress in
-    rw c.fault_at.ensures
-    (end-first c.args.names.now c.args.config.now _ c.records.reader c.read_byte_record.new.self c.records.line (rows_so_far c.records.batch) (fields_of c.read_byte_record.new.row) p
-    (rw c.in-Ok-false.field-0-test at (c.in-Ok-false.ensures.reads p.unread.trim p.unread.ready)) (omega arith))
-
-pub returns-in-Ok-false-clause-ok : goal.returns-in-Ok-false-clause-ok
-returns-in-Ok-false-clause-ok c =
-    let p = c.records.invariant.progress in
-    let counted = p.counted in
-    let later : 2 ≤ c.records.line = omega (arith, counted) in
-    end-later c.args.names.now c.args.config.now _ c.records.reader c.read_byte_record.new.self c.records.line (rows_so_far c.records.batch) (fields_of c.read_byte_record.new.row) p
-    (rw c.in-Ok-false.field-0-test at (c.in-Ok-false.ensures.reads p.unread.trim p.unread.ready)) later
-
-pub returns-in_err-add_fields-clause-err : goal.returns-in_err-add_fields-clause-err
-returns-in_err-add_fields-clause-err c =
-    let p = c.records.invariant.progress in
+pub returns-then-ends_before-clause-round : goal.returns-then-ends_before-clause-round
+returns-then-ends_before-clause-round c = λ round.
+    let csv = c.look_ahead.new.self in
     let arm = c.in-Ok-true in
-    let fault = c.in_err-add_fields.field-0.0 in
-    if_passed _ c.from_residual.result fault c.from_residual.ensures.1
-    (λ h. bad-record c.args.names.now c.args.config.now _ c.records.reader c.read_byte_record.new.self c.records.line (rows_so_far c.records.batch) (fields_of c.read_byte_record.new.row) fault p
-    (rw arm.field-0-test at (arm.ensures.reads p.unread.trim p.unread.ready)) (arm.ensures.ready p.unread.trim) (c.in_err-add_fields.ensures.err h))
+    let ahead = waiting csv.ahead (arm.ensures.waits (ap Ok arm.field-0-test)) in
+    let row = fields_of c.row.result.now in
+    let fields = same-fields csv.ahead ahead.0 row ahead.1 c.row.ensures in
+    let test = tested 12 row _ (ends_before c.args.part c.records.batch.rows (command_in First row)) refl (sym c.ends_before.ensures ∙ c.if-ends_before.true) in
+    let some = (ended-part c.args.part c.records.batch.rows (command_in First row) test.1).0 in
+    let line = c.look_ahead.ensures.line in
+    let header = c.records.invariant.header some in
+    let same = csv-next c.args.names.now c.args.config.now _ csv csv (rows_so_far c.records.batch) row refl refl refl (ahead.1 ∙ ap (λ (f : List (List ℕ)). Some f) (sym fields)) in
+    round-before c.args.names.now c.args.config.now c.args.part (csv_left csv) c.records.batch row csv.behind (omega (arith, header, line)) test.0 same test.1 c.records.invariant.so_far round
 
-pub records-smaller : goal.records-smaller
-records-smaller c =
-    let p = c.records.invariant.progress in
+pub returns-in-Err-add_fields-clause-err : goal.returns-in-Err-add_fields-clause-err
+returns-in-Err-add_fields-clause-err c = λ h.
+    let csv = c.look_ahead.new.self in
     let arm = c.in-Ok-true in
-    shorter c.args.names.now c.args.config.now _ c.records.reader c.read_byte_record.new.self c.records.line (rows_so_far c.records.batch) (fields_of c.read_byte_record.new.row) p
-    (rw arm.field-0-test at (arm.ensures.reads p.unread.trim p.unread.ready)) (arm.ensures.ready p.unread.trim)
+    let ahead = waiting csv.ahead (arm.ensures.waits (ap Ok arm.field-0-test)) in
+    let row = fields_of c.row-in-records.result.now in
+    let fields = same-fields csv.ahead ahead.0 row ahead.1 c.row-in-records.ensures in
+    let read = csv-next c.args.names.now c.args.config.now _ c.records.csv csv (rows_so_far c.records.batch) ahead.0 c.records.invariant.read arm.ensures.same c.look_ahead.ensures.line ahead.1 in
+    csv-fault c.args.names.now c.args.config.now _ csv.line (rows_so_far c.records.batch) ahead.0 csv.behind c.in-Err-add_fields.fault read (rw (c.line-in-records.ensures, fields) at (c.in-Err-add_fields.ensures.err h))
+
+pub returns-then-is_whole_part-clause-read : goal.returns-then-is_whole_part-clause-read
+returns-then-is_whole_part-clause-read c =
+    let csv = c.look_ahead.new.self in
+    let arm = c.in-Ok-true in
+    let ahead = waiting csv.ahead (arm.ensures.waits (ap Ok arm.field-0-test)) in
+    let row = fields_of c.row-in-records.result.now in
+    let fields = same-fields csv.ahead ahead.0 row ahead.1 c.row-in-records.ensures in
+    let read = csv-next c.args.names.now c.args.config.now _ c.records.csv csv (rows_so_far c.records.batch) ahead.0 c.records.invariant.read arm.ensures.same c.look_ahead.ensures.line ahead.1 in
+    csv-more c.args.names.now c.args.config.now _ csv c.take.new.self (rows_so_far c.records.batch) (rows_so_far c.add_fields.new.batch) ahead.0 read (rw (c.line-in-records.ensures, fields) at c.in-Ok.ensures.ok) c.take.ensures.taken
 
 pub records-preserved : goal.records-preserved
 records-preserved c =
-    let p = c.records.invariant.progress in
+    let csv = c.look_ahead.new.self in
     let arm = c.in-Ok-true in
+    let ahead = waiting csv.ahead (arm.ensures.waits (ap Ok arm.field-0-test)) in
+    let row = fields_of c.row-in-records.result.now in
+    let fields = same-fields csv.ahead ahead.0 row ahead.1 c.row-in-records.ensures in
+    let first = same-fields csv.ahead ahead.0 (fields_of c.row.result.now) ahead.1 c.row.ensures in
+    let read = csv-next c.args.names.now c.args.config.now _ c.records.csv csv (rows_so_far c.records.batch) ahead.0 c.records.invariant.read arm.ensures.same c.look_ahead.ensures.line ahead.1 in
+    let good : with_record c.args.names.now c.args.config.now csv.line (rows_so_far c.records.batch) ahead.0 ≡ Ok (rows_so_far c.add_fields.new.batch) = rw (c.line-in-records.ensures, fields) at c.in-Ok.ensures.ok in
+    let begun = c.look_ahead.ensures.within.0 in
+    let onward = c.records.invariant.onward in
+    let line = c.look_ahead.ensures.line in
+    let taken = ap (λ (t : CsvLeft). t.line) c.take.ensures.taken in
     record {
-      progress = progress-more c.args.names.now c.args.config.now _ c.records.reader c.read_byte_record.new.self c.records.line (rows_so_far c.records.batch) (rows_so_far c.add_fields.new.batch) (fields_of c.read_byte_record.new.row) p
-          (rw arm.field-0-test at (arm.ensures.reads p.unread.trim p.unread.ready)) (arm.ensures.ready p.unread.trim) c.in_ok-add_fields.ensures.ok;
-      earlier = c.in_ok-add_fields.ensures.earlier ∙ c.records.invariant.earlier;
+      read = csv-more c.args.names.now c.args.config.now _ csv c.take.new.self (rows_so_far c.records.batch) (rows_so_far c.add_fields.new.batch) ahead.0 read good c.take.ensures.taken;
+      earlier = c.in-Ok.ensures.earlier ∙ c.records.invariant.earlier;
+      so_far = so-far-record c.args.part c.args.names.now c.args.config.now csv.line ahead.0 c.records.batch c.add_fields.new.batch begun c.in-Ok.ensures.earlier good (rw first at (sym c.ends_before.ensures ∙ c.if-ends_before.false)) c.records.invariant.so_far;
+      header = λ some. omega (arith, begun, taken);
+      onward = omega (arith, onward, line, taken);
+      further = λ none some. omega (arith, onward, line, taken);
     }

@@ -1,17 +1,18 @@
-use Rattle.std.proofs.Common.{◌≡◌, length}
-use Rattle.std.specs.Option.{option_map_or}
-use Rattle.csv.specs.Reading.{default_config, records, source_of, strip_bom}
-use Rattle.xm_files.proofs.Progress.{Progress}
-use Rattle.xm_files.proofs.Unread.{known}
-use Rattle.xm_files.specs.Batches.{rows_so_far}
-use Rattle.xm_files.specs.Orders.{rows_after}
+use Rattle.std.proofs.Common.{◌≡◌, ◌<◌, ◌≤◌, length, true}
+use Rattle.xm_files.specs.Batches.{rows_from, rows_so_far}
+use Rattle.xm_files.specs.Parts.{is_so_far}
+use Rattle.xm_files.specs.Unread.{csv_left}
 use Rattle.xm_files.proofs.orders.add_records.Given as goal
 
 abbrev pub invariant-records : goal.invariant-records
 invariant-records l = record {
-  progress : Progress l.names l.config (rows_after l.names l.config l.first (rows_so_far l.initial.batch) (records default_config (strip_bom l.text))) l.reader l.line (rows_so_far l.batch);
+  read : rows_from l.names l.config (csv_left l.initial.csv) (rows_so_far l.initial.batch) ≡ rows_from l.names l.config (csv_left l.csv) (rows_so_far l.batch);
   earlier : l.batch.earlier ≡ l.initial.batch.earlier;
+  so_far : is_so_far l.part l.batch.rows ≡ true;
+  header : 0 < length l.batch.rows → 2 ≤ l.csv.line;
+  onward : l.initial.csv.line ≤ l.csv.line;
+  further : length l.initial.batch.rows ≡ 0 → 0 < length l.batch.rows → l.initial.csv.line < l.csv.line;
 }
 
 abbrev pub decreases-records : goal.decreases-records
-decreases-records l = option_map_or length (source_of known l.reader) 0
+decreases-records l = length (csv_left l.csv).records
