@@ -1,6 +1,7 @@
 mod damaged_fields;
 pub(crate) mod fixtures;
 mod order_files;
+mod rounds_read;
 mod segment_files;
 mod timetables;
 
