@@ -1,13 +1,13 @@
 -- How far the rows of an order file were read.
-use Rattle.std.proofs.Common.{◌++◌, nat_lt, ◌≡◌, ℕ, ◌+◌, ◌≤◌, true, false, ◌==◌, if◌then◌else◌, List, ◌∷◌, length, Some, Result, Ok, Err, refl, ap, arith, sym, ◌∙◌}
+use Rattle.std.proofs.Common.{◌++◌, nat_lt, ◌≡◌, ℕ, ◌+◌, ◌<◌, ◌≤◌, true, false, ◌==◌, if◌then◌else◌, List, ◌∷◌, length, Some, Result, Ok, Err, refl, ap, arith, sym, ◌∙◌}
 use Rattle.std.proofs.lemmas.Bool.{and_left}
 use Rattle.std.proofs.lemmas.Bool.Decides.{nat_tests}
 use Rattle.csv.specs.Reading.{default_config, records, strip_bom}
 use Rattle.xm_files.proofs.LineRecords.{fed-records, line-records, line-shorter, strip-fed}
 use Rattle.xm_files.specs.Batches.{BeginsLines}
-use Rattle.xm_files.specs.FileFaults.{fault_at, result_then}
+use Rattle.xm_files.specs.FileFaults.{fault_at, max_bytes, result_then}
 use Rattle.xm_files.specs.Names.{NameLists}
-use Rattle.xm_files.specs.Orders.{with_record, with_rows, rows_after}
+use Rattle.xm_files.specs.Orders.{max_lines, max_rows, with_record, with_rows, rows_after}
 use Rattle.xm_files.specs.Plain.{IsBehindHeader, ReadsLine}
 use Rattle.xm_files.specs.Rows.{columns_of, is_header, rows_of_record}
 use Rattle.xm_files.specs.declared.file_faults.FileCause.TheVariants.{Syntax, BadHeader}
@@ -36,9 +36,9 @@ pub other-record : (names : NameLists) (config : SegmentConfig) (line : ℕ) (ro
     → with_record names config line rows fields ≡ Err (fault_at line Syntax)
 other-record names config line rows fields later other = rw (not-first line later, other) refl
 
-pub rows-fit : (line : ℕ) (rows more : List Row) → length rows + length more ≤ 1000000 → with_rows line rows (Some more) ≡ Ok (rows ++ more)
+pub rows-fit : (line : ℕ) (rows more : List Row) → length rows + length more ≤ max_rows → with_rows line rows (Some more) ≡ Ok (rows ++ more)
 rows-fit line rows more fits =
-    let few : nat_lt 1000000 (length rows + length more) ≡ false = grind (arith, nat_tests) in
+    let few : nat_lt max_rows (length rows + length more) ≡ false = grind (arith, nat_tests) in
     rw few refl
 
 pub no-header : (fields : List (List ℕ)) → (length fields == 12) ≡ false → is_header First fields ≡ false
@@ -48,12 +48,12 @@ no-header fields other = and_left (length fields == 12) _ other
 pub record Lines (names : NameLists) (config : SegmentConfig) (all : Result (List Row) FileFault) (more : List ℕ) (line : ℕ) (rows : List Row) : Type 0 where
   pub so_far : all ≡ rows_after names config line rows (records default_config (10 ∷ more))
   pub later : 2 ≤ line
-  pub lines : line + length more ≤ 16777217
+  pub lines : line + length more < max_lines
 
 pub lines-begin : (names : NameLists) (config : SegmentConfig) (text more : List ℕ) (first line : ℕ) (rows : List Row) → BeginsLines text first more line
-    → (first ≡ 1 → length text ≤ 16777216) → first + length text ≤ 16777218 → Lines names config (rows_after names config first rows (records default_config (strip_bom text))) more line rows
+    → (first ≡ 1 → length text ≤ max_bytes) → first + length text ≤ max_lines → Lines names config (rows_after names config first rows (records default_config (strip_bom text))) more line rows
 lines-begin names config text more first line rows b whole short =
-    let shorter = b.short 16777218 short (λ one. let all = whole one in omega arith) in
+    let shorter = b.short max_lines short (λ one. let all = whole one in omega arith) in
     record {
       so_far = b.same names config rows;
       later = b.later;

@@ -14,6 +14,10 @@ use Rattle.xm_segment.specs.declared.rows.Row.{Row}
 abbrev pub max_rows : ℕ
 max_rows = 1000000
 
+-- no record of an order file that is read has a higher number: the header is 1, and each record has a byte at least
+abbrev pub max_lines : ℕ
+max_lines = 16777218
+
 -- these rows and those of one more record, which has this number
 abbrev pub with_rows : ℕ → List Row → Option (List Row) → Result (List Row) FileFault
 with_rows line rows None = Err (fault_at line BadField)

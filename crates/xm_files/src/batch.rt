@@ -32,6 +32,7 @@ pub struct Batch {
 impl Model for Batch {
     ghost use Rattle.std.specs.Prelude.{◌≡◌, ◌+◌, ◌≤◌, length};
     ghost use Rattle.xm_files.specs.Batches.{RowsRead, earlier_rows};
+    ghost use Rattle.xm_files.specs.Orders.{max_rows};
 
     ghost Value = { RowsRead };
 
@@ -39,7 +40,7 @@ impl Model for Batch {
 
     ghost invariant = { λ b. record {
       counted : b.count ≡ length (earlier_rows b.earlier);
-      few : b.count + length b.rows.items ≤ 1000000;
+      few : b.count + length b.rows.items ≤ max_rows;
     } };
 }
 

@@ -4,6 +4,7 @@ ghost use Rattle.csv.specs.Reading.{default_config, records, strip_bom};
 ghost use Rattle.csv.specs.Records.{fields_of};
 ghost use Rattle.xm_files.specs.Unread.{with_ahead};
 
+use crate::orders::MAX_LINES;
 use csv::{ByteRecord, Reader, ReaderBuilder};
 use std::alloc::Global;
 use std::marker::Model;
@@ -35,6 +36,7 @@ pub(crate) struct CsvRecords<'a> {
 
 impl<'a> Model for CsvRecords<'a> {
     ghost use Rattle.std.specs.Prelude.{◌≤◌, ◌+◌, length};
+    ghost use Rattle.xm_files.specs.Orders.{max_lines};
     ghost use Rattle.xm_files.specs.Unread.{CsvLeft, ReadsOn, record_ahead, behind_of, with_ahead};
 
     ghost Value = { CsvLeft };
@@ -44,7 +46,7 @@ impl<'a> Model for CsvRecords<'a> {
     ghost invariant = { λ c. record {
       reads_on : ReadsOn c.standing c.reader;
       begun : 1 ≤ c.line;
-      short : c.line + length (with_ahead (record_ahead c.standing c.row) (behind_of c.standing c.reader)) ≤ 16777218;
+      short : c.line + length (with_ahead (record_ahead c.standing c.row) (behind_of c.standing c.reader)) ≤ max_lines;
     } };
 }
 
@@ -52,7 +54,7 @@ impl<'a> CsvRecords<'a> {
     /// The records of a text, of which the first has this number.
     pub(crate) fn of(alloc: Global, text: &'a [u8], line: u32) -> CsvRecords<'a>
         requires begun { 1 ≤ line }
-        requires short { line + length text.now ≤ 16777218 }
+        requires short { line + length text.now ≤ MAX_LINES }
         ensures { result ≡ record { ahead = None; behind = records default_config (strip_bom text.now); line = line } }
     {
         CsvRecords {
@@ -70,7 +72,7 @@ impl<'a> CsvRecords<'a> {
     pub(crate) fn look_ahead(&mut self) -> Result<bool, OutOfMemory>
         ensures same { OnOk result (with_ahead self.new.ahead self.new.behind ≡ with_ahead self.old.ahead self.old.behind) }
         ensures line { self.new.line ≡ self.old.line }
-        ensures within { (1 ≤ self.new.line) × (self.new.line ≤ 16777218) }
+        ensures within { (1 ≤ self.new.line) × (self.new.line ≤ MAX_LINES) }
         ensures waits { result ≡ Ok true → IsSome self.new.ahead }
         ensures ended { result ≡ Ok false → with_ahead self.new.ahead self.new.behind ≡ [] }
     {
@@ -115,7 +117,7 @@ impl<'a> CsvRecords<'a> {
     pub(crate) fn take(&mut self)
         requires { IsSome self.old.ahead }
         ensures taken { self.new ≡ record { ahead = None; behind = self.old.behind; line = self.old.line + 1 } }
-        ensures within { self.new.line ≤ 16777218 }
+        ensures within { self.new.line ≤ MAX_LINES }
     {
         self.standing = Standing::Taken;
         self.line += 1;

@@ -23,7 +23,7 @@ pub use crate::batch::Batch;
 pub use crate::bytes::MAX_BYTES;
 pub use crate::file_faults::{FileCause, FileFault};
 pub use crate::names::SegmentNames;
-pub use crate::orders::{MAX_ROWS, RowReader, read_orders, read_rows};
+pub use crate::orders::{MAX_LINES, MAX_ROWS, RowReader, read_orders, read_rows};
 pub use crate::part::Part;
 pub use crate::segment::read_segment;
 pub use crate::timetable::{Round, rounds, share};

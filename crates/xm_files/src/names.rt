@@ -44,6 +44,7 @@ pub(crate) struct NameList {
 impl Model for NameList {
     ghost use Rattle.std.specs.Prelude.{◌≡◌, ℕ, ◌≤◌, List, map, length, string_bytes, true};
     ghost use Rattle.std.specs.List.{All};
+    ghost use Rattle.xm_files.specs.FileFaults.{max_bytes};
     ghost use Rattle.xm_files.specs.Hints.{LeadsInto};
     ghost use Rattle.xm_files.specs.Segment.{are_distinct};
 
@@ -52,7 +53,7 @@ impl Model for NameList {
     ghost view = { λ n. map string_bytes n.names.keys };
 
     ghost invariant = { λ n. record {
-      few : length n.names.keys ≤ 16777216;
+      few : length n.names.keys ≤ max_bytes;
       distinct : are_distinct (map string_bytes n.names.keys) ≡ true;
       hints : All (LeadsInto (map string_bytes n.names.keys)) n.hints;
     } };

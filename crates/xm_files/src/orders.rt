@@ -38,6 +38,9 @@ const BYTE_ORDER_MARK: u8 = 0xEF;
 /// The most rows that an order file may stand for.
 pub const MAX_ROWS: usize = 1_000_000;
 
+/// The highest number that the next record of an order file may have.
+pub const MAX_LINES: u32 = 16_777_218;
+
 /// Reads an order file: its rows, for the members and the securities with these names.
 ///
 /// The file is CSV of at most 16,777,216 bytes, whose first record is the header. With `*` as its
@@ -98,6 +101,8 @@ impl Drop for RowReader<'_> {
 impl<'a> Model for RowReader<'a> {
     ghost use Rattle.std.specs.Prelude.{◌≡◌, ◌+◌, ◌≤◌, length};
     ghost use Rattle.xm_files.specs.Batches.{RowsLeft, text_left};
+    ghost use Rattle.xm_files.specs.FileFaults.{max_bytes};
+    ghost use Rattle.xm_files.specs.Orders.{max_lines};
     ghost use Rattle.xm_files.specs.Unread.{left_of_either};
 
     ghost Value = { RowsLeft };
@@ -106,9 +111,9 @@ impl<'a> Model for RowReader<'a> {
 
     ghost invariant = { λ r. record {
       begun : 1 ≤ r.line;
-      whole : r.line ≡ 1 → length r.left.now ≤ 16777216;
-      short : r.line + length r.left.now ≤ 16777218;
-      within : (left_of_either r.csv (text_left r.left.now r.line)).line ≤ 16777218;
+      whole : r.line ≡ 1 → length r.left.now ≤ max_bytes;
+      short : r.line + length r.left.now ≤ max_lines;
+      within : (left_of_either r.csv (text_left r.left.now r.line)).line ≤ max_lines;
     } };
 }
 
@@ -143,7 +148,7 @@ impl<'a> RowReader<'a> {
         ensures full { result ≡ Ok true → IsFull part batch.new.rows }
         ensures round { part ≡ Part.Round → OnOk result (IsRound names.now config.now self.new batch.new) }
         ensures further { result ≡ Ok true → self.old.line < self.new.line }
-        ensures bounded { self.new.line ≤ 16777218 }
+        ensures bounded { self.new.line ≤ MAX_LINES }
         ensures err { IfErr result (λ fault. fault.cause ≢ FileCause.OutOfMemory tt → rows_from names.now config.now self.old (rows_so_far batch.old) ≡ Err fault) }
         ensures memory { IfErr result (λ fault. OnTrue (is_from_outside fault.cause) (fault.line ≡ 0)) }
     {
@@ -186,7 +191,7 @@ fn add_records(
     ensures round { part ≡ Part.Round → OnOk result (IsRound names.now config.now (csv_left csv.new) batch.new) }
     ensures onward { csv.old.line ≤ csv.new.line }
     ensures further { result ≡ Ok true → length batch.old.rows ≡ 0 → csv.old.line < csv.new.line }
-    ensures within { csv.new.line ≤ 16777218 }
+    ensures within { csv.new.line ≤ MAX_LINES }
     ensures err { IfErr result (λ fault. fault.cause ≢ FileCause.OutOfMemory tt → rows_from names.now config.now (csv_left csv.old) (rows_so_far batch.old) ≡ Err fault) }
     ensures memory { IfErr result (λ fault. OnTrue (is_from_outside fault.cause) (fault.line ≡ 0)) }
 {
@@ -246,11 +251,11 @@ fn add_lines<'a>(
 ) -> Result<(&'a [u8], u32, bool), FileFault>
     requires begun { 1 ≤ first }
     requires whole { first ≡ 1 → length text.now ≤ MAX_BYTES }
-    requires short { first + length text.now ≤ 16777218 }
+    requires short { first + length text.now ≤ MAX_LINES }
     requires empty { batch.old.rows ≡ [] }
     ensures ok { IfOk result (λ p. rows_from names.now config.now (text_left text.now first) (rows_so_far batch.old) ≡ rows_from names.now config.now (text_left p.0.now p.1) (rows_so_far batch.new)) }
     ensures earlier { OnOk result (batch.new.earlier ≡ batch.old.earlier) }
-    ensures lines { IfOk result (λ p. (first ≤ p.1) × (p.1 + length p.0.now ≤ 16777218)) }
+    ensures lines { IfOk result (λ p. (first ≤ p.1) × (p.1 + length p.0.now ≤ MAX_LINES)) }
     ensures begun { OnOk result (is_so_far part batch.new.rows ≡ true) }
     ensures further { IfOk result (λ p. 0 < length batch.new.rows → first < p.1) }
     ensures full { IfOk result (λ p. p.2 ≡ true → IsFull part batch.new.rows × (first < p.1)) }

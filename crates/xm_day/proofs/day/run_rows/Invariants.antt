@@ -1,6 +1,7 @@
 use Rattle.std.proofs.Common.{◌≡◌, ◌-◌, []}
 use Rattle.xm_day.specs.Answers.{HasTaken}
 use Rattle.xm_files.specs.Batches.{rows_from, rows_so_far}
+use Rattle.xm_files.specs.Orders.{max_lines}
 use Rattle.xm_day.proofs.day.run_rows.Given as goal
 
 abbrev pub invariant-batches : goal.invariant-batches
@@ -10,4 +11,4 @@ invariant-batches l = record {
 }
 
 abbrev pub decreases-batches : goal.decreases-batches
-decreases-batches l = 16777218 - l.file.line
+decreases-batches l = max_lines - l.file.line
