@@ -5,7 +5,9 @@ use super::order_files::rows_of;
 use std::alloc::Global;
 use std::process::Abort;
 use std::test::Fail;
-use xm_files::{Batch, FileCause, FileFault, Part, Round, RowReader, read_orders, read_segment, rounds};
+use xm_files::{
+    Batch, FileCause, FileFault, Part, Round, RowReader, read_orders, read_segment, rounds,
+};
 use xm_segment::Row;
 
 /// What comes after `CASCADE`: one round more, and the members' rows of another.
