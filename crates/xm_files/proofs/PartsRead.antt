@@ -24,9 +24,6 @@ use Rattle.xm_segment.specs.declared.rows.Row.{Row}
 abbrev Extends : List Row → List Row → Type 0
 Extends rows sum = (tail : List Row) × (sum ≡ rows ++ tail)
 
-same-extends : (rows : List Row) → Extends rows rows
-same-extends rows = ([], sym (append-nil rows))
-
 extends-more : (a b c : List Row) → Extends a b → Extends b c → Extends a c
 extends-more a b c f g = (f.0 ++ g.0, g.1 ∙ ap (λ (rows : List Row). rows ++ g.0) f.1 ∙ append_assoc a f.0 g.0)
 

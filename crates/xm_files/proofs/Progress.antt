@@ -1,5 +1,5 @@
 -- How far the rows of an order file were read.
-use Rattle.std.proofs.Common.{◌++◌, nat_lt, ◌≡◌, ℕ, ◌+◌, ◌<◌, ◌≤◌, true, false, ◌==◌, if◌then◌else◌, List, ◌∷◌, length, Some, Result, Ok, Err, refl, ap, arith, sym, ◌∙◌}
+use Rattle.std.proofs.Common.{◌++◌, nat_lt, ◌≡◌, ℕ, ◌+◌, ◌<◌, ◌≤◌, false, ◌==◌, if◌then◌else◌, List, ◌∷◌, length, Some, Result, Ok, Err, refl, ap, arith, sym, ◌∙◌}
 use Rattle.std.proofs.lemmas.Bool.{and_left}
 use Rattle.std.proofs.lemmas.Bool.Decides.{nat_tests}
 use Rattle.csv.specs.Reading.{default_config, records, strip_bom}
@@ -19,9 +19,6 @@ use Rattle.xm_segment.specs.declared.rows.Row.{Row}
 
 not-first : (line : ℕ) → 2 ≤ line → (line == 1) ≡ false
 not-first line h = grind (arith, nat_tests)
-
-first-line : (line : ℕ) → line ≡ 1 → (line == 1) ≡ true
-first-line line e = rw e refl
 
 -- what a record gives: the first one, and any other
 pub header-record : (names : NameLists) (config : SegmentConfig) (line : ℕ) (rows : List Row) (fields : List (List ℕ)) → line ≡ 1
