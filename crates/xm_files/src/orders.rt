@@ -158,14 +158,14 @@ impl<'a> RowReader<'a> {
             let _ = batch.total(); // What every batch keeps is known of one whose rows are counted.
             return Ok(more);
         }
-        let (left, line, full) = add_lines(batch, self.left, self.line, part, names, config)?;
-        if full {
-            self.left = left;
-            self.line = line;
+        let left = add_lines(batch, self.left, self.line, part, names, config)?;
+        if left.is_at_end {
+            self.left = left.text;
+            self.line = left.line;
             let _ = batch.total(); // What every batch keeps is known of one whose rows are counted.
             return Ok(true);
         }
-        let mut csv = CsvRecords::of(alloc, left, line);
+        let mut csv = CsvRecords::of(alloc, left.text, left.line);
         let more = add_records(batch, &mut csv, part, names, config)?;
         self.csv = Some(csv);
         let _ = batch.total(); // What every batch keeps is known of one whose rows are counted.
@@ -238,9 +238,18 @@ fn ends_before(part: Part, batch: &Batch, row: &ByteRecord) -> bool
     }
 }
 
+/// What is left of a text whose lines were read.
+#[derive(Drop)]
+struct LinesLeft<'a> {
+    text: &'a [u8],
+    // The number of its first record.
+    line: u32,
+    // Whether the part that was read on is at its end.
+    is_at_end: bool,
+}
+
 /// Adds the rows of the lines that a text begins with, of which the first has this number, up to the end of a part that a
-/// batch begins, and as long as none has a quote or a carriage return, and each has as many fields as columns. Gives what is
-/// left of the text, the number of its first record, and whether the part is at its end.
+/// batch begins, and as long as none has a quote or a carriage return, and each has as many fields as columns.
 fn add_lines<'a>(
     batch: &mut Batch,
     text: &'a [u8],
@@ -248,32 +257,44 @@ fn add_lines<'a>(
     part: Part,
     names: &SegmentNames,
     config: &SegmentConfig,
-) -> Result<(&'a [u8], u32, bool), FileFault>
+) -> Result<LinesLeft<'a>, FileFault>
     requires begun { 1 ≤ first }
     requires whole { first ≡ 1 → length text.now ≤ MAX_BYTES }
     requires short { first + length text.now ≤ MAX_LINES }
     requires empty { batch.old.rows ≡ [] }
-    ensures ok { IfOk result (λ p. rows_from names.now config.now (text_left text.now first) (rows_so_far batch.old) ≡ rows_from names.now config.now (text_left p.0.now p.1) (rows_so_far batch.new)) }
+    ensures ok { IfOk result (λ left. rows_from names.now config.now (text_left text.now first) (rows_so_far batch.old) ≡ rows_from names.now config.now (text_left left.text.now left.line) (rows_so_far batch.new)) }
     ensures earlier { OnOk result (batch.new.earlier ≡ batch.old.earlier) }
-    ensures lines { IfOk result (λ p. (first ≤ p.1) × (p.1 + length p.0.now ≤ MAX_LINES)) }
+    ensures lines { IfOk result (λ left. (first ≤ left.line) × (left.line + length left.text.now ≤ MAX_LINES)) }
     ensures begun { OnOk result (is_so_far part batch.new.rows ≡ true) }
-    ensures further { IfOk result (λ p. 0 < length batch.new.rows → first < p.1) }
-    ensures full { IfOk result (λ p. p.2 ≡ true → IsFull part batch.new.rows × (first < p.1)) }
-    ensures round { part ≡ Part.Round → IfOk result (λ p. p.2 ≡ true → IsRound names.now config.now (text_left p.0.now p.1) batch.new) }
+    ensures further { IfOk result (λ left. 0 < length batch.new.rows → first < left.line) }
+    ensures full { IfOk result (λ left. left.is_at_end ≡ true → IsFull part batch.new.rows × (first < left.line)) }
+    ensures round { part ≡ Part.Round → IfOk result (λ left. left.is_at_end ≡ true → IsRound names.now config.now (text_left left.text.now left.line) batch.new) }
     ensures err { IfErr result (λ fault. fault.cause ≢ FileCause.OutOfMemory tt → rows_from names.now config.now (text_left text.now first) (rows_so_far batch.old) ≡ Err fault) }
     ensures memory { IfErr result (λ fault. OnTrue (is_from_outside fault.cause) (fault.line ≡ 0)) }
 {
     let Some((mut marks, mut line)) = begin_lines(text, first) else {
-        return Ok((text, first, false));
+        return Ok(LinesLeft {
+            text,
+            line: first,
+            is_at_end: false,
+        });
     };
     let mut fields = Fields::empty(OrderFormat::First);
     'lines: loop {
         let left = marks.left();
         let Some(()) = fields.read_line(&mut marks) else {
-            return Ok((left, line, false));
+            return Ok(LinesLeft {
+                text: left,
+                line,
+                is_at_end: false,
+            });
         };
         if part.ends_before(batch, &fields) {
-            return Ok((left, line, true));
+            return Ok(LinesLeft {
+                text: left,
+                line,
+                is_at_end: true,
+            });
         }
         match add_record(batch, line, &fields, names, config) {
             Ok(()) => {}
@@ -281,7 +302,11 @@ fn add_lines<'a>(
         }
         line += 1;
         if part.is_whole_part(batch.len()) {
-            return Ok((marks.left(), line, true));
+            return Ok(LinesLeft {
+                text: marks.left(),
+                line,
+                is_at_end: true,
+            });
         }
     }
 }
