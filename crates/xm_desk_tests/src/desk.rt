@@ -92,23 +92,23 @@ mod refusals;
 mod stop_refusals;
 mod trading;
 
-use std::test::Fail;
+use std::process::Abort;
 use xm_rules::{DeskSettings, Order, OrderKind, Restriction, Side, Validity, Widths};
 use xm_ticks::{JournalLimit, Price, TickSize};
 
-pub(crate) fn settings(limit: u32) -> Result<DeskSettings, Fail> {
-    Ok(DeskSettings {
+pub(crate) fn settings(rt: &impl Abort, limit: u32) -> DeskSettings {
+    DeskSettings {
         today: 20260105,
         members: 2,
-        tick: TickSize::new(100).ok_or("no tick")?,
-        reference: Price::new(1000).ok_or("no price")?,
+        tick: TickSize::new(100).expect(rt, "a tick"),
+        reference: Price::new(1000).expect(rt, "a price"),
         widths: Widths {
             dynamic: 20,
             statics: 50,
             wide: 40,
         },
-        limit: JournalLimit::new(limit).ok_or("no limit")?,
-    })
+        limit: JournalLimit::new(limit).expect(rt, "a limit"),
+    }
 }
 
 /// The order that `buy` enters, where its limit is a price.

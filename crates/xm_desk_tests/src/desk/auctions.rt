@@ -1,8 +1,9 @@
 //! Calls, their auctions, and the end of the day.
-use super::day::{Day, Traded};
-use std::test::Fail;
+use super::day::{Day, Step, Traded, run_steps};
+use std::process::Abort;
 use xm_rules::{
-    Auction, CallStage, Command, Condition, Kind, Phase, Refusal, Restriction, Side, Validity,
+    Auction, CallStage, Command, Condition, Kind, Order, Phase, Refusal, Restriction, Side, Trade,
+    Validity,
 };
 
 const OPENING: Phase = Phase::Call(Auction::Opening, CallStage::Ordinary);
@@ -34,15 +35,14 @@ const TRADING: [Traded; 6] = [
 ];
 
 #[test]
-fn an_auction_that_trades(rt: HostRuntime) -> Result<(), Fail> {
-    let mut day = Day::open(rt.alloc(), 100)?;
+fn an_auction_that_trades(rt: HostRuntime) {
+    let mut day = Day::open(&rt, rt.alloc(), 100);
     day.trade_all(&rt, &TRADING[..5]);
     assert!(rt; day.indicative() == Some((1001, 50)));
     day.trade_all(&rt, &TRADING[5..]);
     assert!(rt; day.indicative() == None);
     assert!(rt; day.reference_prices() == (1001, 1001));
     day.buys_are(&rt, &[(0, 2, 1001, 20)]);
-    Ok(())
 }
 
 /// A price outside the ranges of an ordinary call, and of an interrupted one; an extended call trades at it.
@@ -68,13 +68,12 @@ const EXTENDED: [Traded; 6] = [
 ];
 
 #[test]
-fn an_auction_that_is_extended(rt: HostRuntime) -> Result<(), Fail> {
-    let mut day = Day::open(rt.alloc(), 100)?;
+fn an_auction_that_is_extended(rt: HostRuntime) {
+    let mut day = Day::open(&rt, rt.alloc(), 100);
     day.trade_all(&rt, &EXTENDED[..3]);
     assert!(rt; day.indicative() == Some((1100, 10)));
     day.trade_all(&rt, &EXTENDED[3..]);
     assert!(rt; day.reference_prices() == (1100, 1100));
-    Ok(())
 }
 
 /// Auctions without a price, with orders and without; the day ends with the orders that are valid beyond it.
@@ -145,15 +144,20 @@ const VALIDITIES: [Traded; 9] = [
 ];
 
 #[test]
-fn a_day_that_ends(rt: HostRuntime) -> Result<(), Fail> {
-    let mut day = Day::open(rt.alloc(), 100)?;
+fn a_day_that_ends(rt: HostRuntime) {
+    let mut day = Day::open(&rt, rt.alloc(), 100);
     day.trade_all(&rt, &VALIDITIES);
-    let left = day.orders().expect(&rt, "memory");
-    assert!(rt; left.len() == 2);
-    assert!(rt; left[0].reference == 2 && left[1].reference == 3);
-    assert!(rt; day.give(&rt, buy!(0, 9, 990, 5)) == Err(Refusal::DayEnded));
+    are_left(&rt, &day.orders().expect(&rt, "memory"), &[2, 3]);
+    day.give_all(&rt, &[(buy!(0, 9, 990, 5), Err(Refusal::DayEnded))]);
     assert!(rt; day.journal().len() == 9);
-    Ok(())
+}
+
+/// Compares the references of orders.
+fn are_left(rt: &impl Abort, orders: &[Order], references: &[u32]) {
+    assert!(rt; orders.len() == references.len());
+    for (order, reference) in orders.iter().zip(references) {
+        assert!(rt; order.reference == *reference);
+    }
 }
 
 /// Orders for the opening, for auctions and for the closing alone, in each of these calls.
@@ -239,46 +243,49 @@ const RESTRICTED: [Traded; 10] = [
 ];
 
 #[test]
-fn restricted_orders_in_their_calls(rt: HostRuntime) -> Result<(), Fail> {
-    let mut day = Day::open(rt.alloc(), 100)?;
+fn restricted_orders_in_their_calls(rt: HostRuntime) {
+    let mut day = Day::open(&rt, rt.alloc(), 100);
     day.trade_all(&rt, &RESTRICTED);
-    let trades = day.trades();
-    assert!(rt; trades.len() == 2);
-    assert!(rt; trades[0].sweep == 1 && trades[1].sweep == 2);
-    Ok(())
+    are_of_sweeps(&rt, day.trades(), &[1, 2]);
+}
+
+/// Compares the sweeps of trades.
+fn are_of_sweeps(rt: &impl Abort, trades: &[Trade], sweeps: &[u64]) {
+    assert!(rt; trades.len() == sweeps.len());
+    for (trade, sweep) in trades.iter().zip(sweeps) {
+        assert!(rt; trade.sweep == *sweep);
+    }
 }
 
 /// Commands of the phases outside their phase, before the day and in a call.
-const OUTSIDE: [Command; 4] = [
-    Command::Uncross,
-    Command::StartIntraday,
-    Command::StartClosing,
-    Command::EndDay,
+const OUTSIDE: [Step; 9] = [
+    (Command::Uncross, Err(Refusal::WrongPhase)),
+    (Command::StartIntraday, Err(Refusal::WrongPhase)),
+    (Command::StartClosing, Err(Refusal::WrongPhase)),
+    (Command::EndDay, Err(Refusal::WrongPhase)),
+    (Command::StartOpening, Ok(1)),
+    (Command::StartOpening, Err(Refusal::WrongPhase)),
+    (Command::StartIntraday, Err(Refusal::WrongPhase)),
+    (Command::StartClosing, Err(Refusal::WrongPhase)),
+    (Command::EndDay, Err(Refusal::WrongPhase)),
 ];
 
 #[test]
-fn phase_commands_outside_their_phase(rt: HostRuntime) -> Result<(), Fail> {
-    let mut day = Day::open(rt.alloc(), 100)?;
-    for command in &OUTSIDE {
-        assert!(rt; day.give(&rt, *command) == Err(Refusal::WrongPhase));
-    }
-    assert!(rt; day.give(&rt, Command::StartOpening) == Ok(1));
-    assert!(rt; day.give(&rt, Command::StartOpening) == Err(Refusal::WrongPhase));
-    for command in &OUTSIDE[1..] {
-        assert!(rt; day.give(&rt, *command) == Err(Refusal::WrongPhase));
-    }
-    Ok(())
+fn phase_commands_outside_their_phase(rt: HostRuntime) {
+    run_steps(&rt, 100, &OUTSIDE);
 }
 
 /// A journal that takes two commands of members takes those of the phases beyond them.
+const FULL: [Step; 6] = [
+    (buy!(0, 1, 990, 5), Ok(1)),
+    (buy!(0, 2, 990, 5), Ok(2)),
+    (buy!(0, 3, 990, 5), Err(Refusal::JournalFull)),
+    (buy!(0, 3, 990, 0), Err(Refusal::BadQuantity)),
+    (Command::StartOpening, Ok(3)),
+    (Command::Uncross, Ok(4)),
+];
+
 #[test]
-fn a_full_journal(rt: HostRuntime) -> Result<(), Fail> {
-    let mut day = Day::open(rt.alloc(), 2)?;
-    assert!(rt; day.give(&rt, buy!(0, 1, 990, 5)) == Ok(1));
-    assert!(rt; day.give(&rt, buy!(0, 2, 990, 5)) == Ok(2));
-    assert!(rt; day.give(&rt, buy!(0, 3, 990, 5)) == Err(Refusal::JournalFull));
-    assert!(rt; day.give(&rt, buy!(0, 3, 990, 0)) == Err(Refusal::BadQuantity));
-    assert!(rt; day.give(&rt, Command::StartOpening) == Ok(3));
-    assert!(rt; day.give(&rt, Command::Uncross) == Ok(4));
-    Ok(())
+fn a_full_journal(rt: HostRuntime) {
+    run_steps(&rt, 2, &FULL);
 }

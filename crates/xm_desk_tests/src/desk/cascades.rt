@@ -1,8 +1,7 @@
 //! Stops that are reached: what a cascade trades and leaves, where it is cut, and that it takes no memory.
 use super::day::{Day, OPENED, Traded, lacks_memory};
-use std::alloc::Allocator;
+use std::alloc::{Allocator, Global};
 use std::process::Abort;
-use std::test::Fail;
 use xm_refusing::Refusing;
 use xm_rules::{
     Auction, CallStage, Command, Condition, Kind, Order, OrderKind, Phase, Reply, Restriction,
@@ -92,45 +91,46 @@ fn is_held(stop: &Stop, held: Held) -> bool {
 }
 
 fn are_made(rt: &impl Abort, trades: &[Trade], made: &[Made]) {
-    assert_eq!(rt; trades.len(), made.len());
+    assert!(rt; trades.len() == made.len());
     for (trade, made) in trades.iter().zip(made) {
         assert!(rt; is_made(trade, *made), "in place of {made:?}");
     }
 }
 
 fn are_live(rt: &impl Abort, orders: &[Order], live: &[Live]) {
-    assert_eq!(rt; orders.len(), live.len());
+    assert!(rt; orders.len() == live.len());
     for (order, live) in orders.iter().zip(live) {
         assert!(rt; is_live(order, *live));
     }
 }
 
 fn are_held(rt: &impl Abort, stops: &[Stop], held: &[Held]) {
-    assert_eq!(rt; stops.len(), held.len());
+    assert!(rt; stops.len() == held.len());
     for (stop, held) in stops.iter().zip(held) {
         assert!(rt; is_held(stop, *held), "in place of {held:?}");
     }
 }
 
 /// Compares what is left of a day.
-fn is_left<A: Allocator + Copy>(rt: &impl Abort, day: &Day<A>, live: &[Live], held: &[Held]) {
-    let orders = day.orders().expect(rt, "memory");
-    are_live(rt, &orders, live);
-    let stops = day.stops().expect(rt, "memory");
-    are_held(rt, &stops, held);
+fn is_left(rt: &impl Abort, day: &Day<Global>, live: &[Live], held: &[Held]) {
+    are_live(rt, &day.orders().expect(rt, "memory"), live);
+    are_held(rt, &day.stops().expect(rt, "memory"), held);
 }
 
-fn play(rt: &(impl Abort + AllocGlobal), scenes: &[Scene]) -> Result<(), Fail> {
+fn play_scene(rt: &(impl Abort + AllocGlobal), scene: &Scene) {
+    let mut day = Day::open(rt, rt.alloc(), 100);
+    day.trade_all(rt, &OPENED);
+    day.trade_all(rt, scene.before);
+    assert!(rt; day.apply(rt, scene.command) == Ok(scene.reply));
+    are_made(rt, day.trades(), scene.trades);
+    is_left(rt, &day, scene.live, scene.held);
+    assert!(rt; day.reference_prices() == scene.prices);
+}
+
+fn play(rt: &(impl Abort + AllocGlobal), scenes: &[Scene]) {
     for scene in scenes {
-        let mut day = Day::open(rt.alloc(), 100)?;
-        day.trade_all(rt, &OPENED);
-        day.trade_all(rt, scene.before);
-        assert!(rt; day.apply(rt, scene.command) == Ok(scene.reply));
-        are_made(rt, day.trades(), scene.trades);
-        is_left(rt, &day, scene.live, scene.held);
-        assert_eq!(rt; day.reference_prices(), scene.prices);
+        play_scene(rt, scene);
     }
-    Ok(())
 }
 
 /// A trade reaches stops, and what comes in reaches more.
@@ -186,8 +186,8 @@ const CASCADES: [Scene; 2] = [
 ];
 
 #[test]
-fn cascades(rt: HostRuntime) -> Result<(), Fail> {
-    play(&rt, &CASCADES)
+fn cascades(rt: HostRuntime) {
+    play(&rt, &CASCADES);
 }
 
 /// The commands before the sell that begins the cascade which is cut.
@@ -241,8 +241,8 @@ const CUT: [Scene; 2] = [
 ];
 
 #[test]
-fn cascade_cut_by_an_interruption(rt: HostRuntime) -> Result<(), Fail> {
-    play(&rt, &CUT)
+fn cascade_cut_by_an_interruption(rt: HostRuntime) {
+    play(&rt, &CUT);
 }
 
 /// A buy for one unit that is valid to the end of the next day.
@@ -311,8 +311,8 @@ const CLOSES: [Scene; 3] = [
 ];
 
 #[test]
-fn stops_at_the_close(rt: HostRuntime) -> Result<(), Fail> {
-    play(&rt, &CLOSES)
+fn stops_at_the_close(rt: HostRuntime) {
+    play(&rt, &CLOSES);
 }
 
 /// What a member cancels goes, a stop by its name as well as all of them at once, and what another has stays.
@@ -371,8 +371,8 @@ const CANCELLED: [Scene; 4] = [
 ];
 
 #[test]
-fn cancelled_stops(rt: HostRuntime) -> Result<(), Fail> {
-    play(&rt, &CANCELLED)
+fn cancelled_stops(rt: HostRuntime) {
+    play(&rt, &CANCELLED);
 }
 
 /// The opening, and two buys.
@@ -386,17 +386,22 @@ const BUYS: [Command; 4] = [
 /// A sell that trades at 1000 and at 990, and so reaches each stop at 990.
 const SELL: Command = sell!(1, 999, 990, 2);
 
-/// A day with the two buys, and with so many sell stops of one unit at 990.
-fn filled<A: Allocator + Copy>(rt: &impl Abort, alloc: A, stops: u32) -> Result<Day<A>, Fail> {
-    let mut day = Day::open(alloc, 1000)?;
-    for command in BUYS.as_slice() {
+/// Gives a day commands, each of which it accepts.
+fn accept<A: Allocator + Copy>(rt: &impl Abort, day: &mut Day<A>, commands: &[Command]) {
+    for command in commands {
         assert!(rt; day.give(rt, *command).is_ok());
     }
+}
+
+/// A day with the two buys, and with so many sell stops of one unit at 990.
+fn filled<A: Allocator + Copy>(rt: &impl Abort, alloc: A, stops: u32) -> Day<A> {
+    let mut day = Day::open(rt, alloc, 1000);
+    accept(rt, &mut day, &BUYS);
     for reference in 0..stops {
         let stop = stop!(Sell, 1, reference + 1, Kind::StopMarket(990), 1);
-        assert!(rt; day.give(rt, stop).is_ok());
+        accept(rt, &mut day, &[stop]);
     }
-    Ok(day)
+    day
 }
 
 /// The trade of this number, from 0 on: the sell makes two, and each stop after it one.
@@ -411,60 +416,76 @@ fn made(number: u32) -> Made {
     }
 }
 
-#[test]
-fn three_hundred_stops(rt: HostRuntime) -> Result<(), Fail> {
-    let mut day = filled(&rt, rt.alloc(), 300)?;
-    let reply = reply!(305, 0, 301, 301, 298_000, Phase::Continuous);
-    assert!(rt; day.apply(&rt, SELL) == Ok(reply));
+/// Compares the trades with those of their numbers.
+fn are_numbered(rt: &impl Abort, trades: &[Trade]) {
     let mut number: u32 = 0;
-    for trade in day.trades() {
+    for trade in trades {
         assert!(rt; is_made(trade, made(number)), "at {number}");
         number = number.wrapping_add(1);
     }
+}
+
+#[test]
+fn three_hundred_stops(rt: HostRuntime) {
+    let mut day = filled(&rt, rt.alloc(), 300);
+    let reply = reply!(305, 0, 301, 301, 298_000, Phase::Continuous);
+    assert!(rt; day.apply(&rt, SELL) == Ok(reply));
+    are_numbered(&rt, day.trades());
     is_left(&rt, &day, &[(Side::Sell, 1, 300, 0, 1)], &[]);
-    Ok(())
 }
 
 /// More requests for memory than a day makes.
 const MANY: u64 = 1_000_000;
 
 /// The number of the first request that a command makes after so many stops, and of the first one after it.
-fn requests<A: Allocator + Copy>(
-    rt: &impl Abort,
-    alloc: A,
-    stops: u32,
-    command: Command,
-) -> Result<(u64, u64), Fail> {
-    let counting = Refusing::new(alloc, MANY);
-    let mut day = filled(rt, &counting, stops)?;
+fn requests(rt: &(impl Abort + AllocGlobal), stops: u32, command: Command) -> (u64, u64) {
+    let counting = Refusing::new(rt.alloc(), MANY);
+    let mut day = filled(rt, &counting, stops);
     let before = counting.requests_left();
-    assert!(rt; day.give(rt, command).is_ok());
+    accept(rt, &mut day, &[command]);
     let after = counting.requests_left();
-    Ok((
+    (
         MANY.wrapping_sub(before).wrapping_add(1),
         MANY.wrapping_sub(after).wrapping_add(1),
-    ))
+    )
 }
 
-/// Refuses one request of a command, which changes nothing then, and gives it again.
-fn refuse<A: Allocator + Copy>(
+/// Compares the numbers of orders and of stops.
+fn has_so_many<A: Allocator + Copy>(rt: &impl Abort, day: &Day<A>, orders: usize, stops: usize) {
+    assert!(rt; day.orders().expect(rt, "memory").len() == orders);
+    assert!(rt; day.stops().expect(rt, "memory").len() == stops);
+}
+
+/// Gives a command that wants memory, which changes nothing then, and gives it again.
+fn give_twice<A: Allocator + Copy>(
     rt: &impl Abort,
-    alloc: A,
-    nth: u64,
+    day: &mut Day<A>,
     stops: u32,
     command: Command,
-) -> Result<(), Fail> {
-    let refusing = Refusing::new(alloc, nth);
-    let mut day = filled(rt, &refusing, stops)?;
+) {
     let version = day.journal().len();
-    assert!(rt; !refusing.has_refused());
-    assert!(rt; lacks_memory(&day.apply(rt, command)), "at {nth}");
-    assert_eq!(rt; day.journal().len(), version);
+    assert!(rt; lacks_memory(&day.apply(rt, command)));
+    assert!(rt; day.journal().len() == version);
     assert!(rt; day.trades().is_empty());
-    assert_eq!(rt; day.orders().expect(rt, "memory").len(), 2);
-    assert_eq!(rt; day.stops().expect(rt, "memory").len(), stops as usize);
+    has_so_many(rt, day, 2, stops as usize);
     assert!(rt; day.apply(rt, command).is_ok());
-    Ok(())
+}
+
+/// Refuses one request of a command.
+fn refuse(rt: &(impl Abort + AllocGlobal), nth: u64, stops: u32, command: Command) {
+    let refusing = Refusing::new(rt.alloc(), nth);
+    let mut day = filled(rt, &refusing, stops);
+    assert!(rt; !refusing.has_refused(), "at {nth}");
+    give_twice(rt, &mut day, stops, command);
+}
+
+/// Refuses each request of a command in turn.
+fn refuse_each(rt: &(impl Abort + AllocGlobal), stops: u32, command: Command) {
+    let (first, end) = requests(rt, stops, command);
+    assert!(rt; first < end);
+    for nth in first..end {
+        refuse(rt, nth, stops, command);
+    }
 }
 
 /// Commands after so many stops, each of whose requests for memory is refused in turn: stops on both sides at triggers and
@@ -490,30 +511,31 @@ const REFUSED: [(u32, Command); 5] = [
 ];
 
 #[test]
-fn each_growth_refused_in_turn(rt: HostRuntime) -> Result<(), Fail> {
-    for (stops, command) in REFUSED {
-        let (first, end) = requests(&rt, rt.alloc(), stops, command)?;
-        assert!(rt; first < end);
-        for nth in first..end {
-            refuse(&rt, rt.alloc(), nth, stops, command)?;
-        }
+fn each_growth_refused_in_turn(rt: HostRuntime) {
+    for (stops, command) in &REFUSED {
+        refuse_each(&rt, *stops, *command);
     }
-    Ok(())
 }
 
 /// A sell that comes and goes leaves the room that another one needs.
 const GONE: [Command; 2] = [sell!(1, 998, 1010, 1), cancel!(1, 998)];
 
+/// Gives the sell, which asks for no memory.
+fn sells_without_memory(
+    rt: &impl Abort,
+    counting: &Refusing<Global>,
+    day: &mut Day<&Refusing<Global>>,
+) {
+    let before = counting.requests_left();
+    accept(rt, day, &[SELL]);
+    assert!(rt; counting.requests_left() == before);
+}
+
 /// Where the sell and the journal have their room, a cascade of three hundred stops asks for no memory.
 #[test]
-fn cascade_without_memory(rt: HostRuntime) -> Result<(), Fail> {
+fn cascade_without_memory(rt: HostRuntime) {
     let counting = Refusing::new(rt.alloc(), MANY);
-    let mut day = filled(&rt, &counting, 300)?;
-    for command in GONE.as_slice() {
-        assert!(rt; day.give(&rt, *command).is_ok());
-    }
-    let before = counting.requests_left();
-    assert!(rt; day.give(&rt, SELL).is_ok());
-    assert_eq!(rt; counting.requests_left(), before);
-    Ok(())
+    let mut day = filled(&rt, &counting, 300);
+    accept(&rt, &mut day, &GONE);
+    sells_without_memory(&rt, &counting, &mut day);
 }

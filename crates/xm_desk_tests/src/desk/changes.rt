@@ -1,5 +1,4 @@
 use super::day::{Row, run};
-use std::test::Fail;
 use xm_rules::{Command, Condition, Kind, Refusal, Restriction, Side, Validity};
 
 const CHANGES: [Row; 15] = [
@@ -21,8 +20,8 @@ const CHANGES: [Row; 15] = [
 ];
 
 #[test]
-fn change_keeps_or_loses_place(rt: HostRuntime) -> Result<(), Fail> {
-    run(&rt, 100, &CHANGES)
+fn change_keeps_or_loses_place(rt: HostRuntime) {
+    run(&rt, 100, &CHANGES);
 }
 
 const OTHER_LIMITS: [Row; 5] = [
@@ -34,8 +33,8 @@ const OTHER_LIMITS: [Row; 5] = [
 ];
 
 #[test]
-fn other_limit_loses_the_place(rt: HostRuntime) -> Result<(), Fail> {
-    run(&rt, 100, &OTHER_LIMITS)
+fn other_limit_loses_the_place(rt: HostRuntime) {
+    run(&rt, 100, &OTHER_LIMITS);
 }
 
 const CANCELLATIONS: [Row; 10] = [
@@ -52,6 +51,6 @@ const CANCELLATIONS: [Row; 10] = [
 ];
 
 #[test]
-fn cancel_all_twice(rt: HostRuntime) -> Result<(), Fail> {
-    run(&rt, 100, &CANCELLATIONS)
+fn cancel_all_twice(rt: HostRuntime) {
+    run(&rt, 100, &CANCELLATIONS);
 }

@@ -2,7 +2,6 @@ use super::{bought, settings};
 use std::alloc::Allocator;
 use std::marker::Model;
 use std::process::Abort;
-use std::test::Fail;
 use xm_desk::{Desk, OpenFault};
 use xm_memory::OutOfMemory;
 use xm_names::Storage;
@@ -49,22 +48,33 @@ pub enum Row {
 }
 
 /// Runs a day, whose journal takes this many commands of a member, row by row.
-pub fn run(rt: &(impl Abort + AllocGlobal), limit: u32, rows: &[Row]) -> Result<(), Fail> {
-    let mut day = Day::open(rt.alloc(), limit)?;
+pub fn run(rt: &(impl Abort + AllocGlobal), limit: u32, rows: &[Row]) {
+    let mut day = Day::open(rt, rt.alloc(), limit);
     for row in rows {
         match row {
             Row::Gives(step) => day.give_step(rt, step),
             Row::Leaves(live) => day.buys_are(rt, live),
         }
     }
-    Ok(())
+}
+
+/// Runs a day, whose journal takes this many commands of a member, command by command.
+pub fn run_steps(rt: &(impl Abort + AllocGlobal), limit: u32, steps: &[Step]) {
+    let mut day = Day::open(rt, rt.alloc(), limit);
+    day.give_all(rt, steps);
 }
 
 /// A desk under test. A clause sees nothing of it: the proof of a test is long where it follows what
 /// each call promises.
-#[derive(Drop)]
 pub struct Day<A: Allocator + Copy> {
     desk: Desk<A>,
+}
+
+// In a function of its own, so that whoever drops one proves one call.
+impl<A: Allocator + Copy> Drop for Day<A> {
+    fn drop(self) {
+        let Day { desk: _desk } = self;
+    }
 }
 
 impl<A: Allocator + Copy> Model for Day<A> {
@@ -75,15 +85,16 @@ impl<A: Allocator + Copy> Model for Day<A> {
 
 impl<A: Allocator + Copy> Day<A> {
     /// A day before the opening, whose journal takes this many commands of a member.
-    pub fn open(alloc: A, limit: u32) -> Result<Day<A>, Fail> {
-        Ok(Day::opened(alloc, settings(limit)?)?)
+    pub fn open(rt: &impl Abort, alloc: A, limit: u32) -> Day<A> {
+        Day::opened(alloc, settings(rt, limit)).expect(rt, "a desk")
     }
 
     /// A day with these settings before the opening.
     pub fn opened(alloc: A, settings: DeskSettings) -> Result<Day<A>, OpenFault> {
-        Ok(Day {
-            desk: Desk::open(Storage::with_fixed_seed(alloc), settings)?,
-        })
+        match Desk::Storage::with_fixed_seed(open(alloc), settings) {
+            Ok(desk) => Ok(Day { desk }),
+            Err(fault) => Err(fault),
+        }
     }
 
     /// Makes room for so many commands ahead.
@@ -102,7 +113,7 @@ impl<A: Allocator + Copy> Day<A> {
             None => assert!(rt; answer.is_ok() || lacks_memory(&answer)),
         }
         let added = if answer.is_ok() { 1 } else { 0 };
-        assert_eq!(rt; self.desk.journal().len() - accepted, added);
+        assert!(rt; self.desk.journal().len() - accepted == added);
         answer
     }
 
@@ -148,18 +159,13 @@ impl<A: Allocator + Copy> Day<A> {
 
     /// Compares the live orders.
     pub fn orders_are(&self, rt: &impl Abort, expected: &[Order]) {
-        match self.orders() {
-            Ok(orders) => assert!(rt; orders.as_slice() == expected),
-            Err(_refused) => panic!(rt; "no memory for the orders"),
-        }
+        let orders = self.orders().expect(rt, "memory");
+        assert!(rt; orders.as_slice() == expected);
     }
 
     /// Compares the live orders with limited buy orders for the day.
     pub fn buys_are(&self, rt: &impl Abort, expected: &[Bought]) {
-        match self.orders() {
-            Ok(orders) => are_buys(rt, &orders, expected),
-            Err(_refused) => panic!(rt; "no memory for the orders"),
-        }
+        are_buys(rt, &self.orders().expect(rt, "memory"), expected);
     }
 
     pub fn settings(&self) -> &DeskSettings {
@@ -189,11 +195,8 @@ impl<A: Allocator + Copy> Day<A> {
 
     /// The best limits in ticks of the active buys and sells.
     pub fn best_limits(&self) -> (Option<u32>, Option<u32>) {
-        let ticks = |limit: Price| limit.get();
-        (
-            self.desk.best(Side::Buy).map(ticks),
-            self.desk.best(Side::Sell).map(ticks),
-        )
+        let (buy, sell) = (self.desk.best(Side::Buy), self.desk.best(Side::Sell));
+        (ticks(buy), ticks(sell))
     }
 
     pub fn quote(&self) -> Quote {
@@ -218,13 +221,21 @@ impl<A: Allocator + Copy> Day<A> {
     }
 }
 
+/// A limit in ticks.
+pub fn ticks(limit: Option<Price>) -> Option<u32> {
+    match limit {
+        Some(limit) => Some(limit.get()),
+        None => None,
+    }
+}
+
 fn is_bought(order: &Order, expected: Bought) -> bool {
     let (member, reference, limit, rest) = expected;
     bought(member, reference, limit, rest) == Some(*order)
 }
 
 fn are_buys(rt: &impl Abort, orders: &[Order], expected: &[Bought]) {
-    assert_eq!(rt; orders.len(), expected.len());
+    assert!(rt; orders.len() == expected.len());
     for (order, expected) in orders.iter().zip(expected) {
         assert!(rt; is_bought(order, *expected));
     }

@@ -2,7 +2,6 @@ use super::day::{Day, lacks_memory};
 use super::settings;
 use std::alloc::Allocator;
 use std::process::Abort;
-use std::test::Fail;
 use xm_refusing::Refusing;
 use xm_rules::{Command, Condition, Kind, Order, Phase, Restriction, Side, Validity};
 
@@ -70,12 +69,12 @@ impl Refused {
     }
 
     /// Opens a day, once more where the first answer is for want of memory.
-    fn open<A: Allocator + Copy>(&mut self, alloc: A) -> Result<Day<A>, Fail> {
-        if let Ok(day) = Day::opened(alloc, settings(100)?) {
-            return Ok(day);
+    fn open<A: Allocator + Copy>(&mut self, rt: &impl Abort, alloc: A) -> Day<A> {
+        if let Ok(day) = Day::opened(alloc, settings(rt, 100)) {
+            return day;
         }
         self.openings = self.openings.wrapping_add(1);
-        Day::open(alloc, 100)
+        Day::open(rt, alloc, 100)
     }
 
     /// Makes room for so many commands ahead, once more where the first answer is for want of memory, which changes nothing.
@@ -130,30 +129,28 @@ impl Refused {
 
     /// Runs a day that makes room for so many commands ahead, in which the request of this number is refused, and answers
     /// whether one was.
-    fn run<A: Allocator + Copy>(
-        &mut self,
-        rt: &impl Abort,
-        alloc: A,
-        ahead: usize,
-        nth: u64,
-    ) -> Result<bool, Fail> {
-        let mut like = Day::open(alloc, 100)?;
-        let refusing = Refusing::new(alloc, nth);
-        let mut day = self.open(&refusing)?;
+    fn run(&mut self, rt: &(impl Abort + AllocGlobal), ahead: usize, nth: u64) -> bool {
+        let mut like = Day::open(rt, rt.alloc(), 100);
+        let refusing = Refusing::new(rt.alloc(), nth);
+        let mut day = self.open(rt, &refusing);
         self.reserve(rt, &mut day, &like, ahead);
         self.give_all(rt, &mut day, &mut like);
-        Ok(refusing.has_refused())
+        refusing.has_refused()
+    }
+
+    /// Compares the counts after days of which the last one, of this number, had no request refused.
+    fn are_counted(&self, rt: &impl Abort, rooms: u64, made_good: u64, nth: u64) {
+        let answered = self.commands.wrapping_add(self.lists);
+        let before = self.openings.wrapping_add(rooms);
+        assert!(rt; self.openings == 1 && self.rooms == rooms);
+        assert!(rt; answered.wrapping_add(before).wrapping_add(made_good) == nth.wrapping_sub(1));
+        assert!(rt; self.commands > 0 && self.lists > 0);
     }
 }
 
 /// Runs days that make room for so many commands ahead, with each request refused in turn. Each refusal but those made good is
 /// an answer for want of memory, and this many are answers of the room.
-fn refuse_each(
-    rt: &(impl Abort + AllocGlobal),
-    ahead: usize,
-    rooms: u64,
-    made_good: u64,
-) -> Result<(), Fail> {
+fn refuse_each(rt: &(impl Abort + AllocGlobal), ahead: usize, rooms: u64, made_good: u64) {
     let mut refused = Refused {
         openings: 0,
         rooms: 0,
@@ -161,34 +158,26 @@ fn refuse_each(
         lists: 0,
     };
     for nth in 1..300 {
-        if !refused.run(rt, rt.alloc(), ahead, nth)? {
-            let answered = refused.commands.wrapping_add(refused.lists);
-            let before = refused.openings.wrapping_add(rooms);
-            assert!(rt; refused.openings == 1 && refused.rooms == rooms);
-            assert_eq!(rt;
-                answered.wrapping_add(before).wrapping_add(made_good),
-                nth.wrapping_sub(1)
-            );
-            assert!(rt; refused.commands > 0 && refused.lists > 0);
-            return Ok(());
+        if !refused.run(rt, ahead, nth) {
+            refused.are_counted(rt, rooms, made_good, nth);
+            return;
         }
     }
-    Err(Fail::from("memory was refused in each run"))
+    panic!(rt; "memory was refused in each run")
 }
 
 #[test]
-fn each_growth_refused_in_turn(rt: HostRuntime) -> Result<(), Fail> {
-    refuse_each(&rt, 0, 0, MADE_GOOD)
+fn each_growth_refused_in_turn(rt: HostRuntime) {
+    refuse_each(&rt, 0, 0, MADE_GOOD);
 }
 
 #[test]
-fn each_growth_refused_after_room_was_made(rt: HostRuntime) -> Result<(), Fail> {
-    refuse_each(&rt, COMMANDS.len(), 2, MADE_GOOD)
+fn each_growth_refused_after_room_was_made(rt: HostRuntime) {
+    refuse_each(&rt, COMMANDS.len(), 2, MADE_GOOD);
 }
 
 #[test]
-fn room_is_made_for_no_more_commands_than_a_journal_takes(rt: HostRuntime) -> Result<(), Fail> {
-    let mut day = Day::open(rt.alloc(), 100)?;
+fn room_is_made_for_no_more_commands_than_a_journal_takes(rt: HostRuntime) {
+    let mut day = Day::open(&rt, rt.alloc(), 100);
     assert!(&rt; day.reserve(usize::MAX).is_ok());
-    Ok(())
 }

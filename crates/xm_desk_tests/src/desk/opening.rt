@@ -1,57 +1,63 @@
 use super::day::Day;
 use super::settings;
-use std::alloc::Allocator;
-use std::test::Fail;
-use xm_desk::{Desk, OpenFault};
-use xm_names::Storage;
+use std::process::Abort;
+use xm_desk::OpenFault;
 use xm_refusing::Refusing;
 use xm_rules::{DeskSettings, Widths};
 
 /// The fault of a desk whose first growth is refused.
-fn refused_opening<A: Allocator + Copy>(alloc: A) -> Result<OpenFault, Fail> {
-    let refusing = Refusing::new(alloc, 1);
-    match Day::opened(&refusing, settings(100)?) {
-        Ok(_day) => Err(Fail::from("nothing was refused")),
-        Err(fault) => Ok(fault),
+fn refused_opening(rt: &(impl Abort + AllocGlobal)) -> OpenFault {
+    let refusing = Refusing::new(rt.alloc(), 1);
+    let opened = Day::opened(&refusing, settings(rt, 100));
+    opened.err().expect(rt, "nothing was refused")
+}
+
+/// The number of members, and the dynamic, the static and the wide width, with the fault of a desk of them.
+type Opening = (u32, [u32; 3], Option<OpenFault>);
+
+/// Compares the fault of a desk.
+fn is_opened(rt: &(impl Abort + AllocGlobal), (members, widths, fault): Opening) {
+    let [dynamic, statics, wide] = widths;
+    let settings = DeskSettings {
+        members,
+        widths: Widths {
+            dynamic,
+            statics,
+            wide,
+        },
+        ..settings(rt, 100)
+    };
+    let answer = Day::opened(rt.alloc(), settings).err();
+    assert!(rt; answer == fault, "of {members} and {widths:?}");
+}
+
+const OPENINGS: [Opening; 7] = [
+    (1000, [1, 999, 2], None),
+    (1001, [0, 50, 40], Some(OpenFault::TooMany)),
+    (2, [0, 50, 40], Some(OpenFault::BadWidths)),
+    (2, [20, 0, 40], Some(OpenFault::BadWidths)),
+    (2, [20, 1000, 40], Some(OpenFault::BadWidths)),
+    (2, [20, 50, 1000], Some(OpenFault::BadWidths)),
+    (2, [20, 50, 20], Some(OpenFault::BadWidths)),
+];
+
+#[test]
+fn opening_faults(rt: HostRuntime) {
+    for opening in OPENINGS {
+        is_opened(&rt, opening);
     }
 }
 
+/// Compares the text of a fault.
+fn has_text(rt: &(impl Abort + AllocGlobal), fault: OpenFault, text: &str) {
+    let written = (format!(in rt.alloc(); "{fault}")).expect(rt, "memory");
+    assert!(rt; written.as_str() == text, "{text}");
+}
+
 #[test]
-fn opening_faults(rt: HostRuntime) -> Result<(), Fail> {
-    let widths = |dynamic, statics, wide| Widths {
-        dynamic,
-        statics,
-        wide,
-    };
-    let opened = [
-        (1000, widths(1, 999, 2), None),
-        (1001, widths(0, 50, 40), Some(OpenFault::TooMany)),
-        (2, widths(0, 50, 40), Some(OpenFault::BadWidths)),
-        (2, widths(20, 0, 40), Some(OpenFault::BadWidths)),
-        (2, widths(20, 1000, 40), Some(OpenFault::BadWidths)),
-        (2, widths(20, 50, 1000), Some(OpenFault::BadWidths)),
-        (2, widths(20, 50, 20), Some(OpenFault::BadWidths)),
-    ];
-    for (members, widths, fault) in opened {
-        let changed = DeskSettings {
-            members,
-            widths,
-            ..settings(100)?
-        };
-        assert_eq!(rt;
-            Desk::open(Storage::with_fixed_seed(rt.alloc()), changed).err(),
-            fault
-        );
-    }
-    let texts = [
-        (OpenFault::NoSecurity, "no security"),
-        (OpenFault::TooMany, "too many securities or members"),
-        (OpenFault::BadWidths, "bad widths of the price ranges"),
-        (refused_opening(rt.alloc())?, "out of memory"),
-    ];
-    for (fault, text) in texts {
-        let written = format!(in rt.alloc(); "{fault}")?;
-        assert_eq!(rt; written.as_str(), text);
-    }
-    Ok(())
+fn texts_of_opening_faults(rt: HostRuntime) {
+    has_text(&rt, OpenFault::NoSecurity, "no security");
+    has_text(&rt, OpenFault::TooMany, "too many securities or members");
+    has_text(&rt, OpenFault::BadWidths, "bad widths of the price ranges");
+    has_text(&rt, refused_opening(&rt), "out of memory");
 }

@@ -1,6 +1,7 @@
 use super::day::{Day, Row, run};
 use super::settings;
-use std::test::Fail;
+use std::alloc::Global;
+use std::process::Abort;
 use xm_rules::{
     Auction, CallStage, Command, Condition, Kind, Order, OrderKind, Phase, Refusal, Reply,
     Restriction, Side, Validity,
@@ -17,24 +18,27 @@ const COMMANDS: [Command; 4] = [
 ];
 
 #[test]
-fn orders_before_and_in_the_opening_call(rt: HostRuntime) -> Result<(), Fail> {
-    let mut day = Day::open(rt.alloc(), 100)?;
-    for command in COMMANDS.as_slice() {
-        assert!(rt; day.give(&rt, *command).is_ok());
-    }
+fn orders_before_and_in_the_opening_call(rt: HostRuntime) {
+    let mut day = Day::open(&rt, rt.alloc(), 100);
+    accepts(&rt, &mut day, &COMMANDS);
     day.buys_are(&rt, &[(1, 2, 990, 7)]);
-    assert_eq!(rt; day.reference_prices(), (1000, 1000));
+    assert!(rt; day.reference_prices() == (1000, 1000));
     assert!(rt; day.journal() == COMMANDS.as_slice());
-    Ok(())
+}
+
+/// Gives a day commands, each of which it accepts.
+fn accepts(rt: &impl Abort, day: &mut Day<Global>, commands: &[Command]) {
+    for command in commands {
+        assert!(rt; day.give(rt, *command).is_ok(), "{command:?}");
+    }
 }
 
 #[test]
-fn settings_and_phase_before_the_day(rt: HostRuntime) -> Result<(), Fail> {
-    let expected = settings(100)?;
-    let day = Day::open(rt.alloc(), 100)?;
+fn settings_and_phase_before_the_day(rt: HostRuntime) {
+    let expected = settings(&rt, 100);
+    let day = Day::open(&rt, rt.alloc(), 100);
     assert!(rt; *day.settings() == expected);
     assert!(rt; day.phase() == Phase::PreTrading);
-    Ok(())
 }
 
 /// The reply to a command that makes no trade.
@@ -57,13 +61,17 @@ const REPLIES: [(Command, u64, Phase); 3] = [
 ];
 
 #[test]
-fn replies_before_and_in_the_opening_call(rt: HostRuntime) -> Result<(), Fail> {
-    let mut day = Day::open(rt.alloc(), 100)?;
+fn replies_before_and_in_the_opening_call(rt: HostRuntime) {
+    let mut day = Day::open(&rt, rt.alloc(), 100);
     for (command, version, phase) in REPLIES.as_slice() {
-        assert!(rt; day.apply(&rt, *command) == Ok(reply(*version, *phase)));
-        assert!(rt; day.phase() == *phase);
+        replies(&rt, &mut day, command, reply(*version, *phase));
     }
-    Ok(())
+}
+
+/// Compares the reply to a command, and the phase after it.
+fn replies(rt: &impl Abort, day: &mut Day<Global>, command: &Command, reply: Reply) {
+    assert!(rt; day.apply(rt, *command) == Ok(reply));
+    assert!(rt; day.phase() == reply.phase);
 }
 
 const NAMES: [Row; 6] = [
@@ -76,8 +84,8 @@ const NAMES: [Row; 6] = [
 ];
 
 #[test]
-fn names_of_orders(rt: HostRuntime) -> Result<(), Fail> {
-    run(&rt, 100, &NAMES)
+fn names_of_orders(rt: HostRuntime) {
+    run(&rt, 100, &NAMES);
 }
 
 /// Orders of every kind, each with an earlier reference than the one before.
@@ -135,14 +143,13 @@ fn entry_of(order: &Order) -> Command {
 }
 
 #[test]
-fn orders_of_every_kind_in_time_order(rt: HostRuntime) -> Result<(), Fail> {
-    let orders = orders_of_every_kind().ok_or("no price")?;
-    let mut day = Day::open(rt.alloc(), 100)?;
+fn orders_of_every_kind_in_time_order(rt: HostRuntime) {
+    let orders = orders_of_every_kind().expect(&rt, "prices");
+    let mut day = Day::open(&rt, rt.alloc(), 100);
     for order in &orders {
         assert!(rt; day.give(&rt, entry_of(order)).is_ok());
     }
     day.orders_are(&rt, &orders);
     assert!(rt; day.give(&rt, Command::StartOpening) == Ok(5));
     day.orders_are(&rt, &orders);
-    Ok(())
 }

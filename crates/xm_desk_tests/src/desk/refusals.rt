@@ -1,6 +1,5 @@
 use super::bought;
-use super::day::{Day, Row, Step, run};
-use std::test::Fail;
+use super::day::{Day, Row, Step, run, run_steps};
 use xm_rules::{Command, Condition, Kind, Order, OrderKind, Refusal, Restriction, Side, Validity};
 
 /// An entry of member 0 with what the later checks ask.
@@ -38,24 +37,28 @@ const IN_ORDER: [Row; 15] = [
 ];
 
 #[test]
-fn refusals_in_order(rt: HostRuntime) -> Result<(), Fail> {
-    run(&rt, 2, &IN_ORDER)
+fn refusals_in_order(rt: HostRuntime) {
+    run(&rt, 2, &IN_ORDER);
 }
 
-const FULL: [Step; 3] = [
+/// A journal that eight commands of a member fill.
+const FULL: [Step; 11] = [
+    (buy!(0, 1, 990, 1), Ok(1)),
+    (buy!(0, 2, 990, 1), Ok(2)),
+    (buy!(0, 3, 990, 1), Ok(3)),
+    (buy!(0, 4, 990, 1), Ok(4)),
+    (buy!(0, 5, 990, 1), Ok(5)),
+    (buy!(0, 6, 990, 1), Ok(6)),
+    (buy!(0, 7, 990, 1), Ok(7)),
+    (buy!(0, 8, 990, 1), Ok(8)),
     (buy!(0, 9, 990, 1), Err(Refusal::JournalFull)),
     (buy!(0, 9, 990, 0), Err(Refusal::BadQuantity)),
     (Command::StartOpening, Ok(9)),
 ];
 
 #[test]
-fn full_journal(rt: HostRuntime) -> Result<(), Fail> {
-    let mut day = Day::open(rt.alloc(), 8)?;
-    for reference in 1..9 {
-        assert!(rt; day.give(&rt, buy!(0, reference, 990, 1)).is_ok());
-    }
-    day.give_all(&rt, &FULL);
-    Ok(())
+fn full_journal(rt: HostRuntime) {
+    run_steps(&rt, 8, &FULL);
 }
 
 const YESTERDAY: Validity = Validity::TillDate(20260104);
@@ -123,10 +126,8 @@ const ENTRIES: [Step; 8] = [
 ];
 
 #[test]
-fn refusals_of_entries(rt: HostRuntime) -> Result<(), Fail> {
-    let mut day = Day::open(rt.alloc(), 100)?;
-    day.give_all(&rt, &ENTRIES);
-    Ok(())
+fn refusals_of_entries(rt: HostRuntime) {
+    run_steps(&rt, 100, &ENTRIES);
 }
 
 const CHANGES: [Step; 11] = [
@@ -163,10 +164,9 @@ const CHANGED: Order = Order {
 };
 
 #[test]
-fn refusals_of_changes(rt: HostRuntime) -> Result<(), Fail> {
-    let untouched = bought(1, 1, 1000, 10).ok_or("no price")?;
-    let mut day = Day::open(rt.alloc(), 3)?;
+fn refusals_of_changes(rt: HostRuntime) {
+    let untouched = bought(1, 1, 1000, 10).expect(&rt, "a price");
+    let mut day = Day::open(&rt, rt.alloc(), 3);
     day.give_all(&rt, &CHANGES);
     day.orders_are(&rt, &[untouched, CHANGED]);
-    Ok(())
 }

@@ -1,6 +1,5 @@
 //! Refusals where stops are entered or held, each check before the ones behind it.
-use super::day::{Day, Step};
-use std::test::Fail;
+use super::day::{Day, Step, run_steps};
 use xm_rules::{Command, Condition, Kind, Refusal, Restriction, Side, Validity};
 
 /// The entry of a sell stop, or order, with what the checks ask.
@@ -141,10 +140,8 @@ const IN_CALL: [Step; 29] = [
 ];
 
 #[test]
-fn refusals_with_stops_in_order(rt: HostRuntime) -> Result<(), Fail> {
-    let mut day = Day::open(rt.alloc(), 3)?;
-    day.give_all(&rt, &IN_CALL);
-    Ok(())
+fn refusals_with_stops_in_order(rt: HostRuntime) {
+    run_steps(&rt, 3, &IN_CALL);
 }
 
 /// The day ends with a stop that is still held: what comes then is refused for that, but for an unknown member.
@@ -187,10 +184,8 @@ const AFTER_THE_DAY: [Step; 14] = [
 ];
 
 #[test]
-fn refusals_after_the_day(rt: HostRuntime) -> Result<(), Fail> {
-    let mut day = Day::open(rt.alloc(), 4)?;
+fn refusals_after_the_day(rt: HostRuntime) {
+    let mut day = Day::open(&rt, rt.alloc(), 4);
     day.give_all(&rt, &AFTER_THE_DAY);
-    let stops = day.stops().expect(&rt, "memory");
-    assert_eq!(rt; stops.len(), 1);
-    Ok(())
+    assert!(rt; day.stops().expect(&rt, "memory").len() == 1);
 }

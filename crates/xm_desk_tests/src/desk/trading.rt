@@ -1,7 +1,7 @@
 //! Continuous trading: what an incoming order is executed at, where it stops, and what is left of it.
-use super::day::{Day, OPENED, Position, Traded};
+use super::day::{Day, OPENED, Position, Traded, ticks};
+use std::alloc::Global;
 use std::process::Abort;
-use std::test::Fail;
 use xm_rules::{
     Auction, CallStage, Command, Condition, Kind, Order, Phase, Restriction, Side, Totals, Trade,
     Validity,
@@ -56,27 +56,29 @@ macro_rules! interrupted {
 }
 
 fn are_live(rt: &impl Abort, orders: &[Order], live: &[Live]) {
-    assert_eq!(rt; orders.len(), live.len());
-    for (order, (member, reference, rest)) in orders.iter().zip(live) {
-        assert!(rt; order.member == *member && order.reference == *reference);
-        assert!(rt; order.rest == *rest);
+    assert!(rt; orders.len() == live.len());
+    for (order, live) in orders.iter().zip(live) {
+        assert!(rt; (order.member, order.reference, order.rest) == *live);
     }
 }
 
-fn is_shown<A: std::alloc::Allocator + Copy>(rt: &impl Abort, day: &Day<A>, scene: &Scene) {
+fn is_shown(rt: &impl Abort, day: &Day<Global>, scene: &Scene) {
     assert!(rt; day.best_limits() == scene.best);
     assert!(rt; day.reference_prices() == scene.prices);
     let quote = day.quote();
     assert!(rt; quote.version == day.journal().len() as u64);
     assert!(rt; quote.phase == day.phase());
     assert!(rt; (quote.ref1.get(), quote.ref2.get()) == scene.prices);
-    assert!(rt; quote.best_buy.map(|limit| limit.get()) == scene.best.0);
-    assert!(rt; quote.best_sell.map(|limit| limit.get()) == scene.best.1);
+    assert!(rt; (ticks(quote.best_buy), ticks(quote.best_sell)) == scene.best);
+    assert!(rt; quote.quantity == quantity_of(day.trades()));
+}
+
+fn quantity_of(trades: &[Trade]) -> u64 {
     let mut quantity: u64 = 0;
-    for trade in day.trades() {
+    for trade in trades {
         quantity = quantity.wrapping_add(u64::from(trade.quantity));
     }
-    assert_eq!(rt; quote.quantity, quantity);
+    quantity
 }
 
 /// What these trades come to for a member, and in all, in units and in ticks times units.
@@ -105,7 +107,7 @@ fn summed(trades: &[Trade], member: u32) -> (Position, Totals) {
 }
 
 /// Compares the positions of the members with the sums over the trades. A third one isn't there.
-fn are_positions<A: std::alloc::Allocator + Copy>(rt: &impl Abort, day: &Day<A>) {
+fn are_positions(rt: &impl Abort, day: &Day<Global>) {
     for member in 0..2 {
         let (position, totals) = summed(day.trades(), member);
         assert!(rt; day.position(member) == position);
@@ -114,17 +116,19 @@ fn are_positions<A: std::alloc::Allocator + Copy>(rt: &impl Abort, day: &Day<A>)
     assert!(rt; day.position(2) == (None, None, false));
 }
 
-fn play(rt: &(impl Abort + AllocGlobal), scenes: &[Scene]) -> Result<(), Fail> {
+fn play_scene(rt: &(impl Abort + AllocGlobal), scene: &Scene) {
+    let mut day = Day::open(rt, rt.alloc(), 100);
+    day.trade_all(rt, &OPENED);
+    day.trade_all(rt, scene.commands);
+    is_shown(rt, &day, scene);
+    are_positions(rt, &day);
+    are_live(rt, &day.orders().expect(rt, "memory"), scene.live);
+}
+
+fn play(rt: &(impl Abort + AllocGlobal), scenes: &[Scene]) {
     for scene in scenes {
-        let mut day = Day::open(rt.alloc(), 100)?;
-        day.trade_all(rt, &OPENED);
-        day.trade_all(rt, scene.commands);
-        is_shown(rt, &day, scene);
-        are_positions(rt, &day);
-        let orders = day.orders().expect(rt, "memory");
-        are_live(rt, &orders, scene.live);
+        play_scene(rt, scene);
     }
-    Ok(())
 }
 
 /// A resting market order is met at the best of the last price, the best limit of its side, and the incoming limit.
@@ -214,8 +218,8 @@ const MARKET_ORDERS: [Scene; 8] = [
 ];
 
 #[test]
-fn market_orders_that_are_met(rt: HostRuntime) -> Result<(), Fail> {
-    play(&rt, &MARKET_ORDERS)
+fn market_orders_that_are_met(rt: HostRuntime) {
+    play(&rt, &MARKET_ORDERS);
 }
 
 /// An order meets one inside the ranges and one outside: what it trades, and what becomes of its rest.
@@ -285,8 +289,8 @@ const AT_A_RANGE: [Scene; 5] = [
 ];
 
 #[test]
-fn orders_at_a_range(rt: HostRuntime) -> Result<(), Fail> {
-    play(&rt, &AT_A_RANGE)
+fn orders_at_a_range(rt: HostRuntime) {
+    play(&rt, &AT_A_RANGE);
 }
 
 /// Changed orders that come in again, orders for auctions alone, and an auction whose price is outside the static range alone.
@@ -383,6 +387,6 @@ const OTHERS: [Scene; 5] = [
 ];
 
 #[test]
-fn changes_and_auctions_in_between(rt: HostRuntime) -> Result<(), Fail> {
-    play(&rt, &OTHERS)
+fn changes_and_auctions_in_between(rt: HostRuntime) {
+    play(&rt, &OTHERS);
 }
