@@ -91,7 +91,7 @@ impl<A: Allocator + Copy> Day<A> {
 
     /// A day with these settings before the opening.
     pub fn opened(alloc: A, settings: DeskSettings) -> Result<Day<A>, OpenFault> {
-        match Desk::Storage::with_fixed_seed(open(alloc), settings) {
+        match Desk::open(Storage::with_fixed_seed(alloc), settings) {
             Ok(desk) => Ok(Day { desk }),
             Err(fault) => Err(fault),
         }
