@@ -1,17 +1,15 @@
-mod batches;
 mod growths;
 mod whole_day;
 
 use crate::files::fixtures::{
-    CASCADE, ERROR_KINDS, HEADER, NO_SECURITY, ORDERS, OneByteReader, SEGMENT, ShortWriter,
-    replaced,
+    BAD_WIDTHS, CASCADE, ERROR_KINDS, Failure, HEADER, NO_SECURITY, ORDERS, OneByteReader, SEGMENT,
+    ShortWriter, replaced,
 };
 use crate::memory::want_of_memory;
 use std::alloc::Global;
-use std::io::{ErrorKind, Read};
+use std::io::{ErrorKind, Read, Write};
 use std::process::Abort;
-use std::test::Fail;
-use xm_day::{DayFault, DayReport, run_alone};
+use xm_day::{DayFault, run_alone};
 use xm_desk::OpenFault;
 use xm_files::{FileCause, FileFault};
 use xm_names::Storage;
@@ -27,62 +25,76 @@ MEMBER BBB 0.0000
 ";
 
 /// The statement of the day of `ORDERS`, with this many refused rows.
-fn written(alloc: Global, refused: u64) -> Result<String, Fail> {
-    Ok(format!(in alloc; "{STATEMENT}ROWS 5 {refused}\n")?)
+fn written(rt: &(impl Abort + AllocGlobal), refused: u64) -> String {
+    (format!(in rt.alloc(); "{STATEMENT}ROWS 5 {refused}\n")).expect(rt, "memory")
 }
 
-/// Compares the counts that a day answers, of accepted and of refused rows, and the statement that it wrote.
-fn has_statement(
-    rt: &(impl Abort + AllocGlobal),
+/// What a day answers: the counts of its accepted and of its refused rows, or its fault.
+type Answer = Result<(u64, u64), DayFault>;
+
+/// Runs a day. A clause sees nothing of it.
+fn run_day(
+    alloc: Global,
     segment: &mut impl Read,
     orders: &mut impl Read,
-    counts: (u64, u64),
+    out: &mut impl Write,
+) -> Answer {
+    let report = run_alone(Storage::with_fixed_seed(alloc), segment, orders, out)?;
+    Ok((report.accepted, report.refused))
+}
+
+/// Compares what a day answers, and what it writes.
+fn ends(
+    rt: &(impl Abort + AllocGlobal),
+    name: &str,
+    segment: &mut impl Read,
+    orders: &mut impl Read,
+    expected: Answer,
     statement: &str,
-) -> Result<(), Fail> {
-    let mut out = Vec::new(rt.alloc());
-    let report = run_alone(
-        Storage::with_fixed_seed(rt.alloc()),
-        segment,
-        orders,
-        &mut out,
-    )?;
-    assert!(rt; (report.accepted, report.refused) == counts);
-    assert!(rt; out.as_slice() == statement.as_bytes());
-    Ok(())
-}
-
-/// Compares the answer of the day of `ORDERS` with the rows that it refused, and what it wrote.
-fn is_written(
-    rt: &(impl Abort + AllocGlobal),
-    segment: &mut impl Read,
-    orders: &mut impl Read,
-    refused: u64,
-) -> Result<(), Fail> {
-    let statement = written(rt.alloc(), refused)?;
-    has_statement(rt, segment, orders, (5, refused), statement.as_str())
-}
-
-/// Compares the fault of a day, which writes nothing.
-fn has_fault(
-    rt: &(impl Abort + AllocGlobal),
-    segment: &mut impl Read,
-    orders: &mut impl Read,
-    fault: DayFault,
 ) {
     let mut out = Vec::new(rt.alloc());
-    let answer = run_alone(
-        Storage::with_fixed_seed(rt.alloc()),
-        segment,
-        orders,
-        &mut out,
-    );
-    assert_eq!(rt; answer.err(), Some(fault));
-    assert!(rt; out.is_empty());
+    let answer = run_day(rt.alloc(), segment, orders, &mut out);
+    let is_written = out.as_slice() == statement.as_bytes();
+    assert!(rt; answer == expected && is_written, "{name}");
 }
 
-#[test]
-fn orders_before_and_in_the_opening_call(rt: HostRuntime) -> Result<(), Fail> {
-    is_written(&rt, &mut SEGMENT.as_bytes(), &mut ORDERS.as_bytes(), 0)
+/// Compares the counts of accepted and of refused rows of the day of two texts, and its statement.
+fn has_statement(
+    rt: &(impl Abort + AllocGlobal),
+    name: &str,
+    segment: &str,
+    orders: &str,
+    counts: (u64, u64),
+    statement: &str,
+) {
+    let (mut segment, mut orders) = (segment.as_bytes(), orders.as_bytes());
+    ends(rt, name, &mut segment, &mut orders, Ok(counts), statement);
+}
+
+/// Compares the fault of the day of two texts, which writes nothing.
+fn has_fault(
+    rt: &(impl Abort + AllocGlobal),
+    name: &str,
+    segment: &str,
+    orders: &str,
+    fault: DayFault,
+) {
+    let (mut segment, mut orders) = (segment.as_bytes(), orders.as_bytes());
+    ends(rt, name, &mut segment, &mut orders, Err(fault), "");
+}
+
+/// Compares what the day of `ORDERS` answers whose files are read byte by byte, and what it writes.
+fn ends_slowly(
+    rt: &(impl Abort + AllocGlobal),
+    segment: Failure,
+    orders: Failure,
+    expected: Answer,
+    statement: &str,
+) {
+    let name = "read byte by byte";
+    let mut segment = OneByteReader::new(SEGMENT, segment);
+    let mut orders = OneByteReader::new(ORDERS, orders);
+    ends(rt, name, &mut segment, &mut orders, expected, statement);
 }
 
 /// The statement of the day of `CASCADE`, as `examples/cascade.statement`.
@@ -103,61 +115,152 @@ ROWS 11 1
 ";
 
 #[test]
-fn a_day_with_a_cascade(rt: HostRuntime) -> Result<(), Fail> {
+fn a_day_with_a_cascade(rt: HostRuntime) {
     has_statement(
         &rt,
-        &mut SEGMENT.as_bytes(),
-        &mut CASCADE.as_bytes(),
+        "a cascade",
+        SEGMENT,
+        CASCADE,
         (11, 1),
         CASCADE_STATEMENT,
-    )
+    );
 }
 
-/// A row for each refusal that an order file reaches, after `ORDERS`, and how many commands the
-/// journal takes.
-const REFUSED_ROWS: [(&str, u32, &str); 8] = [
-    (
+/// What comes after `ORDERS`: how many commands the journal takes, a text, how often it stands there, and how many of its rows
+/// are refused.
+#[derive(Clone, Copy)]
+struct Later {
+    name: &'static str,
+    limit: u32,
+    rows: &'static str,
+    times: u32,
+    refused: u64,
+}
+
+/// A row that is refused, as its name says, by a journal of so many commands.
+macro_rules! refused {
+    ($name:expr, $limit:expr, $rows:expr) => {
+        Later {
+            name: $name,
+            limit: $limit,
+            rows: $rows,
+            times: 1,
+            refused: 1,
+        }
+    };
+}
+
+/// The cancellation of an order that isn't there.
+const CANCELLATION: &str = "cancel,AAA,9,XYZ,,,,,,,,\n";
+
+/// So many cancellations.
+macro_rules! cancelled {
+    ($name:expr, $times:expr) => {
+        Later {
+            name: $name,
+            limit: 100,
+            rows: CANCELLATION,
+            times: $times,
+            refused: $times,
+        }
+    };
+}
+
+/// Nothing, a row for each refusal that an order file reaches, two of them, and the rows of many batches.
+const LATER: [Later; 16] = [
+    Later {
+        name: "nothing",
+        limit: 100,
+        rows: "",
+        times: 0,
+        refused: 0,
+    },
+    refused!(
         "UnknownSecurity",
         100,
-        "enter,AAA,3,ABC,buy,limit,10.00,,10,,,",
+        "enter,AAA,3,ABC,buy,limit,10.00,,10,,,\n"
     ),
-    (
+    refused!(
         "UnknownMember",
         100,
-        "enter,CCC,3,XYZ,buy,limit,10.00,,10,,,",
+        "enter,CCC,3,XYZ,buy,limit,10.00,,10,,,\n"
     ),
-    ("BadQuantity", 100, "enter,AAA,3,XYZ,buy,limit,10.00,,0,,,"),
-    ("BadPrice", 100, "enter,AAA,3,XYZ,buy,limit,10.005,,10,,,"),
-    ("WrongPhase", 100, "open,,,*,,,,,,,,"),
-    (
+    refused!(
+        "BadQuantity",
+        100,
+        "enter,AAA,3,XYZ,buy,limit,10.00,,0,,,\n"
+    ),
+    refused!("BadPrice", 100, "enter,AAA,3,XYZ,buy,limit,10.005,,10,,,\n"),
+    refused!("WrongPhase", 100, "open,,,*,,,,,,,,\n"),
+    refused!(
         "DuplicateReference",
         100,
-        "enter,AAA,2,XYZ,buy,limit,10.00,,10,,,",
+        "enter,AAA,2,XYZ,buy,limit,10.00,,10,,,\n"
     ),
-    ("UnknownOrder", 100, "cancel,AAA,1,XYZ,,,,,,,,"),
-    ("JournalFull", 5, "enter,AAA,3,XYZ,buy,limit,10.00,,10,,,"),
+    refused!("UnknownOrder", 100, "cancel,AAA,1,XYZ,,,,,,,,\n"),
+    refused!("JournalFull", 5, "enter,AAA,3,XYZ,buy,limit,10.00,,10,,,\n"),
+    Later {
+        name: "an unknown member, and a price that is off its tick",
+        limit: 100,
+        rows: "enter,ZZZ,1,XYZ,buy,limit,10.00,,10,,,\nenter,AAA,3,XYZ,buy,limit,10.005,,10,,,\n",
+        times: 1,
+        refused: 2,
+    },
+    cancelled!("506 rows", 506),
+    cancelled!("507 rows", 507),
+    cancelled!("508 rows", 508),
+    cancelled!("1,019 rows", 1019),
+    cancelled!("1,020 rows", 1020),
+    cancelled!("3,000 rows", 3000),
 ];
 
-#[test]
-fn refused_rows_are_counted(rt: HostRuntime) -> Result<(), Fail> {
-    let alloc = rt.alloc();
-    for (_refusal, limit, row) in REFUSED_ROWS {
-        let journal = format!(in alloc; "journal = {limit}")?;
-        let segment = replaced(alloc, SEGMENT, "journal = 100", journal.as_str())?;
-        let orders = format!(in alloc; "{ORDERS}{row}\n")?;
-        is_written(&rt, &mut segment.as_bytes(), &mut orders.as_bytes(), 1)?;
+/// `ORDERS`, and so often a text behind them.
+fn with_rows(rt: &(impl Abort + AllocGlobal), rows: &str, times: u32) -> String {
+    let mut orders = String::from_str(rt.alloc(), ORDERS).expect(rt, "memory");
+    for _ in 0..times {
+        orders.push_str(rows).expect(rt, "memory");
     }
-    Ok(())
+    orders
 }
 
-/// A row of an unknown member, and one with a price that is off its tick.
-const TWO_REFUSED_ROWS: &str =
-    "enter,ZZZ,1,XYZ,buy,limit,10.00,,10,,,\nenter,AAA,3,XYZ,buy,limit,10.005,,10,,,\n";
+/// Compares the statement of the day of `ORDERS` with what comes after it.
+fn is_counted(rt: &(impl Abort + AllocGlobal), later: &Later) {
+    let journal = (format!(in rt.alloc(); "journal = {}", later.limit)).expect(rt, "memory");
+    let segment = replaced(rt.alloc(), SEGMENT, "journal = 100", journal.as_str());
+    let segment = segment.expect(rt, "a journal");
+    let orders = with_rows(rt, later.rows, later.times);
+    let statement = written(rt, later.refused);
+    has_statement(
+        rt,
+        later.name,
+        segment.as_str(),
+        orders.as_str(),
+        (5, later.refused),
+        statement.as_str(),
+    );
+}
 
 #[test]
-fn two_refused_rows_more(rt: HostRuntime) -> Result<(), Fail> {
-    let orders = format!(in rt.alloc(); "{ORDERS}{TWO_REFUSED_ROWS}")?;
-    is_written(&rt, &mut SEGMENT.as_bytes(), &mut orders.as_bytes(), 2)
+fn refused_rows_are_counted(rt: HostRuntime) {
+    for later in &LATER {
+        is_counted(&rt, later);
+    }
+}
+
+const LATE_FAULT: DayFault = DayFault::Orders(FileFault {
+    line: 2007,
+    cause: FileCause::BadField,
+});
+
+#[test]
+fn a_fault_in_a_later_batch(rt: HostRuntime) {
+    let mut orders = with_rows(&rt, CANCELLATION, 2000);
+    orders
+        .push_str("cancel,AAA,x,XYZ,,,,,,,,\n")
+        .expect(&rt, "memory");
+    let orders = orders.as_str();
+    has_fault(&rt, "a late fault", SEGMENT, orders, LATE_FAULT);
+    has_fault(&rt, "no security", NO_SECURITY, orders, LATE_FAULT);
 }
 
 const BAD_VALUE: DayFault = DayFault::Segment(FileFault {
@@ -173,62 +276,65 @@ const BAD_HEADER: DayFault = DayFault::Orders(FileFault {
 const NINE_NAMES: [&str; 9] = ["A", "B", "C", "D", "E", "F", "G", "H", "I"];
 
 /// `SEGMENT` with a security like its own under each of these names.
-fn segment_of(alloc: Global, names: &[&str]) -> Result<String, Fail> {
-    let (top, security) = SEGMENT.split_once("[[security]]").ok_or("no security")?;
-    let mut segment = String::from_str(alloc, top)?;
+fn segment_of(rt: &(impl Abort + AllocGlobal), names: &[&str]) -> String {
+    let (top, security) = SEGMENT.split_once("[[security]]").expect(rt, "a security");
+    let mut segment = String::from_str(rt.alloc(), top).expect(rt, "memory");
     for name in names {
-        let named = replaced(alloc, security, "XYZ", name)?;
-        segment.push_str("[[security]]")?;
-        segment.push_str(named.as_str())?;
+        let named = replaced(rt.alloc(), security, "XYZ", name).expect(rt, "a name");
+        segment.push_str("[[security]]").expect(rt, "memory");
+        segment.push_str(named.as_str()).expect(rt, "memory");
     }
-    Ok(segment)
+    segment
 }
 
 /// The statement of the day of `segment_of` after the opening call of each security has begun.
-fn statement_of(alloc: Global, names: &[&str]) -> Result<String, Fail> {
-    let mut statement = String::from_str(alloc, "DAY 20260105\n")?;
+fn statement_of(rt: &(impl Abort + AllocGlobal), names: &[&str]) -> String {
+    let mut statement = String::from_str(rt.alloc(), "DAY 20260105\n").expect(rt, "memory");
     for name in names {
-        let security = format!(in alloc;
+        let security = format!(in rt.alloc();
             "SECURITY {name} opening-call\nREFERENCES 10.0000 10.0000\nTOTAL 0 0.0000\n"
-        )?;
-        statement.push_str(security.as_str())?;
+        );
+        statement
+            .push_str(security.expect(rt, "memory").as_str())
+            .expect(rt, "memory");
     }
-    statement.push_str("MEMBER AAA 0.0000\nMEMBER BBB 0.0000\nROWS 8 0\n")?;
-    Ok(statement)
+    statement
+        .push_str("MEMBER AAA 0.0000\nMEMBER BBB 0.0000\nROWS 8 0\n")
+        .expect(rt, "memory");
+    statement
 }
 
+/// An opening of all securities.
+const OPENING: &str = orders!("open,,,*,,,,,,,,\n");
+
 #[test]
-fn eight_securities_are_opened(rt: HostRuntime) -> Result<(), Fail> {
-    let eight = &NINE_NAMES[..8];
-    let segment = segment_of(rt.alloc(), eight)?;
-    let orders = format!(in rt.alloc(); "{HEADER}open,,,*,,,,,,,,\n")?;
-    let statement = statement_of(rt.alloc(), eight)?;
+fn eight_securities_are_opened(rt: HostRuntime) {
+    let segment = segment_of(&rt, &NINE_NAMES[..8]);
+    let statement = statement_of(&rt, &NINE_NAMES[..8]);
     has_statement(
         &rt,
-        &mut segment.as_bytes(),
-        &mut orders.as_bytes(),
+        "eight securities",
+        segment.as_str(),
+        OPENING,
         (8, 0),
         statement.as_str(),
-    )
+    );
 }
 
 #[test]
-fn faults_in_order(rt: HostRuntime) -> Result<(), Fail> {
-    let alloc = rt.alloc();
-    let nine = segment_of(alloc, &NINE_NAMES)?;
-    let wide = replaced(alloc, SEGMENT, "dynamic = 20", "dynamic = 40")?;
-    let damaged = replaced(alloc, SEGMENT, "tick = 100", "tick = 0")?;
-    let faults = [
-        (damaged.as_str(), "", BAD_VALUE),
-        (nine.as_str(), "", BAD_HEADER),
-        (nine.as_str(), HEADER, DayFault::Open(OpenFault::TooMany)),
-        (NO_SECURITY, HEADER, DayFault::Open(OpenFault::NoSecurity)),
-        (wide.as_str(), HEADER, DayFault::Open(OpenFault::BadWidths)),
-    ];
-    for (segment, orders, fault) in faults {
-        has_fault(&rt, &mut segment.as_bytes(), &mut orders.as_bytes(), fault);
-    }
-    Ok(())
+fn faults_in_order(rt: HostRuntime) {
+    let nine = segment_of(&rt, &NINE_NAMES);
+    let damaged = replaced(rt.alloc(), SEGMENT, "tick = 100", "tick = 0").expect(&rt, "a tick");
+    has_fault(&rt, "a bad tick", damaged.as_str(), "", BAD_VALUE);
+    has_fault(&rt, "no header", nine.as_str(), "", BAD_HEADER);
+    opens_as(&rt, "nine securities", nine.as_str(), OpenFault::TooMany);
+    opens_as(&rt, "no security", NO_SECURITY, OpenFault::NoSecurity);
+    opens_as(&rt, "bad widths", BAD_WIDTHS, OpenFault::BadWidths);
+}
+
+/// Compares the fault of a segment that isn't opened, on a day without rows.
+fn opens_as(rt: &(impl Abort + AllocGlobal), name: &str, segment: &str, fault: OpenFault) {
+    has_fault(rt, name, segment, HEADER, DayFault::Open(fault));
 }
 
 /// Compares what a writer with this room holds, which then fails.
@@ -239,36 +345,38 @@ fn fails_after(
     failure: Option<ErrorKind>,
 ) {
     let mut out = ShortWriter::new(rt.alloc(), start.len(), failure);
-    let answer = run_alone(
-        Storage::with_fixed_seed(rt.alloc()),
-        &mut SEGMENT.as_bytes(),
-        &mut orders.as_bytes(),
-        &mut out,
-    );
-    assert!(rt; answer.err() == Some(DayFault::WriteFailed));
+    let (mut segment, mut orders) = (SEGMENT.as_bytes(), orders.as_bytes());
+    let answer = run_day(rt.alloc(), &mut segment, &mut orders, &mut out);
+    assert!(rt; answer == Err(DayFault::WriteFailed));
     assert!(rt; out.bytes.as_slice() == start);
 }
 
-/// Compares what writers hold that fail, or take no byte, after each number of bytes that is less than the statement's.
-fn fails_at_each_byte(rt: &(impl Abort + AllocGlobal), orders: &str, statement: &str) {
-    let failures = [
-        None,
-        Some(ErrorKind::BrokenPipe),
-        Some(ErrorKind::Interrupted),
-    ];
-    for failure in failures {
-        for room in 0..statement.len() {
-            fails_after(rt, orders, &statement.as_bytes()[..room], failure);
-        }
+/// Compares what writers hold that fail so after each number of bytes that is less than the statement's.
+fn fails_at_each_byte(
+    rt: &(impl Abort + AllocGlobal),
+    orders: &str,
+    statement: &[u8],
+    failure: Option<ErrorKind>,
+) {
+    for room in 0..statement.len() {
+        fails_after(rt, orders, &statement[..room], failure);
     }
 }
 
+/// How a writer fails: it takes no byte, or answers one of these errors.
+const FAILURES: [Option<ErrorKind>; 3] = [
+    None,
+    Some(ErrorKind::BrokenPipe),
+    Some(ErrorKind::Interrupted),
+];
+
 #[test]
-fn failing_writers(rt: HostRuntime) -> Result<(), Fail> {
-    let statement = written(rt.alloc(), 0)?;
-    fails_at_each_byte(&rt, ORDERS, statement.as_str());
-    fails_at_each_byte(&rt, CASCADE, CASCADE_STATEMENT);
-    Ok(())
+fn failing_writers(rt: HostRuntime) {
+    let statement = written(&rt, 0);
+    for failure in FAILURES {
+        fails_at_each_byte(&rt, ORDERS, statement.as_bytes(), failure);
+        fails_at_each_byte(&rt, CASCADE, CASCADE_STATEMENT.as_bytes(), failure);
+    }
 }
 
 #[test]
@@ -286,40 +394,31 @@ const READ_FAILED: FileFault = FileFault {
 };
 
 #[test]
-fn slow_readers(rt: HostRuntime) -> Result<(), Fail> {
-    let mut segment = OneByteReader::new(SEGMENT, None);
-    let mut orders = OneByteReader::new(ORDERS, None);
-    is_written(&rt, &mut segment, &mut orders, 0)
+fn slow_readers(rt: HostRuntime) {
+    let statement = written(&rt, 0);
+    ends_slowly(&rt, None, None, Ok((5, 0)), statement.as_str());
+}
+
+/// Compares the fault of a segment file that fails so at this call.
+fn segment_fails(rt: &(impl Abort + AllocGlobal), call: usize, kind: ErrorKind) {
+    let fault = DayFault::Segment(READ_FAILED);
+    ends_slowly(rt, Some((call, kind)), None, Err(fault), "");
+}
+
+/// Compares the fault of an order file that fails so at this call.
+fn orders_fail(rt: &(impl Abort + AllocGlobal), call: usize, kind: ErrorKind) {
+    let fault = DayFault::Orders(READ_FAILED);
+    ends_slowly(rt, None, Some((call, kind)), Err(fault), "");
 }
 
 #[test]
-fn failing_readers_of_a_segment(rt: HostRuntime) {
+fn failing_readers(rt: HostRuntime) {
     for kind in [ErrorKind::BrokenPipe, ErrorKind::Interrupted] {
         for call in 0..SEGMENT.len() + 1 {
-            let mut segment = OneByteReader::new(SEGMENT, Some((call, kind)));
-            let mut orders = OneByteReader::new(ORDERS, None);
-            has_fault(
-                &rt,
-                &mut segment,
-                &mut orders,
-                DayFault::Segment(READ_FAILED),
-            );
+            segment_fails(&rt, call, kind);
         }
-    }
-}
-
-#[test]
-fn failing_readers_of_orders(rt: HostRuntime) {
-    for kind in [ErrorKind::BrokenPipe, ErrorKind::Interrupted] {
         for call in 0..ORDERS.len() + 1 {
-            let mut segment = OneByteReader::new(SEGMENT, None);
-            let mut orders = OneByteReader::new(ORDERS, Some((call, kind)));
-            has_fault(
-                &rt,
-                &mut segment,
-                &mut orders,
-                DayFault::Orders(READ_FAILED),
-            );
+            orders_fail(&rt, call, kind);
         }
     }
 }
@@ -327,16 +426,10 @@ fn failing_readers_of_orders(rt: HostRuntime) {
 #[test]
 fn readers_that_fail_with_each_kind_of_error(rt: HostRuntime) {
     for kind in ERROR_KINDS {
-        for call in [0, 40] {
-            let mut failing = OneByteReader::new(SEGMENT, Some((call, kind)));
-            let mut orders = OneByteReader::new(ORDERS, None);
-            let fault = DayFault::Segment(READ_FAILED);
-            has_fault(&rt, &mut failing, &mut orders, fault);
-            let mut segment = OneByteReader::new(SEGMENT, None);
-            let mut failing = OneByteReader::new(ORDERS, Some((call, kind)));
-            let fault = DayFault::Orders(READ_FAILED);
-            has_fault(&rt, &mut segment, &mut failing, fault);
-        }
+        segment_fails(&rt, 0, kind);
+        segment_fails(&rt, 40, kind);
+        orders_fail(&rt, 0, kind);
+        orders_fail(&rt, 40, kind);
     }
 }
 
@@ -356,17 +449,19 @@ const TEXTS: [(DayFault, &str); 4] = [
 ];
 
 /// Compares the text of a fault.
-fn has_text(rt: &(impl Abort + AllocGlobal), fault: DayFault, text: &str) -> Result<(), Fail> {
-    let written = format!(in rt.alloc(); "{fault}")?;
-    assert_eq!(rt; written.as_str(), text);
-    Ok(())
+fn has_text(rt: &(impl Abort + AllocGlobal), fault: DayFault, text: &str) {
+    let written = (format!(in rt.alloc(); "{fault}")).expect(rt, "memory");
+    assert!(rt; written.as_str() == text, "{text}");
 }
 
 #[test]
-fn fault_texts(rt: HostRuntime) -> Result<(), Fail> {
+fn fault_texts(rt: HostRuntime) {
     for (fault, text) in TEXTS {
-        has_text(&rt, fault, text)?;
+        has_text(&rt, fault, text);
     }
-    let memory = want_of_memory(rt.alloc())?;
-    has_text(&rt, DayFault::OutOfMemory(memory), "out of memory")
+    has_text(
+        &rt,
+        DayFault::OutOfMemory(want_of_memory(&rt)),
+        "out of memory",
+    );
 }

@@ -2,6 +2,38 @@
 //! is proved once and not again with its tests, and those of the desk are proved beside them.
 #![tactic(auto)]
 
+/// A segment file of one security, with this dynamic width in thousandths.
+macro_rules! segment {
+    ($dynamic:expr) => {
+        concat!(
+            "date = 20260105
+members = [\"AAA\", \"BBB\"]
+
+[[security]]
+name = \"XYZ\"
+tick = 100
+reference = \"10.00\"
+dynamic = ",
+            $dynamic,
+            "
+static = 50
+wide = 40
+journal = 100
+"
+        )
+    };
+}
+
+/// An order file of these rows.
+macro_rules! orders {
+    ($rows:expr) => {
+        concat!(
+            "command,member,reference,security,side,kind,limit,trigger,quantity,validity,restriction,condition\n",
+            $rows
+        )
+    };
+}
+
 #[cfg(test)]
 mod day;
 #[cfg(test)]

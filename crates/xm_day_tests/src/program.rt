@@ -1,37 +1,46 @@
 //! The fault lines, the answers to command lines, and the reads and writes that fail.
 
+/// A command line that prints on standard output alone.
+macro_rules! prints {
+    ($printed:expr, $($word:expr),*) => {
+        End {
+            words: &[b"xetra-day", $($word),*],
+            status: 0,
+            printed: $printed,
+            complained: Printed::Nothing,
+        }
+    };
+}
+
+/// A command line that ends with this status and prints on standard error alone.
+macro_rules! complains {
+    ($status:expr, $complained:expr, $($word:expr),*) => {
+        End {
+            words: &[b"xetra-day", $($word),*],
+            status: $status,
+            printed: Printed::Nothing,
+            complained: $complained,
+        }
+    };
+}
+
 mod ends;
 mod help;
 mod runtime;
 
+use crate::files::fixtures::{HEADER, SEGMENT};
 use crate::memory::want_of_memory;
+use ends::Printed;
 use std::alloc::Global;
 use std::fs::File;
 use std::io::{Read, Write};
 use std::process::Abort;
-use std::test::Fail;
 use std::{fs, io};
 use xm_day::DayFault;
 use xm_desk::OpenFault;
 use xm_files::{FileCause, FileFault};
 use xm_names::Storage;
 use xm_program::{Failure, Input, Request, fault_line, open_input, read_words, run};
-
-const DAY: &[u8] = b"date = 20260105
-members = [\"AAA\", \"BBB\"]
-
-[[security]]
-name = \"XYZ\"
-tick = 100
-reference = \"10.00\"
-dynamic = 20
-static = 50
-wide = 40
-journal = 100
-";
-
-const NO_ORDERS: &[u8] =
-    b"command,member,reference,security,side,kind,limit,trigger,quantity,validity,restriction,condition\n";
 
 /// A fault of a file, in this line.
 macro_rules! at {
@@ -85,136 +94,143 @@ const OTHER_FAULTS: [(DayFault, &str); 4] = [
 
 /// Compares the line by which the program tells of a fault.
 fn has_line(rt: &impl Abort, fault: DayFault, expected: &str) {
-    assert!(rt; fault_line(fault).as_slice() == expected.as_bytes());
+    assert!(rt;
+        fault_line(fault).as_slice() == expected.as_bytes(),
+        "{expected}"
+    );
 }
 
 /// Compares the lines by which the program tells of a fault in either file.
-fn has_lines(rt: &(impl Abort + AllocGlobal), fault: &FileFault, end: &str) -> Result<(), Fail> {
-    let line = format!(in rt.alloc(); "xetra-day: segment: {end}")?;
-    has_line(rt, DayFault::Segment(*fault), line.as_str());
-    let line = format!(in rt.alloc(); "xetra-day: orders: {end}")?;
-    has_line(rt, DayFault::Orders(*fault), line.as_str());
-    Ok(())
+fn has_lines(rt: &(impl Abort + AllocGlobal), fault: FileFault, end: &str) {
+    let line = (format!(in rt.alloc(); "xetra-day: segment: {end}")).expect(rt, "memory");
+    has_line(rt, DayFault::Segment(fault), line.as_str());
+    let line = (format!(in rt.alloc(); "xetra-day: orders: {end}")).expect(rt, "memory");
+    has_line(rt, DayFault::Orders(fault), line.as_str());
 }
 
 #[test]
-fn each_fault_of_a_file_has_its_line(rt: HostRuntime) -> Result<(), Fail> {
+fn each_fault_of_a_file_has_its_line(rt: HostRuntime) {
     for (fault, end) in FILE_FAULTS {
-        has_lines(&rt, &fault, end)?;
+        has_lines(&rt, fault, end);
     }
-    let memory = want_of_memory(rt.alloc())?;
-    has_lines(
-        &rt,
-        &at!(0, FileCause::OutOfMemory(memory)),
-        "line 0: OutOfMemory\n",
-    )
+    let memory = FileCause::OutOfMemory(want_of_memory(&rt));
+    has_lines(&rt, at!(0, memory), "line 0: OutOfMemory\n");
 }
 
 #[test]
-fn each_other_fault_has_its_line(rt: HostRuntime) -> Result<(), Fail> {
+fn each_other_fault_has_its_line(rt: HostRuntime) {
     for (fault, line) in OTHER_FAULTS {
         has_line(&rt, fault, line);
     }
-    let memory = want_of_memory(rt.alloc())?;
+    let memory = want_of_memory(&rt);
     let open = DayFault::Open(OpenFault::OutOfMemory(memory));
     has_line(&rt, open, "xetra-day: open: OutOfMemory\n");
-    has_line(
-        &rt,
-        DayFault::OutOfMemory(memory),
-        "xetra-day: out of memory\n",
-    );
-    Ok(())
+    let day = DayFault::OutOfMemory(memory);
+    has_line(&rt, day, "xetra-day: out of memory\n");
+}
+
+/// A command line of these words, after the program's name.
+fn command_line(rt: &(impl Abort + AllocGlobal), words: &[&str]) -> Vec<String> {
+    let mut line = Vec::new(rt.alloc());
+    for word in ["target/xetra_day"].iter().chain(words) {
+        let word = String::from_str(rt.alloc(), word).expect(rt, "memory");
+        line.push(word).ok().expect(rt, "memory");
+    }
+    line
 }
 
 /// What a command line is answered with, as a text that tells which answer it is.
-fn answer_to(alloc: Global, words: &[&str]) -> Result<String, Fail> {
-    let mut line = Vec::new(alloc);
-    line.push(String::from_str(alloc, "target/xetra_day")?)?;
-    for word in words {
-        line.push(String::from_str(alloc, word)?)?;
-    }
-    let answer = match read_words(alloc, line.as_slice()) {
+fn answer_to(rt: &(impl Abort + AllocGlobal), line: &[String]) -> String {
+    let alloc = rt.alloc();
+    let answer = match read_words(alloc, line) {
         Ok(Request::Run { segment, orders }) => format!(in alloc; "run {segment} and {orders}"),
         Ok(Request::Help(text)) => format!(in alloc; "help {text}"),
         Err(Failure::Day(fault)) => format!(in alloc; "fault {fault}"),
         Err(Failure::Words(text)) => format!(in alloc; "{text}"),
     };
-    Ok(answer?)
+    answer.expect(rt, "memory")
 }
 
-/// The words of command lines, without the program's name, with what they are answered.
-type Answered = (&'static [&'static str], &'static str);
+/// The words of a command line, without the program's name, with what they are answered.
+type Answered = (&'static [&'static str], Printed);
 
 const RUNS: [Answered; 3] = [
-    (&["run", "day.toml", "day.csv"], "run day.toml and day.csv"),
-    (&["run", "--", "-s", "--orders"], "run -s and --orders"),
-    (&["run", "a day", ""], "run a day and "),
+    (
+        &["run", "day.toml", "day.csv"],
+        Printed::Text("run day.toml and day.csv"),
+    ),
+    (
+        &["run", "--", "-s", "--orders"],
+        Printed::Text("run -s and --orders"),
+    ),
+    (&["run", "a day", ""], Printed::Text("run a day and ")),
 ];
 
 const MISTAKES: [Answered; 5] = [
     (
         &["run"],
-        "error: the following required arguments were not provided:\n  <SEGMENT>\n  <ORDERS>\n\nUsage: xetra-day run <SEGMENT> <ORDERS>\n\nFor more information, try '--help'.\n",
+        Printed::Text(
+            "error: the following required arguments were not provided:\n  <SEGMENT>\n  <ORDERS>\n\nUsage: xetra-day run <SEGMENT> <ORDERS>\n\nFor more information, try '--help'.\n",
+        ),
     ),
     (
         &["run", "day.toml"],
-        "error: the following required arguments were not provided:\n  <ORDERS>\n\nUsage: xetra-day run <SEGMENT> <ORDERS>\n\nFor more information, try '--help'.\n",
+        Printed::Text(
+            "error: the following required arguments were not provided:\n  <ORDERS>\n\nUsage: xetra-day run <SEGMENT> <ORDERS>\n\nFor more information, try '--help'.\n",
+        ),
     ),
     (
         &["run", "day.toml", "day.csv", "more"],
-        "error: unexpected argument 'more' found\n\nUsage: xetra-day run <SEGMENT> <ORDERS>\n\nFor more information, try '--help'.\n",
+        Printed::Text(
+            "error: unexpected argument 'more' found\n\nUsage: xetra-day run <SEGMENT> <ORDERS>\n\nFor more information, try '--help'.\n",
+        ),
     ),
     (
         &["run", "-s", "day.csv"],
-        "error: unexpected argument '-s' found\n\n  tip: to pass '-s' as a value, use '-- -s'\n\nUsage: xetra-day run <SEGMENT> <ORDERS>\n\nFor more information, try '--help'.\n",
+        Printed::Text(
+            "error: unexpected argument '-s' found\n\n  tip: to pass '-s' as a value, use '-- -s'\n\nUsage: xetra-day run <SEGMENT> <ORDERS>\n\nFor more information, try '--help'.\n",
+        ),
     ),
     (
         &["walk", "day.toml", "day.csv"],
-        "error: unrecognized subcommand 'walk'\n\nUsage: xetra-day <COMMAND>\n\nFor more information, try '--help'.\n",
+        Printed::Text(
+            "error: unrecognized subcommand 'walk'\n\nUsage: xetra-day <COMMAND>\n\nFor more information, try '--help'.\n",
+        ),
     ),
 ];
 
-/// The words that ask for help, with how it begins.
-const HELP: [Answered; 5] = [
-    (&["--help"], "help Replays a trading day"),
-    (&["-h"], "help Replays a trading day"),
-    (&["help"], "help Replays a trading day"),
-    (&["run", "--help"], "help Runs the day of two files"),
-    (&["help", "run"], "help Runs the day of two files"),
+/// The words that ask for help, and none, with how the help begins.
+const HELP: [Answered; 6] = [
+    (&["--help"], WHOLE_HELP),
+    (&["-h"], WHOLE_HELP),
+    (&["help"], WHOLE_HELP),
+    (&["run", "--help"], RUN_HELP),
+    (&["help", "run"], RUN_HELP),
+    (&[], Printed::Between("Replays a trading day", "")),
 ];
 
-fn are_answered(rt: &(impl Abort + AllocGlobal), answers: &[Answered]) -> Result<(), Fail> {
+const WHOLE_HELP: Printed = Printed::Between("help Replays a trading day", "");
+
+const RUN_HELP: Printed = Printed::Between("help Runs the day of two files", "");
+
+/// Compares what a command line of these words is answered.
+fn is_answered(rt: &(impl Abort + AllocGlobal), words: &[&str], answer: Printed) {
+    let line = command_line(rt, words);
+    let text = answer_to(rt, line.as_slice());
+    assert!(rt; answer.is(text.as_str()), "{text}");
+}
+
+fn are_answered(rt: &(impl Abort + AllocGlobal), answers: &[Answered]) {
     for (words, answer) in answers {
-        let text = answer_to(rt.alloc(), words)?;
-        assert_eq!(rt; text.as_str(), *answer);
+        is_answered(rt, words, *answer);
     }
-    Ok(())
 }
 
 #[test]
-fn words_of_a_run(rt: HostRuntime) -> Result<(), Fail> {
-    are_answered(&rt, &RUNS)
-}
-
-#[test]
-fn mistaken_words(rt: HostRuntime) -> Result<(), Fail> {
-    are_answered(&rt, &MISTAKES)
-}
-
-#[test]
-fn no_words(rt: HostRuntime) -> Result<(), Fail> {
-    let text = answer_to(rt.alloc(), &[])?;
-    assert!(rt; text.as_str().starts_with("Replays a trading day"));
-    Ok(())
-}
-
-#[test]
-fn help_is_an_answer(rt: HostRuntime) -> Result<(), Fail> {
-    for (words, start) in HELP {
-        let text = answer_to(rt.alloc(), words)?;
-        assert!(rt; text.as_str().starts_with(start));
-    }
-    Ok(())
+fn words_of_command_lines(rt: HostRuntime) {
+    are_answered(&rt, &RUNS);
+    are_answered(&rt, &MISTAKES);
+    are_answered(&rt, &HELP);
 }
 
 /// A writer that takes each byte and fails when it is flushed.
@@ -231,45 +247,53 @@ impl Write for Unflushed {
     }
 }
 
+/// Runs the day of two files. A clause sees nothing of it.
+fn run_day(
+    alloc: Global,
+    segment: &mut impl Read,
+    orders: &mut impl Read,
+    out: &mut impl Write,
+) -> Result<(), DayFault> {
+    run(Storage::with_fixed_seed(alloc), segment, orders, out)
+}
+
+/// Compares the fault of the day of two files, which writes nothing.
+fn has_fault(
+    rt: &(impl Abort + AllocGlobal),
+    segment: &mut impl Read,
+    orders: &mut impl Read,
+    fault: DayFault,
+) {
+    let mut out = Vec::new(rt.alloc());
+    let answer = run_day(rt.alloc(), segment, orders, &mut out);
+    assert!(rt; answer == Err(fault) && out.is_empty());
+}
+
+const READ_FAILED: FileFault = at!(0, FileCause::ReadFailed);
+
 #[test]
 fn unopened_files_fail_in_turn(rt: HostRuntime) {
     let mut missing = open_input(|path| fs::open(&rt, path), "no/such/file");
     assert!(rt; missing.read(&mut [0; 8]).is_err());
     let mut orders: Input<File> = Input::Unopened;
+    let fault = DayFault::Segment(READ_FAILED);
+    has_fault(&rt, &mut missing, &mut orders, fault);
+    let fault = DayFault::Orders(READ_FAILED);
+    has_fault(&rt, &mut SEGMENT.as_bytes(), &mut orders, fault);
+}
+
+/// Runs the day of two texts, and answers its statement.
+fn statement_of(rt: &(impl Abort + AllocGlobal), segment: &str, orders: &str) -> Vec<u8> {
     let mut out = Vec::new(rt.alloc());
-    let both = run(
-        Storage::with_fixed_seed(rt.alloc()),
-        &mut missing,
-        &mut orders,
-        &mut out,
-    );
-    assert!(rt; both == Err(DayFault::Segment(at!(0, FileCause::ReadFailed))));
-    let one = run(
-        Storage::with_fixed_seed(rt.alloc()),
-        &mut &DAY[..],
-        &mut orders,
-        &mut out,
-    );
-    assert!(rt; one == Err(DayFault::Orders(at!(0, FileCause::ReadFailed))));
-    assert!(rt; out.is_empty());
+    let (mut segment, mut orders) = (segment.as_bytes(), orders.as_bytes());
+    run_day(rt.alloc(), &mut segment, &mut orders, &mut out).expect(rt, "a statement");
+    out
 }
 
 #[test]
 fn an_unflushed_statement_is_not_written(rt: HostRuntime) {
-    let mut out = Vec::new(rt.alloc());
-    let written = run(
-        Storage::with_fixed_seed(rt.alloc()),
-        &mut &DAY[..],
-        &mut &NO_ORDERS[..],
-        &mut out,
-    );
-    assert!(rt; written.is_ok());
-    assert!(rt; !out.is_empty());
-    let unflushed = run(
-        Storage::with_fixed_seed(rt.alloc()),
-        &mut &DAY[..],
-        &mut &NO_ORDERS[..],
-        &mut Unflushed,
-    );
-    assert!(rt; unflushed == Err(DayFault::WriteFailed));
+    let (mut segment, mut orders) = (SEGMENT.as_bytes(), HEADER.as_bytes());
+    assert!(rt; !statement_of(&rt, SEGMENT, HEADER).is_empty());
+    let answer = run_day(rt.alloc(), &mut segment, &mut orders, &mut Unflushed);
+    assert!(rt; answer == Err(DayFault::WriteFailed));
 }

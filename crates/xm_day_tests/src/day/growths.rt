@@ -3,13 +3,12 @@ use super::CASCADE_STATEMENT;
 use crate::files::fixtures::{CASCADE, SEGMENT};
 use std::alloc::Global;
 use std::process::Abort;
-use std::test::Fail;
 use xm_day::{DayFault, DayReport, statement};
 use xm_desk::Desk;
-use xm_files::{read_rows, read_segment};
+use xm_files::{SegmentNames, read_rows, read_segment};
 use xm_names::Storage;
 use xm_refusing::Refusing;
-use xm_segment::Row;
+use xm_segment::{Row, SegmentConfig};
 
 /// Gives rows to a desk, and counts them.
 fn take(desk: &mut Desk<Global>, rows: &[Row]) -> DayReport {
@@ -38,28 +37,63 @@ fn is_whole_or_nothing(rt: &impl Abort, answer: Result<(), DayFault>, refused: b
     }
 }
 
-#[test]
-fn refused_growths_of_a_statement(rt: HostRuntime) -> Result<(), Fail> {
-    let alloc = rt.alloc();
-    let (config, names) = read_segment(alloc, &mut SEGMENT.as_bytes())?;
-    let rows = read_rows(alloc, &mut CASCADE.as_bytes(), &names, &config)?;
-    let security = config.securities.as_slice().first().ok_or("no security")?;
-    let mut desk = Desk::open(
-        Storage::with_fixed_seed(alloc),
-        config.settings_of(security),
-    )?;
-    let report = take(&mut desk, rows.as_slice());
-    let desks = [desk];
-    assert!(&rt; names.securities() == 1);
+/// Whether a request is refused where a statement is written with the one of this number refused.
+fn is_refused(
+    rt: &(impl Abort + AllocGlobal),
+    desks: &[Desk<Global>],
+    names: &SegmentNames,
+    report: &DayReport,
+    nth: u64,
+) -> bool {
+    let refusing = Refusing::new(rt.alloc(), nth);
+    let mut out = Vec::new(rt.alloc());
+    assert!(rt; desks.len() == 1 && names.securities() == 1);
+    let answer = statement(&refusing, desks, names, report, &mut out);
+    is_whole_or_nothing(rt, answer, refusing.has_refused(), out.as_slice());
+    refusing.has_refused()
+}
+
+/// Refuses each request of a statement in turn, of which there are more than five.
+fn refuse_each(
+    rt: &(impl Abort + AllocGlobal),
+    desks: &[Desk<Global>],
+    names: &SegmentNames,
+    report: &DayReport,
+) {
     for nth in 1..u64::MAX {
-        let refusing = Refusing::new(alloc, nth);
-        let mut out = Vec::new(alloc);
-        let answer = statement(&refusing, &desks, &names, &report, &mut out);
-        is_whole_or_nothing(&rt, answer, refusing.has_refused(), out.as_slice());
-        if !refusing.has_refused() {
-            assert!(&rt; nth > 5);
-            return Ok(());
+        if !is_refused(rt, desks, names, report, nth) {
+            assert!(rt; nth > 5);
+            return;
         }
     }
-    Ok(())
+}
+
+/// The desk of a segment of one security, after some rows, and their counts.
+fn worked(
+    rt: &(impl Abort + AllocGlobal),
+    config: &SegmentConfig,
+    rows: &[Row],
+) -> (Desk<Global>, DayReport) {
+    let security = config
+        .securities
+        .as_slice()
+        .first()
+        .expect(rt, "a security");
+    let settings = config.settings_of(security);
+    let mut desk = Desk::open(Storage::with_fixed_seed(rt.alloc()), settings).expect(rt, "a desk");
+    let report = take(&mut desk, rows);
+    (desk, report)
+}
+
+/// Compares what is written of the statement of the day of two texts, with each request for memory refused in turn.
+fn is_refused_in_turn(rt: &(impl Abort + AllocGlobal), segment: &str, orders: &str) {
+    let (config, names) = read_segment(rt.alloc(), &mut segment.as_bytes()).expect(rt, "a segment");
+    let rows = read_rows(rt.alloc(), &mut orders.as_bytes(), &names, &config).expect(rt, "rows");
+    let (desk, report) = worked(rt, &config, rows.as_slice());
+    refuse_each(rt, &[desk], &names, &report);
+}
+
+#[test]
+fn refused_growths_of_a_statement(rt: HostRuntime) {
+    is_refused_in_turn(&rt, SEGMENT, CASCADE);
 }

@@ -1,6 +1,5 @@
 //! A day of three securities with orders of all kinds.
 use super::has_statement;
-use std::test::Fail;
 
 /// As `examples/whole_day.segment.toml`.
 const SEGMENT: &str =
@@ -37,9 +36,8 @@ journal = 100
 ";
 
 /// As `examples/whole_day.orders.csv`.
-const ORDERS: &str =
-    "command,member,reference,security,side,kind,limit,trigger,quantity,validity,restriction,condition
-enter,ALPHA,1,AUTO,buy,limit,50.20,,100,,,
+const ORDERS: &str = orders!(
+    "enter,ALPHA,1,AUTO,buy,limit,50.20,,100,,,
 enter,BRAVO,1,AUTO,buy,market,,,20,day,free,plain
 enter,CHARLIE,1,AUTO,sell,limit,49.90,,60,,,
 enter,CHARLIE,2,AUTO,sell,limit,50.10,,80,gtc,opening,
@@ -101,7 +99,8 @@ enter,CHARLIE,5,BANK,sell,market,,,10,gtc,opening,
 enter,ECHO,1,BANK,buy,limit,12.00,,10,gtc,,
 end,,,*,,,,,,,,
 enter,ECHO,1,AUTO,buy,limit,48.00,,10,gtc,,
-";
+"
+);
 
 /// As `examples/whole_day.statement`.
 const STATEMENT: &str = "DAY 20260105
@@ -161,12 +160,13 @@ ROWS 62 14
 ";
 
 #[test]
-fn a_day_of_three_securities(rt: HostRuntime) -> Result<(), Fail> {
+fn a_day_of_three_securities(rt: HostRuntime) {
     has_statement(
         &rt,
-        &mut SEGMENT.as_bytes(),
-        &mut ORDERS.as_bytes(),
+        "three securities",
+        SEGMENT,
+        ORDERS,
         (62, 14),
         STATEMENT,
-    )
+    );
 }

@@ -1,9 +1,7 @@
 //! Each field of each kind of record, with texts that it can't have.
-use super::fixtures::HEADER;
+use super::fixtures::{HEADER, SEGMENT};
 use super::order_files::count_of;
-use std::alloc::Global;
 use std::process::Abort;
-use std::test::Fail;
 use xm_files::{FileCause, FileFault};
 
 /// Good records, and a letter for each of their columns: `r` where the field is required, `o` where it may be empty, and
@@ -48,59 +46,62 @@ fn is_lawful(letter: u8, column: usize, text: &[u8]) -> bool {
 }
 
 /// An order file with one record, in which a column has this text.
-fn with_field(alloc: Global, record: &str, column: usize, text: &[u8]) -> Result<Vec<u8>, Fail> {
-    let mut bytes = HEADER.as_bytes().to_vec(alloc)?;
+fn with_field(
+    rt: &(impl Abort + AllocGlobal),
+    record: &str,
+    column: usize,
+    text: &[u8],
+) -> Vec<u8> {
+    let mut bytes = HEADER.as_bytes().to_vec(rt.alloc()).expect(rt, "memory");
     for (place, field) in record.split(',').enumerate() {
         if place > 0 {
-            bytes.push(b',')?;
+            bytes.extend_from_slice(b",").expect(rt, "memory");
         }
-        bytes.extend_from_slice(if place == column {
+        let field = if place == column {
             text
         } else {
             field.as_bytes()
-        })?;
+        };
+        bytes.extend_from_slice(field).expect(rt, "memory");
     }
-    Ok(bytes)
+    bytes
 }
 
-/// Compares what a record answers with each of `TEXTS` in a column.
-fn column_is_checked(
+const BAD_FIELD: FileFault = FileFault {
+    line: 2,
+    cause: FileCause::BadField,
+};
+
+/// Compares what a record answers with a text in a column of this letter.
+fn field_is_checked(
     rt: &(impl Abort + AllocGlobal),
     record: &str,
     column: usize,
     letter: u8,
-) -> Result<(), Fail> {
-    for text in TEXTS {
-        let bytes = with_field(rt.alloc(), record, column, text)?;
-        let expected = if is_lawful(letter, column, text) {
-            Ok(1)
-        } else {
-            Err(FileFault {
-                line: 2,
-                cause: FileCause::BadField,
-            })
-        };
-        assert!(rt; count_of(rt.alloc(), bytes.as_slice())? == expected);
-    }
-    Ok(())
+    text: &[u8],
+) {
+    let bytes = with_field(rt, record, column, text);
+    let answer = count_of(rt.alloc(), SEGMENT, bytes.as_slice());
+    let expected = if is_lawful(letter, column, text) {
+        Ok(1)
+    } else {
+        Err(BAD_FIELD)
+    };
+    assert!(rt; answer == expected, "{record}, {column}");
 }
 
 /// Compares what a record answers with each of `TEXTS` in each of its columns.
-fn record_is_checked(
-    rt: &(impl Abort + AllocGlobal),
-    record: &str,
-    letters: &[u8],
-) -> Result<(), Fail> {
+fn record_is_checked(rt: &(impl Abort + AllocGlobal), record: &str, letters: &[u8]) {
     for (column, letter) in letters.iter().enumerate() {
-        column_is_checked(rt, record, column, *letter)?;
+        for text in TEXTS {
+            field_is_checked(rt, record, column, *letter, text);
+        }
     }
-    Ok(())
 }
 
 #[test]
-fn each_field_of_each_record(rt: HostRuntime) -> Result<(), Fail> {
+fn each_field_of_each_record(rt: HostRuntime) {
     for (record, letters) in FORMS {
-        record_is_checked(&rt, record, letters)?;
+        record_is_checked(&rt, record, letters);
     }
-    Ok(())
 }

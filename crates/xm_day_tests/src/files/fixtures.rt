@@ -1,20 +1,11 @@
 //! Files of tests, and readers and writers that are slow or fail.
 use std::alloc::Global;
 use std::io::{self, ErrorKind, Read, Write};
-use std::test::Fail;
 
-pub(crate) const SEGMENT: &str = "date = 20260105
-members = [\"AAA\", \"BBB\"]
+pub(crate) const SEGMENT: &str = segment!(20);
 
-[[security]]
-name = \"XYZ\"
-tick = 100
-reference = \"10.00\"
-dynamic = 20
-static = 50
-wide = 40
-journal = 100
-";
+/// `SEGMENT`, whose dynamic width is its wide one.
+pub(crate) const BAD_WIDTHS: &str = segment!(40);
 
 pub(crate) const SECOND: &str = "[[security]]
 name = \"UVW\"
@@ -26,23 +17,22 @@ wide = 0
 journal = 1
 ";
 
-pub(crate) const HEADER: &str =
-    "command,member,reference,security,side,kind,limit,trigger,quantity,validity,restriction,condition\n";
+/// An order file without a row.
+pub(crate) const HEADER: &str = orders!("");
 
 /// Orders before and in the opening call.
-pub(crate) const ORDERS: &str =
-    "command,member,reference,security,side,kind,limit,trigger,quantity,validity,restriction,condition
-enter,AAA,1,XYZ,buy,limit,10.00,,10,,,
+pub(crate) const ORDERS: &str = orders!(
+    "enter,AAA,1,XYZ,buy,limit,10.00,,10,,,
 enter,BBB,1,XYZ,sell,limit,10.10,,5,,,
 open,,,*,,,,,,,,
 enter,AAA,2,XYZ,buy,limit,9.95,,7,,,
 cancel,AAA,1,XYZ,,,,,,,,
-";
+"
+);
 
 /// A day with trades and stops, as `examples/cascade.orders.csv`.
-pub(crate) const CASCADE: &str =
-    "command,member,reference,security,side,kind,limit,trigger,quantity,validity,restriction,condition
-open,,,*,,,,,,,,
+pub(crate) const CASCADE: &str = orders!(
+    "open,,,*,,,,,,,,
 uncross,,,*,,,,,,,,
 enter,AAA,1,XYZ,buy,limit,10.00,,10,,,
 enter,AAA,2,XYZ,buy,limit,9.90,,20,,,
@@ -54,7 +44,8 @@ cancel,AAA,9,XYZ,,,,,,,,
 close,,,*,,,,,,,,
 uncross,,,*,,,,,,,,
 end,,,*,,,,,,,,
-";
+"
+);
 
 /// A segment file without a member or a security.
 pub(crate) const NO_SECURITY: &str = "date = 0\nmembers = []\nsecurity = []\n";
@@ -105,16 +96,19 @@ pub(crate) const ERROR_KINDS: [ErrorKind; 42] = [
     ErrorKind::Uncategorized,
 ];
 
+/// The call of a reader that fails, counted from 0, with its error.
+pub(crate) type Failure = Option<(usize, ErrorKind)>;
+
 /// Gives its text one byte a call. The call with the number of its failure, counted from 0, answers
 /// this error once; after it the text goes on.
 pub(crate) struct OneByteReader<'a> {
     text: &'a [u8],
     at: usize,
-    failure: Option<(usize, ErrorKind)>,
+    failure: Failure,
 }
 
 impl<'a> OneByteReader<'a> {
-    pub(crate) fn new(text: &'a str, failure: Option<(usize, ErrorKind)>) -> Self {
+    pub(crate) fn new(text: &'a str, failure: Failure) -> Self {
         OneByteReader {
             text: text.as_bytes(),
             at: 0,
@@ -219,8 +213,15 @@ impl Write for ShortWriter {
     }
 }
 
-/// The text with the first of these words replaced.
-pub(crate) fn replaced(alloc: Global, text: &str, old: &str, new: &str) -> Result<String, Fail> {
-    let (before, after) = text.split_once(old).ok_or("not there")?;
-    Ok(format!(in alloc; "{before}{new}{after}")?)
+/// The text with the first of these words replaced, or what is wanting.
+pub(crate) fn replaced(
+    alloc: Global,
+    text: &str,
+    old: &str,
+    new: &str,
+) -> Result<String, &'static str> {
+    let (before, after) = text.split_once(old).ok_or("the words")?;
+    (format!(in alloc; "{before}{new}{after}"))
+        .ok()
+        .ok_or("memory")
 }

@@ -10,27 +10,27 @@ use xm_files::{FileCause, FileFault, MAX_BYTES, MAX_ROWS, read_rows, read_segmen
 use xm_rules::{Command, Condition, Kind, Restriction, Side, Validity};
 use xm_segment::Row;
 
-/// The rows of an order file for the members and the securities of a segment file.
+/// The rows of an order file for the members and the securities of a segment file, or the fault of either. A clause sees nothing
+/// of it.
+fn read(alloc: Global, segment: &str, orders: &mut impl Read) -> Result<Vec<Row>, FileFault> {
+    let mut reader = segment.as_bytes();
+    let (config, names) = read_segment(alloc, &mut reader)?;
+    read_rows(alloc, orders, &names, &config)
+}
+
+/// What `read` answers.
 pub(super) fn rows_of(
     alloc: Global,
     segment: &str,
     orders: &mut impl Read,
 ) -> Result<Result<Vec<Row>, FileFault>, Fail> {
-    let mut reader = segment.as_bytes();
-    let (config, names) = read_segment(alloc, &mut reader)?;
-    Ok(read_rows(alloc, orders, &names, &config))
+    Ok(read(alloc, segment, orders))
 }
 
 /// Compares the fault of an order file.
-fn has_fault(
-    rt: &(impl Abort + AllocGlobal),
-    orders: &mut impl Read,
-    line: u32,
-    cause: FileCause,
-) -> Result<(), Fail> {
-    let answer = rows_of(rt.alloc(), SEGMENT, orders)?;
-    assert_eq!(rt; answer.err(), fault(line, cause));
-    Ok(())
+fn has_fault(rt: &(impl Abort + AllocGlobal), orders: &mut impl Read, line: u32, cause: FileCause) {
+    let answer = read(rt.alloc(), SEGMENT, orders).err();
+    assert!(rt; answer == fault(line, cause), "in place of {cause:?}");
 }
 
 /// Compares the rows of an order file.
@@ -39,10 +39,15 @@ fn rows_are(
     segment: &str,
     orders: &mut impl Read,
     expected: &[Row],
-) -> Result<(), Fail> {
-    let rows = rows_of(rt.alloc(), segment, orders)??;
+) {
+    let rows = read(rt.alloc(), segment, orders).expect(rt, "rows");
     assert!(rt; rows.as_slice() == expected);
-    Ok(())
+}
+
+/// Compares the rows of an order file of these bytes.
+fn bytes_are(rt: &(impl Abort + AllocGlobal), orders: &[u8], expected: &[Row]) {
+    let mut orders = orders;
+    rows_are(rt, SEGMENT, &mut orders, expected);
 }
 
 /// A row of the first security.
@@ -65,19 +70,35 @@ macro_rules! second {
     };
 }
 
-/// The entry of a free order for the day.
-macro_rules! limited {
-    ($member:expr, $reference:expr, $side:expr, $limit:expr, $quantity:expr) => {
+/// The entry of an order.
+macro_rules! entry {
+    ($member:expr, $reference:expr, $side:ident, $kind:expr, $quantity:expr, $validity:expr, $restriction:ident, $condition:ident) => {
         Command::Enter {
             member: $member,
             reference: $reference,
-            side: $side,
-            kind: Kind::Limit($limit),
+            side: Side::$side,
+            kind: $kind,
             quantity: $quantity,
-            validity: Validity::Day,
-            restriction: Restriction::Free,
-            condition: Condition::Plain,
+            validity: $validity,
+            restriction: Restriction::$restriction,
+            condition: Condition::$condition,
         }
+    };
+}
+
+/// The entry of a free order for the day.
+macro_rules! limited {
+    ($member:expr, $reference:expr, $side:ident, $limit:expr, $quantity:expr) => {
+        entry!(
+            $member,
+            $reference,
+            $side,
+            Kind::Limit($limit),
+            $quantity,
+            Validity::Day,
+            Free,
+            Plain
+        )
     };
 }
 
@@ -92,17 +113,17 @@ macro_rules! cancel {
 
 /// The rows of `ORDERS`.
 const OPENING_CALL: [Row; 5] = [
-    first!(limited!(0, 1, Side::Buy, 1000, 10)),
-    first!(limited!(1, 1, Side::Sell, 1010, 5)),
+    first!(limited!(0, 1, Buy, 1000, 10)),
+    first!(limited!(1, 1, Sell, 1010, 5)),
     first!(Command::StartOpening),
-    first!(limited!(0, 2, Side::Buy, 995, 7)),
+    first!(limited!(0, 2, Buy, 995, 7)),
     first!(cancel!(0, 1)),
 ];
 
 #[test]
-fn rows_of_an_opening_call(rt: HostRuntime) -> Result<(), Fail> {
-    let text = format!(in rt.alloc(); "\u{feff}{ORDERS}")?;
-    rows_are(&rt, SEGMENT, &mut text.as_bytes(), &OPENING_CALL)
+fn rows_of_an_opening_call(rt: HostRuntime) {
+    let text = (format!(in rt.alloc(); "\u{feff}{ORDERS}")).expect(&rt, "memory");
+    bytes_are(&rt, text.as_bytes(), &OPENING_CALL);
 }
 
 /// What is replaced in `ORDERS` by another way to write the same: quotes, carriage returns, blank lines, and a last line
@@ -119,13 +140,17 @@ const SAME: [(&str, &str); 9] = [
     (",1,XYZ,,,,,,,,\n", ",1,XYZ,,,,,,,,"),
 ];
 
+/// Compares the rows of `ORDERS` with these words replaced.
+fn is_the_same(rt: &(impl Abort + AllocGlobal), old: &str, new: &str) {
+    let text = replaced(rt.alloc(), ORDERS, old, new).expect(rt, old);
+    bytes_are(rt, text.as_bytes(), &OPENING_CALL);
+}
+
 #[test]
-fn other_ways_to_write_the_same(rt: HostRuntime) -> Result<(), Fail> {
+fn other_ways_to_write_the_same(rt: HostRuntime) {
     for (old, new) in &SAME {
-        let text = replaced(rt.alloc(), ORDERS, old, new)?;
-        rows_are(&rt, SEGMENT, &mut text.as_bytes(), &OPENING_CALL)?;
+        is_the_same(&rt, old, new);
     }
-    Ok(())
 }
 
 /// How many lines end in a text.
@@ -159,29 +184,25 @@ fn answer_of_prefix(prefix: &[u8], next: Option<u8>) -> Result<usize, FileFault>
     }
 }
 
-/// The number of the rows of an order file, or its fault.
-pub(super) fn count_of(alloc: Global, orders: &[u8]) -> Result<Result<usize, FileFault>, Fail> {
+/// The number of the rows of an order file for a segment file, or its fault.
+pub(super) fn count_of(alloc: Global, segment: &str, orders: &[u8]) -> Result<usize, FileFault> {
     let mut reader = orders;
-    match rows_of(alloc, SEGMENT, &mut reader)? {
-        Ok(rows) => Ok(Ok(rows.len())),
-        Err(fault) => Ok(Err(fault)),
-    }
+    Ok(read(alloc, segment, &mut reader)?.len())
 }
 
 /// Compares the answer to each proper prefix of an order file.
-fn prefixes_of(rt: &(impl Abort + AllocGlobal), text: &[u8]) -> Result<(), Fail> {
+fn prefixes_of(rt: &(impl Abort + AllocGlobal), text: &[u8]) {
     for end in 0..text.len() {
         let prefix = &text[..end];
         let answer = answer_of_prefix(prefix, text.get(end).copied());
-        assert!(rt; count_of(rt.alloc(), prefix)? == answer, "{end}");
+        assert!(rt; count_of(rt.alloc(), SEGMENT, prefix) == answer, "{end}");
     }
-    Ok(())
 }
 
 #[test]
-fn prefixes_of_order_files(rt: HostRuntime) -> Result<(), Fail> {
-    prefixes_of(&rt, ORDERS.as_bytes())?;
-    prefixes_of(&rt, CASCADE.as_bytes())
+fn prefixes_of_order_files(rt: HostRuntime) {
+    prefixes_of(&rt, ORDERS.as_bytes());
+    prefixes_of(&rt, CASCADE.as_bytes());
 }
 
 /// Records of twelve fields, of which each has a bad one.
@@ -237,28 +258,27 @@ const BAD_FIELDS: [&str; 46] = [
 /// Records that have another number of fields than the header.
 const OTHER_LENGTHS: [&str; 2] = ["open,,,*,,,,,,,", "open,,,*,,,,,,,,,"];
 
-/// Compares the fault of order files with one of these records, after a good one and before one of another length, with
-/// blank lines and without.
-fn have_faults(
-    rt: &(impl Abort + AllocGlobal),
-    records: &[&str],
-    cause: &FileCause,
-) -> Result<(), Fail> {
+/// Compares the fault of an order file with a record after a good one and before one of another length, with something before
+/// it and the good one.
+fn is_damaged(rt: &(impl Abort + AllocGlobal), record: &str, before: &str, cause: FileCause) {
+    let text = format!(in rt.alloc();
+        "{HEADER}{before}cancel,AAA,1,XYZ,,,,,,,,\n{before}{record}\n?\n"
+    );
+    has_fault(rt, &mut text.expect(rt, record).as_bytes(), 3, cause);
+}
+
+/// Compares the faults of records, with blank lines before them and without.
+fn are_damaged(rt: &(impl Abort + AllocGlobal), records: &[&str], cause: &FileCause) {
     for record in records {
-        for blank in ["", "\n"] {
-            let text = format!(in rt.alloc();
-                "{HEADER}{blank}cancel,AAA,1,XYZ,,,,,,,,\n{blank}{record}\n?\n"
-            )?;
-            has_fault(rt, &mut text.as_bytes(), 3, *cause)?;
-        }
+        is_damaged(rt, record, "", *cause);
+        is_damaged(rt, record, "\n", *cause);
     }
-    Ok(())
 }
 
 #[test]
-fn damaged_records(rt: HostRuntime) -> Result<(), Fail> {
-    have_faults(&rt, &BAD_FIELDS, &FileCause::BadField)?;
-    have_faults(&rt, &OTHER_LENGTHS, &FileCause::Syntax)
+fn damaged_records(rt: HostRuntime) {
+    are_damaged(&rt, &BAD_FIELDS, &FileCause::BadField);
+    are_damaged(&rt, &OTHER_LENGTHS, &FileCause::Syntax);
 }
 
 /// Each command, kind, validity, restriction and condition.
@@ -281,17 +301,8 @@ end,,,*,,,,,,,,
 
 /// An order of the first member in the first security.
 macro_rules! entered {
-    ($reference:expr, $side:ident, $kind:expr, $quantity:expr, $validity:expr, $restriction:ident, $condition:ident) => {
-        first!(Command::Enter {
-            member: 0,
-            reference: $reference,
-            side: Side::$side,
-            kind: $kind,
-            quantity: $quantity,
-            validity: $validity,
-            restriction: Restriction::$restriction,
-            condition: Condition::$condition,
-        })
+    ($($field:tt)*) => {
+        first!(entry!(0, $($field)*))
     };
 }
 
@@ -380,28 +391,27 @@ const EVERY_COMMAND: [Row; 15] = [
 ];
 
 #[test]
-fn every_command(rt: HostRuntime) -> Result<(), Fail> {
-    let text = file_of(rt.alloc(), EVERY_WORD)?;
-    rows_are(&rt, SEGMENT, &mut text.as_slice(), &EVERY_COMMAND)
+fn every_command(rt: HostRuntime) {
+    bytes_are(&rt, file_of(&rt, EVERY_WORD).as_slice(), &EVERY_COMMAND);
 }
 
 #[test]
-fn a_damaged_header(rt: HostRuntime) -> Result<(), Fail> {
-    let titles = replaced(rt.alloc(), HEADER, "member", "Member")?;
-    has_fault(&rt, &mut titles.as_bytes(), 1, FileCause::BadHeader)
+fn a_damaged_header(rt: HostRuntime) {
+    let titles = replaced(rt.alloc(), HEADER, "member", "Member").expect(&rt, "a title");
+    has_fault(&rt, &mut titles.as_bytes(), 1, FileCause::BadHeader);
 }
 
 /// A header and a record, which needn't be text.
-fn file_of(alloc: Global, record: &[u8]) -> Result<Vec<u8>, Fail> {
-    let mut text = HEADER.as_bytes().to_vec(alloc)?;
-    text.extend_from_slice(record)?;
-    Ok(text)
+fn file_of(rt: &(impl Abort + AllocGlobal), record: &[u8]) -> Vec<u8> {
+    let mut text = HEADER.as_bytes().to_vec(rt.alloc()).expect(rt, "memory");
+    text.extend_from_slice(record).expect(rt, "memory");
+    text
 }
 
 #[test]
-fn a_field_that_is_no_text(rt: HostRuntime) -> Result<(), Fail> {
-    let text = file_of(rt.alloc(), b"open,,,*,\xff,,,,,,,\n")?;
-    has_fault(&rt, &mut text.as_slice(), 2, FileCause::BadField)
+fn a_field_that_is_no_text(rt: HostRuntime) {
+    let text = file_of(&rt, b"open,,,*,\xff,,,,,,,\n");
+    has_fault(&rt, &mut text.as_slice(), 2, FileCause::BadField);
 }
 
 const UNKNOWN_AND_BAD: &[u8] = b"open,,,XYZ,,,,,,,,
@@ -416,25 +426,23 @@ Z\",,,,,,,,";
 /// The rows of `UNKNOWN_AND_BAD`.
 const REFUSED: [Row; 7] = [
     first!(Command::StartOpening),
-    second!(limited!(2, 1, Side::Buy, 1, u32::MAX)),
-    first!(limited!(1, 1, Side::Sell, 0, 0)),
-    first!(limited!(1, 1, Side::Sell, 0, 0)),
-    first!(limited!(1, 1, Side::Sell, 0, 0)),
-    first!(limited!(1, 1, Side::Sell, 0, 0)),
+    second!(limited!(2, 1, Buy, 1, u32::MAX)),
+    first!(limited!(1, 1, Sell, 0, 0)),
+    first!(limited!(1, 1, Sell, 0, 0)),
+    first!(limited!(1, 1, Sell, 0, 0)),
+    first!(limited!(1, 1, Sell, 0, 0)),
     second!(cancel!(2, 1)),
 ];
 
 #[test]
-fn unknown_names_and_bad_prices(rt: HostRuntime) -> Result<(), Fail> {
-    let text = file_of(rt.alloc(), UNKNOWN_AND_BAD)?;
-    rows_are(&rt, SEGMENT, &mut text.as_slice(), &REFUSED)
+fn unknown_names_and_bad_prices(rt: HostRuntime) {
+    bytes_are(&rt, file_of(&rt, UNKNOWN_AND_BAD).as_slice(), &REFUSED);
 }
 
 #[test]
-fn a_name_that_is_no_text(rt: HostRuntime) -> Result<(), Fail> {
-    let text = file_of(rt.alloc(), b"cancel,A\xffA,1,XYZ,,,,,,,,")?;
-    let unknown = [first!(cancel!(2, 1))];
-    rows_are(&rt, SEGMENT, &mut text.as_slice(), &unknown)
+fn a_name_that_is_no_text(rt: HostRuntime) {
+    let text = file_of(&rt, b"cancel,A\xffA,1,XYZ,,,,,,,,");
+    bytes_are(&rt, text.as_slice(), &[first!(cancel!(2, 1))]);
 }
 
 /// An opening of all securities, where there are two.
@@ -444,67 +452,83 @@ const ALL: [Row; 2] = [
 ];
 
 #[test]
-fn all_securities(rt: HostRuntime) -> Result<(), Fail> {
-    let orders = file_of(rt.alloc(), b"open,,,*,,,,,,,,")?;
-    let two = format!(in rt.alloc(); "{SEGMENT}{SECOND}")?;
-    rows_are(&rt, two.as_str(), &mut orders.as_slice(), &ALL)?;
-    rows_are(&rt, NO_SECURITY, &mut orders.as_slice(), &[])
+fn all_securities(rt: HostRuntime) {
+    let two = (format!(in rt.alloc(); "{SEGMENT}{SECOND}")).expect(&rt, "memory");
+    let orders = file_of(&rt, b"open,,,*,,,,,,,,");
+    rows_are(&rt, two.as_str(), &mut orders.as_slice(), &ALL);
+    rows_are(&rt, NO_SECURITY, &mut orders.as_slice(), &[]);
 }
 
 /// A segment of eight securities.
-fn eight_securities(alloc: Global) -> Result<String, Fail> {
-    let mut segment = String::from_str(alloc, "date = 0\nmembers = []\n")?;
+fn eight_securities(rt: &(impl Abort + AllocGlobal)) -> String {
+    let mut segment = String::from_str(rt.alloc(), "date = 0\nmembers = []\n").expect(rt, "memory");
     for name in ["A", "B", "C", "D", "E", "F", "G", "H"] {
-        let security = replaced(alloc, SECOND, "UVW", name)?;
-        segment.push_str(security.as_str())?;
+        let security = replaced(rt.alloc(), SECOND, "UVW", name).expect(rt, name);
+        segment.push_str(security.as_str()).expect(rt, "memory");
     }
-    Ok(segment)
+    segment
 }
 
 /// An order file that opens all securities 125,000 times.
-fn many_openings(alloc: Global) -> Result<String, Fail> {
-    let mut orders = String::from_str(alloc, HEADER)?;
+fn many_openings(rt: &(impl Abort + AllocGlobal)) -> String {
+    let mut orders = String::from_str(rt.alloc(), HEADER).expect(rt, "memory");
     for _ in 0..125_000 {
-        orders.push_str("open,,,*,,,,,,,,\n")?;
+        orders.push_str("open,,,*,,,,,,,,\n").expect(rt, "memory");
     }
-    Ok(orders)
+    orders
+}
+
+/// Compares the number of rows of an order file, or its fault.
+fn has_count(
+    rt: &(impl Abort + AllocGlobal),
+    segment: &str,
+    orders: &str,
+    expected: Result<usize, FileFault>,
+) {
+    assert!(rt; count_of(rt.alloc(), segment, orders.as_bytes()) == expected);
 }
 
 #[test]
-fn more_than_a_million_rows(rt: HostRuntime) -> Result<(), Fail> {
-    let segment = eight_securities(rt.alloc())?;
-    let mut orders = many_openings(rt.alloc())?;
-    let rows = rows_of(rt.alloc(), segment.as_str(), &mut orders.as_bytes())??;
-    assert_eq!(rt; rows.len(), MAX_ROWS);
-    orders.push_str("open,,,A,,,,,,,,\n")?;
-    let answer = rows_of(rt.alloc(), segment.as_str(), &mut orders.as_bytes())?;
-    assert!(rt; answer.err() == fault(125_002, FileCause::TooManyRows));
-    Ok(())
+fn more_than_a_million_rows(rt: HostRuntime) {
+    let segment = eight_securities(&rt);
+    let mut orders = many_openings(&rt);
+    has_count(&rt, segment.as_str(), orders.as_str(), Ok(MAX_ROWS));
+    orders.push_str("open,,,A,,,,,,,,\n").expect(&rt, "memory");
+    has_count(&rt, segment.as_str(), orders.as_str(), Err(TOO_MANY_ROWS));
 }
 
+const TOO_MANY_ROWS: FileFault = FileFault {
+    line: 125_002,
+    cause: FileCause::TooManyRows,
+};
+
 #[test]
-fn a_slow_reader(rt: HostRuntime) -> Result<(), Fail> {
+fn a_slow_reader(rt: HostRuntime) {
     let mut slow = OneByteReader::new(ORDERS, None);
-    rows_are(&rt, SEGMENT, &mut slow, &OPENING_CALL)
+    rows_are(&rt, SEGMENT, &mut slow, &OPENING_CALL);
+}
+
+/// Compares the fault of `ORDERS`, of which this call fails.
+fn fails_at(rt: &(impl Abort + AllocGlobal), call: usize, kind: ErrorKind) {
+    let mut reader = OneByteReader::new(ORDERS, Some((call, kind)));
+    has_fault(rt, &mut reader, 0, FileCause::ReadFailed);
 }
 
 #[test]
-fn failing_readers(rt: HostRuntime) -> Result<(), Fail> {
+fn failing_readers(rt: HostRuntime) {
     for kind in [ErrorKind::BrokenPipe, ErrorKind::Interrupted] {
         for call in 0..ORDERS.len() + 1 {
-            let mut reader = OneByteReader::new(ORDERS, Some((call, kind)));
-            has_fault(&rt, &mut reader, 0, FileCause::ReadFailed)?;
+            fails_at(&rt, call, kind);
         }
     }
-    Ok(())
 }
 
 #[test]
-fn order_files_at_the_limit(rt: HostRuntime) -> Result<(), Fail> {
+fn order_files_at_the_limit(rt: HostRuntime) {
     let mut longest = Filler { left: MAX_BYTES };
-    has_fault(&rt, &mut longest, 1, FileCause::BadHeader)?;
+    has_fault(&rt, &mut longest, 1, FileCause::BadHeader);
     let mut longer = Filler {
         left: MAX_BYTES + 1,
     };
-    has_fault(&rt, &mut longer, 0, FileCause::TooLong)
+    has_fault(&rt, &mut longer, 0, FileCause::TooLong);
 }

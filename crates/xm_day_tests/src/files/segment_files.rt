@@ -1,10 +1,18 @@
 use super::fault;
 use super::fixtures::{Filler, NO_SECURITY, OneByteReader, SECOND, SEGMENT, replaced};
+use std::alloc::Global;
 use std::io::{ErrorKind, Read};
 use std::process::Abort;
-use std::test::Fail;
-use xm_files::{FileCause, MAX_BYTES, SegmentNames, read_segment};
-use xm_segment::{Securities, SecurityConfig};
+use xm_files::{FileCause, FileFault, MAX_BYTES, SegmentNames, read_segment};
+use xm_segment::{Securities, SecurityConfig, SegmentConfig};
+
+/// Reads a segment file. A clause sees nothing of it.
+fn read(
+    alloc: Global,
+    segment: &mut impl Read,
+) -> Result<(SegmentConfig, SegmentNames), FileFault> {
+    read_segment(alloc, segment)
+}
 
 /// Compares the fault of a segment file.
 fn has_fault(
@@ -13,8 +21,13 @@ fn has_fault(
     line: u32,
     cause: FileCause,
 ) {
-    let answer = read_segment(rt.alloc(), segment);
-    assert_eq!(rt; answer.err(), fault(line, cause));
+    let answer = read(rt.alloc(), segment).err();
+    assert!(rt; answer == fault(line, cause), "in place of {cause:?}");
+}
+
+/// Compares the fault of the segment file of a text.
+fn text_has_fault(rt: &(impl Abort + AllocGlobal), text: &str, line: u32, cause: FileCause) {
+    has_fault(rt, &mut text.as_bytes(), line, cause);
 }
 
 /// The tick, the reference, the dynamic, the static and the wide width, and the limit of the journal.
@@ -31,7 +44,7 @@ fn numbers_of(security: &SecurityConfig) -> [u32; 6] {
 }
 
 fn settings_are(rt: &impl Abort, securities: &Securities, expected: &[[u32; 6]]) {
-    assert_eq!(rt; securities.as_slice().len(), expected.len());
+    assert!(rt; securities.as_slice().len() == expected.len());
     for (security, numbers) in securities.as_slice().iter().zip(expected) {
         assert!(rt; numbers_of(security) == *numbers);
     }
@@ -54,26 +67,23 @@ fn securities_are(rt: &impl Abort, names: &SegmentNames, expected: &[Option<&str
 const SETTINGS: [[u32; 6]; 2] = [[100, 1000, 20, 50, 40, 100], [1, 5000, 0, u32::MAX, 0, 1]];
 
 #[test]
-fn a_segment_is_read(rt: HostRuntime) -> Result<(), Fail> {
-    let text = format!(in rt.alloc(); "\u{feff}{SEGMENT}{SECOND}")?;
-    let mut reader = text.as_bytes();
-    let (config, names) = read_segment(rt.alloc(), &mut reader)?;
+fn a_segment_is_read(rt: HostRuntime) {
+    let text = (format!(in rt.alloc(); "\u{feff}{SEGMENT}{SECOND}")).expect(&rt, "memory");
+    let (config, names) = read(rt.alloc(), &mut text.as_bytes()).expect(&rt, "a segment");
     assert!(rt; (config.today, config.members) == (20_260_105, 2));
     assert!(rt; (names.members(), names.securities()) == (2, 2));
     members_are(&rt, &names, &[Some("AAA"), Some("BBB"), None]);
     securities_are(&rt, &names, &[Some("XYZ"), Some("UVW"), None]);
     settings_are(&rt, &config.securities, &SETTINGS);
-    Ok(())
 }
 
 #[test]
-fn empty_lists_are_read(rt: HostRuntime) -> Result<(), Fail> {
+fn empty_lists_are_read(rt: HostRuntime) {
     let mut reader = NO_SECURITY.as_bytes();
-    let (config, names) = read_segment(rt.alloc(), &mut reader)?;
-    assert_eq!(rt; config.members, 0);
+    let (config, names) = read(rt.alloc(), &mut reader).expect(&rt, "a segment");
+    assert!(rt; config.members == 0);
     settings_are(&rt, &config.securities, &[]);
     members_are(&rt, &names, &[None]);
-    Ok(())
 }
 
 /// What a key or a value is replaced by, and the cause that is then told.
@@ -139,58 +149,70 @@ const DAMAGED_SECURITIES: [Damage; 31] = [
     ("\"XYZ\"", "\"X Z\"", FileCause::BadValue),
 ];
 
-/// Compares the faults of the segment file with each damage.
-fn have_faults(rt: &(impl Abort + AllocGlobal), line: u32, damages: &[Damage]) -> Result<(), Fail> {
+/// Compares the fault of `SEGMENT` with a damage.
+fn is_damaged(rt: &(impl Abort + AllocGlobal), line: u32, old: &str, new: &str, cause: FileCause) {
+    let text = replaced(rt.alloc(), SEGMENT, old, new).expect(rt, old);
+    text_has_fault(rt, text.as_str(), line, cause);
+}
+
+fn are_damaged(rt: &(impl Abort + AllocGlobal), line: u32, damages: &[Damage]) {
     for (old, new, cause) in damages {
-        let text = replaced(rt.alloc(), SEGMENT, old, new)?;
-        has_fault(rt, &mut text.as_bytes(), line, *cause);
+        is_damaged(rt, line, old, new, *cause);
     }
-    Ok(())
 }
 
 #[test]
-fn damaged_top_keys(rt: HostRuntime) -> Result<(), Fail> {
-    have_faults(&rt, 0, &DAMAGED_TOP_KEYS)
+fn damaged_keys(rt: HostRuntime) {
+    are_damaged(&rt, 0, &DAMAGED_TOP_KEYS);
+    are_damaged(&rt, 1, &DAMAGED_SECURITIES);
 }
 
-const NO_TABLE: &[u8] = b"date = 0\nmembers = [\"AAA\", \"AAA\"]\nsecurity = [1]\n";
+const NO_TABLE: &str = "date = 0\nmembers = [\"AAA\", \"AAA\"]\nsecurity = [1]\n";
 
 #[test]
 fn no_table_and_no_text(rt: HostRuntime) {
-    has_fault(&rt, &mut &NO_TABLE[..], 0, FileCause::BadValue);
+    text_has_fault(&rt, NO_TABLE, 0, FileCause::BadValue);
     has_fault(&rt, &mut &b"date = \xff"[..], 0, FileCause::Syntax);
 }
 
-#[test]
-fn damaged_securities(rt: HostRuntime) -> Result<(), Fail> {
-    have_faults(&rt, 1, &DAMAGED_SECURITIES)
+/// Compares the fault of a segment file whose second security is damaged, with a text after it.
+fn second_is_damaged(
+    rt: &(impl Abort + AllocGlobal),
+    (old, new): (&str, &str),
+    after: &str,
+    cause: FileCause,
+) {
+    let second = replaced(rt.alloc(), SECOND, old, new).expect(rt, old);
+    let text = (format!(in rt.alloc(); "{SEGMENT}{second}{after}")).expect(rt, "memory");
+    text_has_fault(rt, text.as_str(), 2, cause);
 }
 
 #[test]
-fn a_damaged_second_security(rt: HostRuntime) -> Result<(), Fail> {
-    let second = replaced(rt.alloc(), SECOND, "journal = 1", "journal = 0")?;
-    let text = format!(in rt.alloc(); "{SEGMENT}{second}")?;
-    has_fault(&rt, &mut text.as_bytes(), 2, FileCause::BadValue);
-    let second = replaced(rt.alloc(), SECOND, "UVW", "XYZ")?;
-    let text = format!(in rt.alloc(); "{SEGMENT}{second}{SECOND}")?;
-    has_fault(&rt, &mut text.as_bytes(), 2, FileCause::DuplicateName);
-    Ok(())
+fn a_damaged_second_security(rt: HostRuntime) {
+    let journal = ("journal = 1", "journal = 0");
+    second_is_damaged(&rt, journal, "", FileCause::BadValue);
+    second_is_damaged(&rt, ("UVW", "XYZ"), SECOND, FileCause::DuplicateName);
 }
 
 #[test]
-fn a_slow_reader(rt: HostRuntime) -> Result<(), Fail> {
-    let (config, names) = read_segment(rt.alloc(), &mut OneByteReader::new(SEGMENT, None))?;
-    assert_eq!(rt; config.today, 20_260_105);
+fn a_slow_reader(rt: HostRuntime) {
+    let mut reader = OneByteReader::new(SEGMENT, None);
+    let (config, names) = read(rt.alloc(), &mut reader).expect(&rt, "a segment");
+    assert!(rt; config.today == 20_260_105);
     securities_are(&rt, &names, &[Some("XYZ")]);
-    Ok(())
+}
+
+/// Compares the fault of `SEGMENT`, of which this call fails.
+fn fails_at(rt: &(impl Abort + AllocGlobal), call: usize, kind: ErrorKind) {
+    let mut reader = OneByteReader::new(SEGMENT, Some((call, kind)));
+    has_fault(rt, &mut reader, 0, FileCause::ReadFailed);
 }
 
 #[test]
 fn failing_readers(rt: HostRuntime) {
     for kind in [ErrorKind::BrokenPipe, ErrorKind::Interrupted] {
         for call in 0..SEGMENT.len() + 1 {
-            let mut reader = OneByteReader::new(SEGMENT, Some((call, kind)));
-            has_fault(&rt, &mut reader, 0, FileCause::ReadFailed);
+            fails_at(&rt, call, kind);
         }
     }
 }

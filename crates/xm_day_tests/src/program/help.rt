@@ -1,12 +1,9 @@
 //! The help texts, and the day that one of them shows.
 
-use super::ends::{Printed, end_as};
-use super::runtime::{Call, Stream};
-use std::alloc::Global;
-use std::process::ExitCode;
-use std::test::Fail;
-use xm_names::Storage;
-use xm_program::{run, run_program};
+use super::ends::{End, Printed, are_ends};
+use super::runtime::Stream;
+use super::statement_of;
+use std::process::Abort;
 
 /// What `run --help` prints.
 const RUN_HELP: &str = "Runs the day of two files and writes its statement to standard output.
@@ -68,42 +65,20 @@ const WHOLE_HELP: Printed = Printed::Between("Replays a trading day of a segment
 
 const SHORT_HELP: Printed = Printed::Between("Runs the day of two files", STATUSES);
 
+const HELP: [End; 8] = [
+    prints!(Printed::Text(RUN_HELP), b"run", b"--help"),
+    prints!(Printed::Text(RUN_HELP), b"help", b"run"),
+    prints!(SHORT_HELP, b"run", b"-h"),
+    prints!(WHOLE_HELP, b"--help"),
+    prints!(WHOLE_HELP, b"-h"),
+    prints!(WHOLE_HELP, b"help"),
+    complains!(2, WHOLE_HELP,),
+    prints!(Printed::Text("xetra-day 0.1.0\n"), b"--version"),
+];
+
 #[test]
-fn help_texts(rt: HostRuntime) -> Result<(), Fail> {
-    end_as(
-        &rt,
-        Stream::Kept,
-        &[
-            (
-                &[b"xetra-day", b"run", b"--help"],
-                0,
-                Printed::Text(RUN_HELP),
-                Printed::Nothing,
-            ),
-            (
-                &[b"xetra-day", b"help", b"run"],
-                0,
-                Printed::Text(RUN_HELP),
-                Printed::Nothing,
-            ),
-            (
-                &[b"xetra-day", b"run", b"-h"],
-                0,
-                SHORT_HELP,
-                Printed::Nothing,
-            ),
-            (&[b"xetra-day", b"--help"], 0, WHOLE_HELP, Printed::Nothing),
-            (&[b"xetra-day", b"-h"], 0, WHOLE_HELP, Printed::Nothing),
-            (&[b"xetra-day", b"help"], 0, WHOLE_HELP, Printed::Nothing),
-            (&[b"xetra-day"], 2, Printed::Nothing, WHOLE_HELP),
-            (
-                &[b"xetra-day", b"--version"],
-                0,
-                Printed::Text("xetra-day 0.1.0\n"),
-                Printed::Nothing,
-            ),
-        ],
-    )
+fn help_texts(rt: HostRuntime) {
+    are_ends(&rt, Stream::Kept, &HELP);
 }
 
 /// The statement of the day that `run --help` shows.
@@ -120,38 +95,22 @@ ROWS 7 0
 ";
 
 /// The lines of a help text between two of its lines, without their indentation.
-fn shown(alloc: Global, text: &str, title: &str, next: &str) -> Result<String, Fail> {
-    let (_, from_title) = text.split_once(title).ok_or("no title")?;
-    let (part, _) = from_title.split_once(next).ok_or("no next title")?;
-    let mut file = String::new(alloc);
+fn shown(rt: &(impl Abort + AllocGlobal), text: &str, title: &str, next: &str) -> String {
+    let (_, from_title) = text.split_once(title).expect(rt, "no title");
+    let (part, _) = from_title.split_once(next).expect(rt, "no next title");
+    let mut file = String::new(rt.alloc());
     for line in part.split('\n') {
-        file.push_str(line.strip_prefix("  ").unwrap_or(line))?;
-        file.push_str("\n")?;
+        let line = line.strip_prefix("  ").unwrap_or(line);
+        file.push_str(line).expect(rt, "memory");
+        file.push_str("\n").expect(rt, "memory");
     }
-    Ok(file)
+    file
 }
 
 #[test]
-fn the_day_of_the_help_runs(rt: HostRuntime) -> Result<(), Fail> {
-    let words: &[&[u8]] = &[b"xetra-day", b"run", b"--help"];
-    let call = Call::new(rt.alloc(), words, &[], Stream::Kept);
-    assert_eq!(rt; run_program(&call), ExitCode::from(0));
-    let printed = call.printed.try_borrow()?;
-    let segment = shown(
-        rt.alloc(),
-        printed.as_str(),
-        "\nsegment.toml\n",
-        "\n\norders.csv\n",
-    )?;
-    let orders = shown(rt.alloc(), printed.as_str(), "\norders.csv\n", "\n\nUsage:")?;
-    let mut out = Vec::new(rt.alloc());
-    let ran = run(
-        Storage::with_fixed_seed(rt.alloc()),
-        &mut segment.as_bytes(),
-        &mut orders.as_bytes(),
-        &mut out,
-    );
-    assert!(rt; ran.is_ok());
-    assert_eq!(rt; str::from_utf8(out.as_slice())?, STATEMENT);
-    Ok(())
+fn the_day_of_the_help_runs(rt: HostRuntime) {
+    let segment = shown(&rt, RUN_HELP, "\nsegment.toml\n", "\n\norders.csv\n");
+    let orders = shown(&rt, RUN_HELP, "\norders.csv\n", "\n\nUsage:");
+    let statement = statement_of(&rt, segment.as_str(), orders.as_str());
+    assert!(rt; statement.as_slice() == STATEMENT.as_bytes());
 }

@@ -24,7 +24,7 @@ pub enum Stream {
 pub struct Call<'a> {
     pub alloc: Global,
     pub words: &'a [&'a [u8]],
-    pub files: &'a [(&'a str, &'a [u8])],
+    pub files: &'a [(&'a str, &'a str)],
     pub output: Stream,
     pub printed: RefCell<String>,
     pub complained: RefCell<String>,
@@ -36,7 +36,7 @@ impl<'a> Call<'a> {
     pub fn new(
         alloc: Global,
         words: &'a [&'a [u8]],
-        files: &'a [(&'a str, &'a [u8])],
+        files: &'a [(&'a str, &'a str)],
         output: Stream,
     ) -> Call<'a> {
         Call {
@@ -192,9 +192,10 @@ impl<'a> Files for Call<'a> {
     type Dir = Opened<'a>;
 
     fn open_file(&self, _how: &OpenOptions, path: &str) -> io::Result<Opened<'a>> {
-        for (name, bytes) in self.files {
+        for (name, text) in self.files {
             if *name == path {
-                return Ok(Opened { left: bytes });
+                let left = text.as_bytes();
+                return Ok(Opened { left });
             }
         }
         Err(io::Error::from(io::ErrorKind::NotFound))
