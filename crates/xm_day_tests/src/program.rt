@@ -101,20 +101,20 @@ fn has_line(rt: &impl Abort, fault: DayFault, expected: &str) {
 }
 
 /// Compares the lines by which the program tells of a fault in either file.
-fn has_lines(rt: &(impl Abort + AllocGlobal), fault: FileFault, end: &str) {
+fn has_lines(rt: &(impl Abort + AllocGlobal), fault: &FileFault, end: &str) {
     let line = (format!(in rt.alloc(); "xetra-day: segment: {end}")).expect(rt, "memory");
-    has_line(rt, DayFault::Segment(fault), line.as_str());
+    has_line(rt, DayFault::Segment(*fault), line.as_str());
     let line = (format!(in rt.alloc(); "xetra-day: orders: {end}")).expect(rt, "memory");
-    has_line(rt, DayFault::Orders(fault), line.as_str());
+    has_line(rt, DayFault::Orders(*fault), line.as_str());
 }
 
 #[test]
 fn each_fault_of_a_file_has_its_line(rt: HostRuntime) {
     for (fault, end) in FILE_FAULTS {
-        has_lines(&rt, fault, end);
+        has_lines(&rt, &fault, end);
     }
     let memory = FileCause::OutOfMemory(want_of_memory(&rt));
-    has_lines(&rt, at!(0, memory), "line 0: OutOfMemory\n");
+    has_lines(&rt, &at!(0, memory), "line 0: OutOfMemory\n");
 }
 
 #[test]
