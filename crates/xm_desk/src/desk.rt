@@ -6,7 +6,7 @@ ghost use Rattle.xm_positions.specs.Positions.{cash_position, net_position};
 ghost use Rattle.xm_rules.specs.Refusals.{refusal_of};
 ghost use Rattle.xm_rules.specs.Quote.{best_limit, indicative, quote};
 ghost use Rattle.xm_rules.specs.State.{ref1, ref2};
-ghost use Rattle.xm_rules.specs.Step.{is_lawful, replay, reply};
+ghost use Rattle.xm_rules.specs.Step.{is_lawful, new_trades, replay, reply};
 ghost use Rattle.xm_rules.specs.Sums.{AreWithinLimits, cash, has_traded, net, total_money, total_quantity};
 ghost use Rattle.xm_ticks.specs.declared.numbers.TheConstants.{MAX_QUANTITY};
 
@@ -115,6 +115,7 @@ impl<A: Allocator + Copy> Desk<A> {
         ensures accepted { OnOk result (refusal_of (replay self.old) command.now ≡ None) }
         ensures journal { OnOk result (self.new ≡ record self.old { commands = self.old.commands ++ command.now ∷ [] }) }
         ensures reply { IfOk result (λ answer. answer ≡ reply (replay self.old) (replay self.new)) }
+        ensures appended { OnOk result ((replay self.new).trades ≡ (replay self.old).trades ++ new_trades (replay self.old) (replay self.new)) }
         ensures refused { IfErr result (λ refusal. refusal ≢ Refusal.OutOfMemory tt → refusal_of (replay self.old) command.now ≡ Some refusal) }
         ensures memory { result ≡ Err (Refusal.OutOfMemory tt) → refusal_of (replay self.old) command.now ≡ None }
         ensures kept { OnErr result (self.new ≡ self.old) }

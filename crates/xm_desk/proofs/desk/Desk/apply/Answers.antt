@@ -6,7 +6,7 @@ use Rattle.xm_rules.proofs.Kept.{step-settings}
 use Rattle.xm_rules.proofs.Memory.{refusal-not_memory}
 use Rattle.xm_rules.specs.Refusals.{refusal_of}
 use Rattle.xm_rules.specs.State.{State}
-use Rattle.xm_rules.specs.Step.{Journal, is_lawful, replay, reply, step}
+use Rattle.xm_rules.specs.Step.{Journal, is_lawful, new_trades, replay, reply, step}
 use Rattle.xm_rules.specs.Sums.{AreWithinLimits, IsBetweenMembers, total_money, total_quantity}
 use Rattle.xm_rules.specs.declared.commands.Command.{Command}
 use Rattle.xm_rules.specs.declared.orders.Trade.{Trade}
@@ -80,6 +80,15 @@ returns-clause-reply g c =
     ∙ sym (reply-parts s t)
     ∙ ap (λ (u : State). reply u t) before
     ∙ ap (λ (u : State). reply (replay c.args.self.now) u) (invariant_of-self-2 g c).replayed
+
+pub returns-clause-appended : goal.returns-clause-appended
+returns-clause-appended g c =
+    let s = c.self.inside.market.state in
+    let t = c.step.new.self.state in
+    let IsAppended : State → State → Type 0 = λ a b. b.trades ≡ a.trades ++ new_trades a b in
+    let appended : IsAppended s t = search rules in
+    let before : s ≡ replay c.args.self.now = c.self.invariant.replayed ∙ ap replay c.self.view_is in
+    subst (IsAppended (replay c.args.self.now)) (invariant_of-self-2 g c).replayed (subst (λ (a : State). IsAppended a t) before appended)
 
 pub record_from-reply-requires-clause-members : goal.record_from-reply-requires-clause-members
 record_from-reply-requires-clause-members g c =
