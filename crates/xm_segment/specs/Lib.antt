@@ -1,1 +1,9 @@
+pub mod Answers
+pub mod Gathering
+pub mod Ledgers
+pub mod Lends
+pub mod Names
 pub mod Opening
+pub mod Reports
+pub mod Room
+pub mod Seats

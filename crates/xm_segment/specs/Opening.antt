@@ -14,9 +14,13 @@ abbrev pub settings_of : SegmentConfig → SecurityConfig → DeskSettings
 settings_of config security =
     record { today = config.today; members = config.members; tick = security.tick; reference = security.reference; widths = security.widths; limit = security.limit }
 
+-- the journal that a desk with these settings begins
+abbrev pub fresh_journal : DeskSettings → Journal
+fresh_journal settings = record { settings = settings; commands = [] }
+
 -- the journal that the desk of a security begins
 abbrev pub journal_of : SegmentConfig → SecurityConfig → Journal
-journal_of config security = record { settings = settings_of config security; commands = [] }
+journal_of config security = fresh_journal (settings_of config security)
 
 -- the most securities and the most members of a segment
 abbrev pub max_securities : ℕ
@@ -31,3 +35,16 @@ segment_fault config =
     if not (nat_lt 0 (length config.securities)) then Some NoSecurity
     else (if nat_lt max_securities (length config.securities) || nat_lt max_members config.members then Some TooMany
     else (if list_all (λ (security : SecurityConfig). are_widths security.widths) config.securities then None else Some BadWidths))
+
+-- the most workers of a segment, and the most watchers
+abbrev pub max_workers : ℕ
+max_workers = 64
+
+-- too many workers or watchers, which is told after the want of a security
+abbrev pub crowd_fault : SegmentConfig → Option OpenFault
+crowd_fault config = if not (nat_lt 0 (length config.securities)) then Some NoSecurity else Some TooMany
+
+-- what is wrong with a segment for so many workers and watchers, if anything is
+abbrev pub opening_fault : SegmentConfig → ℕ → ℕ → Option OpenFault
+opening_fault config workers watchers =
+    if nat_lt max_workers workers || nat_lt max_workers watchers then crowd_fault config else segment_fault config

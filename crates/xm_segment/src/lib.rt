@@ -2,9 +2,30 @@
 #![tactic(auto)]
 
 mod config;
+mod gate;
+mod gathered;
+mod gathering;
+mod lane;
+mod ledgers;
+mod locked;
+mod naming;
+mod opened;
 mod opening;
 mod rows;
+mod seat;
+mod segment;
+mod share_row;
+mod working;
 
 pub use crate::config::{Securities, SecurityConfig, SegmentConfig};
-pub use crate::opening::{MAX_SECURITIES, open_desks};
+pub use crate::gate::{Gate, NoGate};
+pub use crate::gathered::{GatherFault, Gathered};
+pub use crate::ledgers::{Books, Shares};
+pub use crate::locked::Locked;
+pub use crate::naming::{Accepted, Money, Naming, Quantity};
+pub use crate::opened::Blanks;
+pub use crate::opening::{MAX_SECURITIES, MAX_WORKERS, open_desks};
 pub use crate::rows::Row;
+pub use crate::seat::{Seat, WatchRow};
+pub use crate::segment::Segment;
+pub use crate::working::{MAX_ROWS, REFUSALS, WorkerReport};

@@ -2,7 +2,7 @@
 ghost use Rattle.std.specs.Prelude.{◌≡◌, ◌≢◌, map, Err, IfErr, IfOk, None, OnOk, Some};
 ghost use Rattle.std.specs.List.{list_all};
 ghost use Rattle.xm_rules.specs.Settings.{are_widths};
-ghost use Rattle.xm_segment.specs.Opening.{journal_of, segment_fault, settings_of};
+ghost use Rattle.xm_segment.specs.Opening.{journal_of, opening_fault, segment_fault, settings_of};
 
 use crate::config::{SecurityConfig, SegmentConfig};
 use std::alloc::Allocator;
@@ -13,6 +13,9 @@ use xm_rules::DeskSettings;
 
 /// The most securities of a segment.
 pub const MAX_SECURITIES: usize = 8;
+
+/// The most workers of a segment, and the most watchers.
+pub const MAX_WORKERS: u32 = 64;
 
 /// Opens a desk for each security of a segment, in index order.
 ///
@@ -34,7 +37,7 @@ pub fn open_desks<A: Allocator + Copy>(
 }
 
 /// The desks of a segment without a fault, unless memory is wanting.
-fn desks_of<A: Allocator + Copy>(
+pub(crate) fn desks_of<A: Allocator + Copy>(
     storage: Storage<A>,
     config: &SegmentConfig,
 ) -> Result<Vec<Desk<A>, A>, OpenFault>
@@ -62,6 +65,19 @@ impl SegmentConfig {
             reference: security.reference,
             widths: security.widths,
             limit: security.limit,
+        }
+    }
+
+    /// What is wrong with the segment for so many workers and watchers, if anything is.
+    pub(crate) fn opening_fault(&self, workers: u32, watchers: u32) -> Option<OpenFault>
+        ensures { result ≡ opening_fault self.now workers watchers }
+    {
+        if workers <= MAX_WORKERS && watchers <= MAX_WORKERS {
+            self.segment_fault()
+        } else if self.securities.as_slice().is_empty() {
+            Some(OpenFault::NoSecurity)
+        } else {
+            Some(OpenFault::TooMany)
         }
     }
 

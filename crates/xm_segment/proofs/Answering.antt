@@ -1,0 +1,248 @@
+-- Rows that were answered one after another, and what a report counts of their answers.
+use Rattle.std.proofs.Common.{◌≡◌, ℕ, ◌+◌, ◌*◌, ◌<◌, ◌≤◌, Bool, true, false, List, [], ◌∷◌, ◌++◌, length, get_or, take, drop, take-append-drop, suc, Result, Ok, Err, refl, sym, ap, ◌∙◌, subst, arith}
+use Rattle.std.specs.Prelude.{MatchBool, slice_get, slice_index, sum}
+use Rattle.std.proofs.Math.Seq.{drop-cons}
+use Rattle.std.proofs.lemmas.List.{get_or-set_same, length-append, length-set, length-take-le, take_all, take_more}
+use Rattle.std.proofs.lemmas.List.Sums.{get_or-le-sum_by, sum_by-set}
+use Rattle.xm_rules.specs.declared.replies.Refusal.{Refusal}
+use Rattle.xm_rules.specs.declared.replies.Refusal.TheVariants.{UnknownSecurity, UnknownMember, DayEnded, BadQuantity, BadPrice, BadValidity, BadCombination, WrongPhase, DuplicateReference, UnknownOrder, NotChangeable, TriggerReached, JournalFull, OutOfMemory}
+use Rattle.xm_rules.specs.declared.replies.Reply.{Reply}
+use Rattle.xm_rules.specs.declared.settings.DeskSettings.{DeskSettings}
+use Rattle.xm_segment.proofs.Lanes.{accepted-raises, quantity-raises, refused-counts}
+use Rattle.xm_rules.specs.declared.totals.TheConstants.{MAX_TRADED_QUANTITY}
+use Rattle.xm_segment.specs.Answers.{IsAnswered}
+use Rattle.xm_segment.specs.Ledgers.{FitLanes, accepted_in, quantity_in}
+use Rattle.xm_segment.specs.Reports.{HasRoomIn, no_report, raised_at, refusal_place, report_from, with_answer_in}
+use Rattle.xm_segment.specs.Seats.{SeatView, WereAnswered, all_answered, seat_after, lacks_memory}
+use Rattle.xm_segment.specs.declared.rows.Row.{Row}
+use Rattle.xm_segment.specs.declared.working.WorkerReport.{WorkerReport}
+
+-- each of these rows was answered, and none of them lacked memory
+abbrev pub AllAnswered : List DeskSettings → List Row → List (Result Reply Refusal) → Type 0
+AllAnswered settings [] [] = Unit {0}
+AllAnswered settings (row ∷ rows) (answer ∷ answers) =
+    IsAnswered (slice_get settings row.security) row.command answer × (lacks_memory answer ≡ false) × AllAnswered settings rows answers
+AllAnswered settings _ _ = ⊥
+
+module _ (settings : List DeskSettings) where
+  abbrev after : List Row → List (Result Reply Refusal) → Bool → Type 0
+  after rows answers lacks = MatchBool lacks (answers ≡ []) (WereAnswered settings rows answers)
+
+  pub whole : (rows : List Row) (answers : List (Result Reply Refusal)) → AllAnswered settings rows answers → WereAnswered settings rows answers
+  whole [] [] all = all
+  whole [] (a ∷ as') all = absurd all
+  whole (row ∷ rows) [] all = absurd all
+  whole (row ∷ rows) (a ∷ as') all = (all.0, subst (after rows as') (sym all.1) (whole rows as' all.2))
+
+  -- the first that lacked memory is the last
+  pub cut : (rows : List Row) (answers : List (Result Reply Refusal)) (row : Row) (answer : Result Reply Refusal) (more : List Row) → AllAnswered settings rows answers
+      → IsAnswered (slice_get settings row.security) row.command answer → lacks_memory answer ≡ true → WereAnswered settings (rows ++ row ∷ more) (answers ++ answer ∷ [])
+  cut [] [] row answer more all is lacks = (is, subst (after more []) (sym lacks) refl)
+  cut [] (a ∷ as') row answer more all is lacks = absurd all
+  cut (r ∷ rows) [] row answer more all is lacks = absurd all
+  cut (r ∷ rows) (a ∷ as') row answer more all is lacks =
+      (all.0, subst (after (rows ++ row ∷ more) (as' ++ answer ∷ [])) (sym all.1) (cut rows as' row answer more all.2 is lacks))
+
+  pub one-more : (rows : List Row) (answers : List (Result Reply Refusal)) (row : Row) (answer : Result Reply Refusal) → AllAnswered settings rows answers
+      → IsAnswered (slice_get settings row.security) row.command answer → lacks_memory answer ≡ false → AllAnswered settings (rows ++ row ∷ []) (answers ++ answer ∷ [])
+  one-more [] [] row answer all is has = (is, has, all)
+  one-more [] (a ∷ as') row answer all is has = absurd all
+  one-more (r ∷ rows) [] row answer all is has = absurd all
+  one-more (r ∷ rows) (a ∷ as') row answer all is has = (all.0, all.1, one-more rows as' row answer all.2 is has)
+
+  none-answered : (seat : SeatView) (rows : List Row) → all_answered seat rows [] ≡ seat
+  none-answered seat [] = refl
+  none-answered seat (row ∷ rows) = refl
+
+  pub seat-after : (seat : SeatView) (rows : List Row) (answers : List (Result Reply Refusal)) (row : Row) (answer : Result Reply Refusal) (more : List Row) → AllAnswered settings rows answers
+      → all_answered seat (rows ++ row ∷ more) (answers ++ answer ∷ []) ≡ seat_after (all_answered seat rows answers) row.security answer
+  seat-after seat [] [] row answer more all = none-answered (seat_after seat row.security answer) more
+  seat-after seat [] (a ∷ as') row answer more all = absurd all
+  seat-after seat (r ∷ rows) [] row answer more all = absurd all
+  seat-after seat (r ∷ rows) (a ∷ as') row answer more all = seat-after (seat_after seat r.security a) rows as' row answer more all.2
+
+  -- as many answers as rows
+  pub as-many : (rows : List Row) (answers : List (Result Reply Refusal)) → AllAnswered settings rows answers → length answers ≡ length rows
+  as-many [] [] all = refl
+  as-many [] (a ∷ as') all = absurd all
+  as-many (r ∷ rows) [] all = absurd all
+  as-many (r ∷ rows) (a ∷ as') all = omega (arith, as-many rows as' all.2)
+
+pub report-push : (r : WorkerReport) (answers : List (Result Reply Refusal)) (answer : Result Reply Refusal) → report_from r (answers ++ answer ∷ []) ≡ with_answer_in (report_from r answers) answer
+report-push r [] answer = refl
+report-push r (a ∷ as') answer = report-push (with_answer_in r a) as' answer
+
+-- ---- what a report counts
+
+-- each of so many answers stands at one place
+pub record Counts (n : ℕ) (r : WorkerReport) : Type 0 where
+  pub places : length r.refused ≡ 14
+  pub counted : r.accepted + sum r.refused ≡ n
+
+pub place-within : (e : Refusal) → refusal_place e < 14
+place-within UnknownSecurity = omega arith
+place-within UnknownMember = omega arith
+place-within DayEnded = omega arith
+place-within BadQuantity = omega arith
+place-within BadPrice = omega arith
+place-within BadValidity = omega arith
+place-within BadCombination = omega arith
+place-within WrongPhase = omega arith
+place-within DuplicateReference = omega arith
+place-within UnknownOrder = omega arith
+place-within NotChangeable = omega arith
+place-within TriggerReached = omega arith
+place-within JournalFull = omega arith
+place-within (OutOfMemory _) = omega arith
+
+pub counts-more : (n : ℕ) (r : WorkerReport) (a : Result Reply Refusal) → Counts n r → Counts (n + 1) (with_answer_in r a)
+counts-more n r (Ok reply) c = record { places = c.places; counted = omega (arith, c.counted) }
+counts-more n r (Err e) c =
+    let place = refusal_place e in
+    let within : place < length r.refused = omega (arith, place-within e, c.places) in
+    let raised = sum_by-set (λ (x : ℕ). x) r.refused place (slice_index r.refused place + 1) 0 within in
+    record { places = length-set r.refused place (slice_index r.refused place + 1) ∙ c.places; counted = omega (arith, c.counted, raised) }
+
+-- no place counts more than all
+pub count-within : (n : ℕ) (r : WorkerReport) (e : Refusal) → Counts n r → slice_index r.refused (refusal_place e) ≤ n
+count-within n r e c =
+    let within : refusal_place e < length r.refused = omega (arith, place-within e, c.places) in
+    omega (arith, c.counted, get_or-le-sum_by (λ (x : ℕ). x) r.refused (refusal_place e) 0 within)
+
+pub nothing-counts : Counts 0 no_report
+nothing-counts = record { places = refl; counted = refl }
+
+-- what is said of a worker's rows at their end, or where memory was wanting for one
+pub record HasWorked (settings : List DeskSettings) (before : SeatView) (rows : List Row) (seat : SeatView) (report : WorkerReport) : Type 0 where
+  pub answers : List (Result Reply Refusal)
+  pub were : WereAnswered settings rows answers
+  pub seats : seat ≡ all_answered before rows answers
+  pub reports : report ≡ report_from no_report answers
+  pub accepted : accepted_in seat.sums ≡ accepted_in before.sums + report.accepted
+  pub quantity : quantity_in seat.sums ≡ quantity_in before.sums + report.quantity
+
+-- a seat whose rows were taken so far, all answered and none for want of memory, and the report of them
+pub record IsWorked (settings : List DeskSettings) (before : SeatView) (rows : List Row) (seat : SeatView) (report : WorkerReport) : Type 0 where
+  pub answers : List (Result Reply Refusal)
+  pub all : AllAnswered settings rows answers
+  pub seats : seat ≡ all_answered before rows answers
+  pub reports : report ≡ report_from no_report answers
+  pub counts : Counts (length rows) report
+  pub accepted : accepted_in seat.sums ≡ accepted_in before.sums + report.accepted
+  pub quantity : quantity_in seat.sums ≡ quantity_in before.sums + report.quantity
+
+pub none-worked : (settings : List DeskSettings) (seat : SeatView) → IsWorked settings seat [] seat no_report
+none-worked settings seat =
+    record { answers = []; all = tt; seats = refl; reports = refl; counts = nothing-counts; accepted = omega arith; quantity = omega arith }
+
+accepted-more : (settings : List DeskSettings) (seat next : SeatView) (row : Row) (answer : Result Reply Refusal) (report : WorkerReport) (n m : ℕ) → next ≡ seat_after seat row.security answer
+    → IsAnswered (slice_get settings row.security) row.command answer → FitLanes settings seat.sums
+    → accepted_in seat.sums ≡ n + report.accepted → quantity_in seat.sums ≡ m + report.quantity
+    → (accepted_in next.sums ≡ n + (with_answer_in report answer).accepted) × (quantity_in next.sums ≡ m + (with_answer_in report answer).quantity)
+accepted-more settings seat next row (Ok reply) report n m took is fit accepted quantity =
+    let sums = ap (λ (s : SeatView). s.sums) took in
+    (omega (arith, ap accepted_in sums, accepted-raises settings row.security seat.sums row.command reply is fit, accepted), omega (arith, ap quantity_in sums, quantity-raises settings row.security seat.sums row.command reply is fit, quantity))
+accepted-more settings seat next row (Err e) report n m took is fit accepted quantity =
+    let sums = ap (λ (s : SeatView). s.sums) took ∙ refused-counts row.security seat.sums e in
+    (ap accepted_in sums ∙ accepted, ap quantity_in sums ∙ quantity)
+
+-- a report of fewer rows than a worker takes has room for one more, where what was traded is within what eight securities trade
+room-for : (n : ℕ) (report : WorkerReport) (answer : Result Reply Refusal) → Counts n report → n < 1000000 → (with_answer_in report answer).quantity ≤ 8 * MAX_TRADED_QUANTITY → HasRoomIn report answer
+room-for n report (Ok reply) c few within = (omega (arith, c.counted), omega (arith, within))
+room-for n report (Err e) c few within = omega (arith, count-within n report e c)
+
+-- want of memory has the last place, and is counted there
+pub want-counted : (report : WorkerReport) (answer : Result Reply Refusal) (n : ℕ) → Counts n report → lacks_memory answer ≡ true → slice_index (with_answer_in report answer).refused 13 ≡ 0 → ⊥
+want-counted report (Ok reply) n c lacks none = cc
+want-counted report (Err (OutOfMemory _)) n c lacks none =
+    let raised : slice_index (raised_at 13 report.refused) 13 ≡ slice_index report.refused 13 + 1 = get_or-set_same report.refused 13 (slice_index report.refused 13 + 1) 0 (omega (arith, c.places)) in
+    absurd (omega (arith, raised, none))
+want-counted report (Err UnknownSecurity) n c lacks none = cc
+want-counted report (Err UnknownMember) n c lacks none = cc
+want-counted report (Err DayEnded) n c lacks none = cc
+want-counted report (Err BadQuantity) n c lacks none = cc
+want-counted report (Err BadPrice) n c lacks none = cc
+want-counted report (Err BadValidity) n c lacks none = cc
+want-counted report (Err BadCombination) n c lacks none = cc
+want-counted report (Err WrongPhase) n c lacks none = cc
+want-counted report (Err DuplicateReference) n c lacks none = cc
+want-counted report (Err UnknownOrder) n c lacks none = cc
+want-counted report (Err NotChangeable) n c lacks none = cc
+want-counted report (Err TriggerReached) n c lacks none = cc
+want-counted report (Err JournalFull) n c lacks none = cc
+
+-- a row that is answered next
+module _ (settings : List DeskSettings) (before seat next : SeatView) (rows : List Row) (row : Row) (answer : Result Reply Refusal) (report : WorkerReport) (w : IsWorked settings before rows seat report)
+    (took : next ≡ seat_after seat row.security answer) (is : IsAnswered (slice_get settings row.security) row.command answer) (fit : FitLanes settings seat.sums) where
+  sums_now : (accepted_in next.sums ≡ accepted_in before.sums + (with_answer_in report answer).accepted) × (quantity_in next.sums ≡ quantity_in before.sums + (with_answer_in report answer).quantity)
+  sums_now = accepted-more settings seat next row answer report (accepted_in before.sums) (quantity_in before.sums) took is fit w.accepted w.quantity
+
+  seat_now : (more : List Row) → next ≡ all_answered before (rows ++ row ∷ more) (w.answers ++ answer ∷ [])
+  seat_now more = took ∙ ap (λ (s : SeatView). seat_after s row.security answer) w.seats ∙ sym (seat-after settings before rows w.answers row answer more w.all)
+
+  report_now : with_answer_in report answer ≡ report_from no_report (w.answers ++ answer ∷ [])
+  report_now = ap (λ (r : WorkerReport). with_answer_in r answer) w.reports ∙ sym (report-push no_report w.answers answer)
+
+  pub worked-more : lacks_memory answer ≡ false → IsWorked settings before (rows ++ row ∷ []) next (with_answer_in report answer)
+  worked-more has =
+      record {
+        answers = w.answers ++ answer ∷ [];
+        all = one-more settings rows w.answers row answer w.all is has;
+        seats = seat_now [];
+        reports = report_now;
+        counts = subst (λ (n : ℕ). Counts n (with_answer_in report answer)) (sym (length-append rows (row ∷ []))) (counts-more (length rows) report answer w.counts);
+        accepted = sums_now.0;
+        quantity = sums_now.1;
+      }
+
+  -- all that a worker's report says where it ends for want of memory
+  pub worked-cut : (more : List Row) → lacks_memory answer ≡ true → HasWorked settings before (rows ++ row ∷ more) next (with_answer_in report answer)
+  worked-cut more lacks =
+      record {
+        answers = w.answers ++ answer ∷ [];
+        were = cut settings rows w.answers row answer more w.all is lacks;
+        seats = seat_now more;
+        reports = report_now;
+        accepted = sums_now.0;
+        quantity = sums_now.1;
+      }
+
+  quantity-room : quantity_in next.sums ≤ 8 * MAX_TRADED_QUANTITY → (with_answer_in report answer).quantity ≤ 8 * MAX_TRADED_QUANTITY
+  quantity-room within = omega (arith, within, sums_now.1)
+
+  pub room : length rows < 1000000 → quantity_in next.sums ≤ 8 * MAX_TRADED_QUANTITY → HasRoomIn report answer
+  room few within = room-for (length rows) report answer w.counts few (quantity-room within)
+
+-- the row with this index is answered next
+module _ (settings : List DeskSettings) (before seat next : SeatView) (rows : List Row) (i : ℕ) (d : Row) (answer : Result Reply Refusal) (report : WorkerReport) (within : i < length rows)
+    (w : IsWorked settings before (take i rows) seat report) (took : next ≡ seat_after seat (get_or rows i d).security answer)
+    (is : IsAnswered (slice_get settings (get_or rows i d).security) (get_or rows i d).command answer) (fit : FitLanes settings seat.sums) where
+  pub row-worked : lacks_memory answer ≡ false → IsWorked settings before (take (i + 1) rows) next (with_answer_in report answer)
+  row-worked has =
+      subst (λ (rs : List Row). IsWorked settings before rs next (with_answer_in report answer)) (sym (take_more rows i d within))
+      (worked-more settings before seat next (take i rows) (get_or rows i d) answer report w took is fit has)
+
+  pub row-cut : lacks_memory answer ≡ true → HasWorked settings before rows next (with_answer_in report answer)
+  row-cut lacks =
+      subst (λ (rs : List Row). HasWorked settings before rs next (with_answer_in report answer)) (ap (λ (rs : List Row). take i rows ++ rs) (sym (drop-cons rows i d within)) ∙ take-append-drop i rows)
+      (worked-cut settings before seat next (take i rows) (get_or rows i d) answer report w took is fit (drop (suc i) rows) lacks)
+
+  pub row-room : length rows ≤ 1000000 → quantity_in next.sums ≤ 8 * MAX_TRADED_QUANTITY → HasRoomIn report answer
+  row-room few quantity =
+      room settings before seat next (take i rows) (get_or rows i d) answer report w took is fit (omega (arith, length-take-le i rows (omega (arith, within)), within, few)) quantity
+
+-- all rows are answered
+pub rows-worked : (settings : List DeskSettings) (before seat : SeatView) (rows : List Row) (i : ℕ) (report : WorkerReport) → length rows ≤ i → IsWorked settings before (take i rows) seat report
+    → HasWorked settings before rows seat report × (report.accepted + sum report.refused ≡ length rows)
+rows-worked settings before seat rows i report end w =
+    let whole-rows = take_all i rows end in (
+      record {
+        answers = w.answers;
+        were = subst (λ (rs : List Row). WereAnswered settings rs w.answers) whole-rows (whole settings (take i rows) w.answers w.all);
+        seats = w.seats ∙ ap (λ (rs : List Row). all_answered before rs w.answers) whole-rows;
+        reports = w.reports;
+        accepted = w.accepted;
+        quantity = w.quantity;
+      },
+      w.counts.counted ∙ ap length whole-rows,
+    )

@@ -1,0 +1,48 @@
+-- What a worker's report counts.
+use Rattle.std.specs.Prelude.{ℕ, ◌+◌, ◌<◌, ◌^◌, List, [], ◌∷◌, slice_index, slice_set, Result, Ok, Err}
+use Rattle.xm_rules.specs.declared.replies.Refusal.{Refusal}
+use Rattle.xm_rules.specs.declared.replies.Refusal.TheVariants.{UnknownSecurity, UnknownMember, DayEnded, BadQuantity, BadPrice, BadValidity, BadCombination, WrongPhase, DuplicateReference, UnknownOrder, NotChangeable, TriggerReached, JournalFull, OutOfMemory}
+use Rattle.xm_rules.specs.declared.replies.Reply.{Reply}
+use Rattle.xm_segment.specs.declared.working.WorkerReport.{WorkerReport}
+
+-- the place of a refusal in the order of the checks
+abbrev pub refusal_place : Refusal → ℕ
+refusal_place UnknownSecurity = 0
+refusal_place UnknownMember = 1
+refusal_place DayEnded = 2
+refusal_place BadQuantity = 3
+refusal_place BadPrice = 4
+refusal_place BadValidity = 5
+refusal_place BadCombination = 6
+refusal_place WrongPhase = 7
+refusal_place DuplicateReference = 8
+refusal_place UnknownOrder = 9
+refusal_place NotChangeable = 10
+refusal_place TriggerReached = 11
+refusal_place JournalFull = 12
+refusal_place (OutOfMemory _) = 13
+
+abbrev pub no_report : WorkerReport
+no_report = record { accepted = 0; refused = 0 ∷ 0 ∷ 0 ∷ 0 ∷ 0 ∷ 0 ∷ 0 ∷ 0 ∷ 0 ∷ 0 ∷ 0 ∷ 0 ∷ 0 ∷ 0 ∷ []; quantity = 0 }
+
+-- a report with one more at this place
+abbrev pub raised_at : ℕ → List ℕ → List ℕ
+raised_at place counts = slice_set counts place (slice_index counts place + 1)
+
+-- a report with an answer more: an accepted row with what it traded, or a refused one at its refusal's place
+abbrev pub with_answer_in : WorkerReport → Result Reply Refusal → WorkerReport
+with_answer_in r (Ok reply) = record { accepted = r.accepted + 1; refused = r.refused; quantity = r.quantity + reply.quantity }
+with_answer_in r (Err refusal) = record r { refused = raised_at (refusal_place refusal) r.refused }
+
+-- one answer more can be counted
+abbrev pub HasRoomIn : WorkerReport → Result Reply Refusal → Type 0
+HasRoomIn r (Ok reply) = (r.accepted + 1 < 2 ^ 64) × (r.quantity + reply.quantity < 2 ^ 64)
+HasRoomIn r (Err refusal) = slice_index r.refused (refusal_place refusal) + 1 < 2 ^ 64
+
+abbrev pub report_from : WorkerReport → List (Result Reply Refusal) → WorkerReport
+report_from r [] = r
+report_from r (answer ∷ answers) = report_from (with_answer_in r answer) answers
+
+-- the report of some answers
+abbrev pub report_of : List (Result Reply Refusal) → WorkerReport
+report_of answers = report_from no_report answers

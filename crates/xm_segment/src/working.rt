@@ -1,0 +1,155 @@
+//! A worker's rows, taken one after another.
+ghost use Rattle.std.specs.Prelude.{◌≡◌, ◌+◌, ◌-◌, ◌*◌, ◌<◌, ◌≤◌, List, Result, length, slice_get, slice_index, sum};
+ghost use Rattle.xm_rules.specs.declared.replies.Refusal.{Refusal};
+ghost use Rattle.xm_rules.specs.declared.replies.Reply.{Reply};
+ghost use Rattle.xm_rules.specs.declared.totals.TheConstants.{MAX_TRADED_QUANTITY};
+ghost use Rattle.xm_segment.specs.Answers.{IsAnswered};
+ghost use Rattle.xm_segment.specs.Ledgers.{FitLanes, accepted_in, quantity_in};
+ghost use Rattle.xm_segment.specs.Reports.{HasRoomIn, no_report, refusal_place, report_of, with_answer_in};
+ghost use Rattle.xm_segment.specs.Seats.{WereAnswered, all_answered, seat_after, lacks_memory};
+ghost use Rattle.xm_segment.specs.declared.opening.TheConstants.{MAX_SECURITIES};
+ghost use Rattle.xm_segment.specs.declared.working.TheConstants.{MAX_ROWS, REFUSALS};
+
+use crate::gate::Gate;
+use crate::naming::Naming;
+use crate::rows::Row;
+use crate::seat::Seat;
+use crate::segment::Segment;
+use std::sync::Wait;
+use xm_rules::{Refusal, Reply};
+
+/// The most rows that a worker takes at once.
+pub const MAX_ROWS: usize = 1_000_000;
+
+/// How many refusals there are.
+pub const REFUSALS: usize = 14;
+
+/// What a worker's rows came to.
+#[derive(Clone, Copy, PartialEq, Eq, Debug)]
+pub struct WorkerReport {
+    /// How many were accepted.
+    pub accepted: u64,
+    /// How many were refused, by the place of the refusal in the order of the checks: that of an unknown security is 0, that
+    /// of want of memory, which is the last, 13.
+    pub refused: [u64; REFUSALS],
+    /// What the accepted ones traded, in units.
+    pub quantity: u64,
+}
+
+impl WorkerReport {
+    /// The report of no rows.
+    fn new() -> WorkerReport
+        ensures { result ≡ no_report }
+    {
+        WorkerReport {
+            accepted: 0,
+            refused: [0; REFUSALS],
+            quantity: 0,
+        }
+    }
+
+    /// Counts an answer.
+    fn count(&mut self, answer: &Result<Reply, Refusal>)
+        requires room { HasRoomIn self.old answer.now }
+        ensures { self.new ≡ with_answer_in self.old answer.now }
+    {
+        match answer {
+            Ok(reply) => {
+                self.accepted += 1;
+                self.quantity += reply.quantity;
+            }
+            Err(refusal) => self.refused[place_of(refusal)] += 1,
+        }
+    }
+}
+
+/// The place of a refusal in the order of the checks.
+fn place_of(refusal: &Refusal) -> usize
+    ensures place { result ≡ refusal_place refusal.now }
+    ensures within { result < REFUSALS }
+{
+    match refusal {
+        Refusal::UnknownSecurity => 0,
+        Refusal::UnknownMember => 1,
+        Refusal::DayEnded => 2,
+        Refusal::BadQuantity => 3,
+        Refusal::BadPrice => 4,
+        Refusal::BadValidity => 5,
+        Refusal::BadCombination => 6,
+        Refusal::WrongPhase => 7,
+        Refusal::DuplicateReference => 8,
+        Refusal::UnknownOrder => 9,
+        Refusal::NotChangeable => 10,
+        Refusal::TriggerReached => 11,
+        Refusal::JournalFull => 12,
+        Refusal::OutOfMemory(_) => 13,
+    }
+}
+
+/// Whether an answer is want of memory.
+fn lacks_memory(answer: &Result<Reply, Refusal>) -> bool
+    ensures { result ≡ lacks_memory answer.now }
+{
+    match answer {
+        Err(Refusal::OutOfMemory(_)) => true,
+        _ => false,
+    }
+}
+
+impl<S: Naming> Segment<S> {
+    /// Takes a worker's rows in their order, each under the lock of its security, until all are taken or memory was wanting
+    /// for one.
+    ///
+    /// Each row that was taken has an answer, as `submit` gives it, and the report counts them.
+    pub fn work<R: Wait, G: Gate>(
+        &self,
+        rt: &R,
+        seat: &mut Seat<S>,
+        rows: &[Row],
+        gate: &G,
+    ) -> WorkerReport
+        requires { length rows.now ≤ MAX_ROWS }
+        ensures answers { (answers : List (Result Reply Refusal)) × WereAnswered S.settings rows.now answers
+            × (seat.new ≡ all_answered seat.old rows.now answers) × (result ≡ report_of answers) }
+        ensures accepted { accepted_in seat.new.sums ≡ accepted_in seat.old.sums + result.accepted }
+        ensures quantity { quantity_in seat.new.sums ≡ quantity_in seat.old.sums + result.quantity }
+        ensures all { slice_index result.refused (REFUSALS - 1) ≡ 0 → result.accepted + sum result.refused ≡ length rows.now }
+    {
+        let mut report = WorkerReport::new();
+        if rows.is_empty() {
+            return report;
+        }
+        let worker = seat.number();
+        gate.outside(worker, 0);
+        let mut answered = 0;
+        for row in rows {
+            let answer = self.answer(rt, gate, seat, row);
+            report.count(&answer);
+            answered += 1;
+            gate.outside(worker, answered);
+            if lacks_memory(&answer) {
+                return report;
+            }
+        }
+        report
+    }
+
+    /// Takes a row of a worker.
+    fn answer<R: Wait, G: Gate>(
+        &self,
+        rt: &R,
+        gate: &G,
+        seat: &mut Seat<S>,
+        row: &Row,
+    ) -> Result<Reply, Refusal>
+        ensures fit { FitLanes S.settings seat.old.sums }
+        ensures answer { IsAnswered (slice_get S.settings row.now.security) row.now.command result }
+        ensures seat { seat.new ≡ seat_after seat.old row.now.security result }
+        ensures within { quantity_in seat.new.sums ≤ MAX_SECURITIES * MAX_TRADED_QUANTITY }
+    {
+        let _ = seat.number(); // What every seat keeps is known before and after.
+        let answer = self.take(rt, gate, seat, row.security, &row.command);
+        let _ = seat.number();
+        answer
+    }
+}
