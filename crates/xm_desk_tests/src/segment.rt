@@ -1,0 +1,4 @@
+//! Tests of a segment: commands that workers give, each under the lock of its security, and what is gathered at the end.
+mod opening;
+mod running;
+mod trading;
