@@ -1,14 +1,15 @@
-//! Want of memory, which nothing but a refused growth can say.
+//! Want of memory, which nothing but a refused growth can say, or a refused start of a thread.
 #![tactic(auto)]
 
 ghost use Rattle.std.specs.Prelude.{◌<◌, ◌≤◌, OnErr, OnOk};
 
 use std::alloc::{AllocError, AllocFailed};
 use std::marker::Model;
+use std::thread::SpawnError;
 
-/// A growth was refused.
+/// A growth was refused, or the start of a thread.
 ///
-/// It has no public constructor: it is made of the error of a refused growth alone, so an answer that carries it can't
+/// It has no public constructor: it is made of the error of such a refusal alone, so an answer that carries it can't
 /// be made up. A clause sees all of them as one.
 #[derive(Clone, Copy, PartialEq, Eq, Hash, Debug)]
 pub struct OutOfMemory {
@@ -38,6 +39,12 @@ impl From<AllocError> for OutOfMemory {
 
 impl<T: Drop> From<AllocFailed<T>> for OutOfMemory {
     fn from(_error: AllocFailed<T>) -> OutOfMemory {
+        OutOfMemory { refused: () }
+    }
+}
+
+impl<F: Drop> From<SpawnError<F>> for OutOfMemory {
+    fn from(_refused: SpawnError<F>) -> OutOfMemory {
         OutOfMemory { refused: () }
     }
 }
