@@ -108,9 +108,18 @@ pub fn join_level<A: Allocator + Copy>(
     ensures other_ladder { (s : Side) (r : Restriction) → (same_side s order.now.side && same_restriction r order.now.restriction) ≡ false → ladder_on r (side_of s ladders.new) ≡ ladder_on r (side_of s ladders.old) }
 {
     let ladder = ladders.of_mut(order.side).of_mut(order.restriction);
-    let before = level_of_kind(ladder, order.kind);
-    ladder.put(order.kind, level_joined(links, &before, order, key));
-    before
+    // Each arm writes, so that the compiler knows in each whether the level is there.
+    match ladder.level(order.kind) {
+        Some(before) => {
+            ladder.put(order.kind, level_joined(links, &before, order, key));
+            before
+        }
+        None => {
+            let before = Level::empty();
+            ladder.put(order.kind, level_joined(links, &before, order, key));
+            before
+        }
+    }
 }
 
 /// The order under this key leaves its level, which is cleared where it was the only one. Gives the level before. The level is
@@ -134,7 +143,7 @@ pub fn leave_level<A: Allocator + Copy>(
     ensures room_kept { (s : Side) (r : Restriction) (k : OrderKind) (n : ℕ) → HasLevels (ladder_on r (side_of s ladders.old)) k n → HasLevels (ladder_on r (side_of s ladders.new)) k n }
 {
     let ladder = ladders.of_mut(order.side).of_mut(order.restriction);
-    let before = level_of_kind(ladder, order.kind);
+    let before = ladder.level(order.kind).unwrap();
     let left = level_left(links, &before, order, key);
     if left.orders == 0 {
         ladder.clear(order.kind);
