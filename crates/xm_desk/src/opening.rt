@@ -14,7 +14,7 @@ pub enum OpenFault {
     /// The segment has no security.
     #[error("no security")]
     NoSecurity,
-    /// More than 8 securities or 1,000 members.
+    /// More than 8 securities, 1,000 members, 64 workers or 64 watchers.
     #[error("too many securities or members")]
     TooMany,
     /// A width is not 1 to `MAX_WIDTH` thousandths, or the dynamic one is not below the wide one.
