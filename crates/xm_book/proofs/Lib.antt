@@ -28,3 +28,4 @@ pub mod Sorting
 pub mod Standing
 pub mod Taking
 pub mod Walking
+pub mod Crosses

@@ -11,3 +11,4 @@ mod Stepping
 mod Sweeping
 mod Tapes
 mod Turning
+pub mod Crosses

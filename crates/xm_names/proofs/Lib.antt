@@ -5,3 +5,4 @@ mod Placed
 mod Retained
 mod Splitting
 mod Tables
+pub mod Crosses

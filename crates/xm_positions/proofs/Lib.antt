@@ -1,2 +1,3 @@
 mod Histories
 mod Members
+pub mod Crosses

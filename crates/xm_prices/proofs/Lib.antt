@@ -8,3 +8,4 @@ mod Paging
 mod Places
 mod Rooms
 mod Stored
+pub mod Crosses

@@ -6,3 +6,4 @@ mod Joining
 mod Leaving
 mod Reaching
 mod Tails
+pub mod Crosses

@@ -1,0 +1,24 @@
+-- A desk may go to another thread.
+use denote.Param.Send.{IsSend, sendable}
+use Rattle.std.proofs.Crossing.{crosses}
+use Rattle.std.specs.contracts.alloc.Global.{the_row as heap}
+use Rattle.std.specs.contracts.impls.GlobalAllocator.TheImpl.{ghosts}
+use Rattle.xm_book.proofs.Crosses.{book-send, trades-send}
+use Rattle.xm_positions.proofs.Crosses.{positions-send}
+use Rattle.xm_stops.proofs.Crosses.{pending-send, stops-send}
+use Rattle.xm_desk.specs.contracts.tape.Tape as Tape
+use Rattle.xm_desk.specs.contracts.unsettled.Unsettled as Unsettled
+use Rattle.xm_desk.specs.contracts.unsettled.market.Market as Market
+use Rattle.xm_desk.specs.contracts.desk.Desk as Desk
+
+tape-send : IsSend (Tape.the_field heap ghosts).row
+tape-send = let a = trades-send in search (sendable, crosses) depth 30
+
+unsettled-send : IsSend (Unsettled.the_field heap ghosts).row
+unsettled-send = let a = book-send in let b = stops-send in let c = pending-send in let d = tape-send in search (sendable, crosses) depth 30
+
+market-send : IsSend (Market.the_field heap ghosts).row
+market-send = let a = unsettled-send in search (sendable, crosses) depth 20
+
+pub desk-send : IsSend (Desk.the_field heap ghosts).row
+desk-send = let a = market-send in let b = positions-send in search (sendable, crosses) depth 30
