@@ -1,8 +1,8 @@
 -- Rows that were answered one after another, and what a report counts of their answers.
-use Rattle.std.proofs.Common.{◌≡◌, ℕ, ◌+◌, ◌*◌, ◌<◌, ◌≤◌, Bool, true, false, List, [], ◌∷◌, ◌++◌, length, get_or, take, drop, take-append-drop, suc, Result, Ok, Err, refl, sym, ap, ◌∙◌, subst, arith}
+use Rattle.std.proofs.Common.{◌≡◌, ℕ, ◌+◌, ◌*◌, ◌<◌, ◌≤◌, Bool, true, false, List, [], ◌∷◌, ◌++◌, length, get_or, take, drop, take-append-drop, suc, None, Result, Ok, Err, refl, sym, ap, ◌∙◌, subst, arith}
 use Rattle.std.specs.Prelude.{MatchBool, slice_get, slice_index, sum}
 use Rattle.std.proofs.Math.Seq.{drop-cons}
-use Rattle.std.proofs.lemmas.List.{get_or-set_same, length-append, length-set, length-take-le, take_all, take_more}
+use Rattle.std.proofs.lemmas.List.{length-append, length-set, length-take-le, take_all, take_more}
 use Rattle.std.proofs.lemmas.List.Sums.{get_or-le-sum_by, sum_by-set}
 use Rattle.xm_rules.specs.declared.replies.Refusal.{Refusal}
 use Rattle.xm_rules.specs.declared.replies.Refusal.TheVariants.{UnknownSecurity, UnknownMember, DayEnded, BadQuantity, BadPrice, BadValidity, BadCombination, WrongPhase, DuplicateReference, UnknownOrder, NotChangeable, TriggerReached, JournalFull, OutOfMemory}
@@ -151,25 +151,23 @@ room-for : (n : ℕ) (report : WorkerReport) (answer : Result Reply Refusal) →
 room-for n report (Ok reply) c few within = (omega (arith, c.counted), omega (arith, within))
 room-for n report (Err e) c few within = omega (arith, count-within n report e c)
 
--- want of memory has the last place, and is counted there
-pub want-counted : (report : WorkerReport) (answer : Result Reply Refusal) (n : ℕ) → Counts n report → lacks_memory answer ≡ true → slice_index (with_answer_in report answer).refused 13 ≡ 0 → ⊥
-want-counted report (Ok reply) n c lacks none = cc
-want-counted report (Err (OutOfMemory _)) n c lacks none =
-    let raised : slice_index (raised_at 13 report.refused) 13 ≡ slice_index report.refused 13 + 1 = get_or-set_same report.refused 13 (slice_index report.refused 13 + 1) 0 (omega (arith, c.places)) in
-    absurd (omega (arith, raised, none))
-want-counted report (Err UnknownSecurity) n c lacks none = cc
-want-counted report (Err UnknownMember) n c lacks none = cc
-want-counted report (Err DayEnded) n c lacks none = cc
-want-counted report (Err BadQuantity) n c lacks none = cc
-want-counted report (Err BadPrice) n c lacks none = cc
-want-counted report (Err BadValidity) n c lacks none = cc
-want-counted report (Err BadCombination) n c lacks none = cc
-want-counted report (Err WrongPhase) n c lacks none = cc
-want-counted report (Err DuplicateReference) n c lacks none = cc
-want-counted report (Err UnknownOrder) n c lacks none = cc
-want-counted report (Err NotChangeable) n c lacks none = cc
-want-counted report (Err TriggerReached) n c lacks none = cc
-want-counted report (Err JournalFull) n c lacks none = cc
+-- want of memory is told
+pub want-told : (report : WorkerReport) (answer : Result Reply Refusal) → lacks_memory answer ≡ true → (with_answer_in report answer).wanting ≡ None → ⊥
+want-told report (Ok reply) lacks none = cc
+want-told report (Err (OutOfMemory _)) lacks none = cc
+want-told report (Err UnknownSecurity) lacks none = cc
+want-told report (Err UnknownMember) lacks none = cc
+want-told report (Err DayEnded) lacks none = cc
+want-told report (Err BadQuantity) lacks none = cc
+want-told report (Err BadPrice) lacks none = cc
+want-told report (Err BadValidity) lacks none = cc
+want-told report (Err BadCombination) lacks none = cc
+want-told report (Err WrongPhase) lacks none = cc
+want-told report (Err DuplicateReference) lacks none = cc
+want-told report (Err UnknownOrder) lacks none = cc
+want-told report (Err NotChangeable) lacks none = cc
+want-told report (Err TriggerReached) lacks none = cc
+want-told report (Err JournalFull) lacks none = cc
 
 -- a row that is answered next
 module _ (settings : List DeskSettings) (before seat next : SeatView) (rows : List Row) (row : Row) (answer : Result Reply Refusal) (report : WorkerReport) (w : IsWorked settings before rows seat report)

@@ -1,5 +1,5 @@
 -- What a worker's report counts.
-use Rattle.std.specs.Prelude.{ℕ, ◌+◌, ◌<◌, ◌^◌, List, [], ◌∷◌, slice_index, slice_set, Result, Ok, Err}
+use Rattle.std.specs.Prelude.{ℕ, ◌+◌, ◌<◌, ◌^◌, List, [], ◌∷◌, slice_index, slice_set, Option, None, Some, Result, Ok, Err}
 use Rattle.xm_rules.specs.declared.replies.Refusal.{Refusal}
 use Rattle.xm_rules.specs.declared.replies.Refusal.TheVariants.{UnknownSecurity, UnknownMember, DayEnded, BadQuantity, BadPrice, BadValidity, BadCombination, WrongPhase, DuplicateReference, UnknownOrder, NotChangeable, TriggerReached, JournalFull, OutOfMemory}
 use Rattle.xm_rules.specs.declared.replies.Reply.{Reply}
@@ -23,16 +23,21 @@ refusal_place JournalFull = 12
 refusal_place (OutOfMemory _) = 13
 
 abbrev pub no_report : WorkerReport
-no_report = record { accepted = 0; refused = 0 ∷ 0 ∷ 0 ∷ 0 ∷ 0 ∷ 0 ∷ 0 ∷ 0 ∷ 0 ∷ 0 ∷ 0 ∷ 0 ∷ 0 ∷ 0 ∷ []; quantity = 0 }
+no_report = record { accepted = 0; refused = 0 ∷ 0 ∷ 0 ∷ 0 ∷ 0 ∷ 0 ∷ 0 ∷ 0 ∷ 0 ∷ 0 ∷ 0 ∷ 0 ∷ 0 ∷ 0 ∷ []; quantity = 0; wanting = None }
 
 -- a report with one more at this place
 abbrev pub raised_at : ℕ → List ℕ → List ℕ
 raised_at place counts = slice_set counts place (slice_index counts place + 1)
 
+-- the want of memory that a refusal is, if it is one
+abbrev pub wanting_in : Refusal → Option (Unit {0})
+wanting_in (OutOfMemory error) = Some error
+wanting_in _ = None
+
 -- a report with an answer more: an accepted row with what it traded, or a refused one at its refusal's place
 abbrev pub with_answer_in : WorkerReport → Result Reply Refusal → WorkerReport
-with_answer_in r (Ok reply) = record { accepted = r.accepted + 1; refused = r.refused; quantity = r.quantity + reply.quantity }
-with_answer_in r (Err refusal) = record r { refused = raised_at (refusal_place refusal) r.refused }
+with_answer_in r (Ok reply) = record r { accepted = r.accepted + 1; quantity = r.quantity + reply.quantity }
+with_answer_in r (Err refusal) = record r { refused = raised_at (refusal_place refusal) r.refused; wanting = wanting_in refusal }
 
 -- one answer more can be counted
 abbrev pub HasRoomIn : WorkerReport → Result Reply Refusal → Type 0

@@ -1,11 +1,11 @@
 //! A worker's rows, taken one after another.
-ghost use Rattle.std.specs.Prelude.{◌≡◌, ◌+◌, ◌-◌, ◌*◌, ◌<◌, ◌≤◌, List, Result, length, slice_get, slice_index, sum};
+ghost use Rattle.std.specs.Prelude.{◌≡◌, ◌+◌, ◌*◌, ◌<◌, ◌≤◌, List, None, Result, length, slice_get, sum};
 ghost use Rattle.xm_rules.specs.declared.replies.Refusal.{Refusal};
 ghost use Rattle.xm_rules.specs.declared.replies.Reply.{Reply};
 ghost use Rattle.xm_rules.specs.declared.totals.TheConstants.{MAX_TRADED_QUANTITY};
 ghost use Rattle.xm_segment.specs.Answers.{IsAnswered};
 ghost use Rattle.xm_segment.specs.Ledgers.{FitLanes, accepted_in, quantity_in};
-ghost use Rattle.xm_segment.specs.Reports.{HasRoomIn, no_report, refusal_place, report_of, with_answer_in};
+ghost use Rattle.xm_segment.specs.Reports.{HasRoomIn, no_report, refusal_place, report_of, wanting_in, with_answer_in};
 ghost use Rattle.xm_segment.specs.Seats.{WereAnswered, all_answered, seat_after, lacks_memory};
 ghost use Rattle.xm_segment.specs.declared.opening.TheConstants.{MAX_SECURITIES};
 ghost use Rattle.xm_segment.specs.declared.working.TheConstants.{MAX_ROWS, REFUSALS};
@@ -16,6 +16,7 @@ use crate::rows::Row;
 use crate::seat::Seat;
 use crate::segment::Segment;
 use std::sync::Wait;
+use xm_memory::OutOfMemory;
 use xm_rules::{Refusal, Reply};
 
 /// The most rows that a worker takes at once.
@@ -34,6 +35,8 @@ pub struct WorkerReport {
     pub refused: [u64; REFUSALS],
     /// What the accepted ones traded, in units.
     pub quantity: u64,
+    /// The want of memory at which they ended, if they did: that of the last one that was refused.
+    pub wanting: Option<OutOfMemory>,
 }
 
 impl WorkerReport {
@@ -45,6 +48,7 @@ impl WorkerReport {
             accepted: 0,
             refused: [0; REFUSALS],
             quantity: 0,
+            wanting: None,
         }
     }
 
@@ -58,7 +62,10 @@ impl WorkerReport {
                 self.accepted += 1;
                 self.quantity += reply.quantity;
             }
-            Err(refusal) => self.refused[place_of(refusal)] += 1,
+            Err(refusal) => {
+                self.refused[place_of(refusal)] += 1;
+                self.wanting = wanting_in(refusal);
+            }
         }
     }
 }
@@ -83,6 +90,16 @@ fn place_of(refusal: &Refusal) -> usize
         Refusal::TriggerReached => 11,
         Refusal::JournalFull => 12,
         Refusal::OutOfMemory(_) => 13,
+    }
+}
+
+/// The want of memory that a refusal is, if it is one.
+fn wanting_in(refusal: &Refusal) -> Option<OutOfMemory>
+    ensures { result ≡ wanting_in refusal.now }
+{
+    match refusal {
+        Refusal::OutOfMemory(error) => Some(*error),
+        _ => None,
     }
 }
 
@@ -113,7 +130,7 @@ impl<S: Naming> Segment<S> {
             × (seat.new ≡ all_answered seat.old rows.now answers) × (result ≡ report_of answers) }
         ensures accepted { accepted_in seat.new.sums ≡ accepted_in seat.old.sums + result.accepted }
         ensures quantity { quantity_in seat.new.sums ≡ quantity_in seat.old.sums + result.quantity }
-        ensures all { slice_index result.refused (REFUSALS - 1) ≡ 0 → result.accepted + sum result.refused ≡ length rows.now }
+        ensures all { result.wanting ≡ None → result.accepted + sum result.refused ≡ length rows.now }
     {
         let mut report = WorkerReport::new();
         if rows.is_empty() {

@@ -1,6 +1,6 @@
 use Rattle.std.proofs.Common.{rules, ◌≡◌, ◌+◌, ◌<◌, ◌∙◌, [], length, ap, arith, false, sym, subst, true}
-use Rattle.std.specs.Prelude.{slice_index, sum}
-use Rattle.xm_segment.proofs.Answering.{HasWorked, IsWorked, none-worked, row-cut, row-room, row-worked, rows-worked, want-counted}
+use Rattle.std.specs.Prelude.{sum}
+use Rattle.xm_segment.proofs.Answering.{HasWorked, IsWorked, none-worked, row-cut, row-room, row-worked, rows-worked, want-told}
 use Rattle.xm_segment.specs.Seats.{lacks_memory}
 use Rattle.xm_segment.specs.declared.working.WorkerReport.{WorkerReport}
 use Rattle.xm_segment.proofs.segment.Segment.work.Given.{Over}
@@ -41,8 +41,8 @@ returns-then-lacks_memory-clause-quantity g c = (cut_at g c).quantity
 pub returns-then-lacks_memory-clause-all : goal.returns-then-lacks_memory-clause-all
 returns-then-lacks_memory-clause-all g c = λ none.
     let lacks : lacks_memory c.answer-answer.result ≡ true = sym c.lacks_memory.ensures ∙ c.if-lacks_memory.true in
-    let last = ap (λ (r : WorkerReport). slice_index r.refused 13) (sym c.count.ensures) ∙ none in
-    absurd (want-counted c.loop-row.report c.answer-answer.result _ c.loop-row.invariant.worked.counts lacks last)
+    let told = ap (λ (r : WorkerReport). r.wanting) (sym c.count.ensures) ∙ none in
+    absurd (want-told c.loop-row.report c.answer-answer.result lacks told)
 
 pub loop-row-preserved : goal.loop-row-preserved
 loop-row-preserved g c =
