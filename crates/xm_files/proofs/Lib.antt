@@ -14,6 +14,7 @@ mod CsvFields
 mod LineRecords
 mod Progress
 pub mod PassedErrors
+pub mod Shares
 mod Timetables
 mod OneRound
 mod RowKinds

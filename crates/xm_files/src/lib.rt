@@ -26,4 +26,4 @@ pub use crate::names::SegmentNames;
 pub use crate::orders::{MAX_LINES, MAX_ROWS, RowReader, read_orders, read_rows};
 pub use crate::part::Part;
 pub use crate::segment::read_segment;
-pub use crate::timetable::{Round, rounds, share};
+pub use crate::timetable::{Round, first_phase, rounds, share, sole_worker};

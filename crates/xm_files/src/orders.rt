@@ -165,11 +165,47 @@ impl<'a> RowReader<'a> {
             let _ = batch.total(); // What every batch keeps is known of one whose rows are counted.
             return Ok(true);
         }
-        let mut csv = CsvRecords::of(alloc, left.text, left.line);
-        let more = add_records(batch, &mut csv, part, names, config)?;
-        self.csv = Some(csv);
+        let more = self.begin_csv(alloc, batch, &left, part, names, config)?;
         let _ = batch.total(); // What every batch keeps is known of one whose rows are counted.
         Ok(more)
+    }
+
+    /// Reads a part on that lines begin, where CSV reads from here on. It stands by itself, since what CSV reads with is large,
+    /// and most files have no use for it.
+    #[inline(never)]
+    fn begin_csv(
+        &mut self,
+        alloc: Global,
+        batch: &mut Batch,
+        left: &LinesLeft<'a>,
+        part: Part,
+        names: &SegmentNames,
+        config: &SegmentConfig,
+    ) -> Result<bool, FileFault>
+        requires begun { 1 ≤ left.now.line }
+        requires short { left.now.line + length left.now.text.now ≤ MAX_LINES }
+        requires so_far { is_so_far part batch.old.rows ≡ true }
+        requires header { 0 < length batch.old.rows → 2 ≤ left.now.line }
+        ensures read { OnOk result (rows_from names.now config.now (text_left left.now.text.now left.now.line) (rows_so_far batch.old) ≡ rows_from names.now config.now self.new (rows_so_far batch.new)) }
+        ensures ended { result ≡ Ok false → rows_from names.now config.now self.new (rows_so_far batch.new) ≡ Ok (rows_so_far batch.new) }
+        ensures earlier { OnOk result (batch.new.earlier ≡ batch.old.earlier) }
+        ensures full { result ≡ Ok true → IsFull part batch.new.rows }
+        ensures round { part ≡ Part.Round → OnOk result (IsRound names.now config.now self.new batch.new) }
+        ensures within { OnOk result (self.new.line ≤ MAX_LINES) }
+        ensures onward { OnOk result (left.now.line ≤ self.new.line) }
+        ensures further { result ≡ Ok true → length batch.old.rows ≡ 0 → left.now.line < self.new.line }
+        ensures err { IfErr result (λ fault. fault.cause ≢ FileCause.OutOfMemory tt → rows_from names.now config.now (text_left left.now.text.now left.now.line) (rows_so_far batch.old) ≡ Err fault) }
+        ensures kept { OnErr result (self.new ≡ self.old) }
+        ensures memory { IfErr result (λ fault. OnTrue (is_from_outside fault.cause) (fault.line ≡ 0)) }
+    {
+        let mut csv = CsvRecords::of(alloc, left.text, left.line);
+        match add_records(batch, &mut csv, part, names, config) {
+            Ok(more) => {
+                self.csv = Some(csv);
+                Ok(more)
+            }
+            Err(fault) => Err(fault),
+        }
     }
 }
 

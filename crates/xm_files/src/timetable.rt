@@ -1,6 +1,6 @@
 //! The timetable of a day that workers share: its rounds, and a worker's share in one.
-ghost use Rattle.std.specs.Prelude.{◌≡◌, ◌<◌, ◌≤◌, IfOk, length, not};
-ghost use Rattle.std.specs.List.{position_or_len};
+ghost use Rattle.std.specs.Prelude.{◌≡◌, ◌<◌, ◌≤◌, IfOk, IfSome, length, not, take, true};
+ghost use Rattle.std.specs.List.{list_all, position_or_len};
 ghost use Rattle.xm_files.specs.Timetable.{is_of_member, is_worked_by, rounds_of, share_of};
 
 use std::alloc::Allocator;
@@ -34,9 +34,10 @@ pub fn rounds<A: Allocator>(alloc: A, rows: &[Row]) -> Result<Vec<Round, A>, Out
 }
 
 /// How many members' rows come before the first phase row.
-fn first_phase(rows: &[Row]) -> usize
+pub fn first_phase(rows: &[Row]) -> usize
     ensures place { result ≡ position_or_len (λ row. not (is_of_member row)) rows.now }
     ensures within { result ≤ length rows.now }
+    ensures members { list_all is_of_member (take result rows.now) ≡ true }
 {
     for place in 0..rows.len() {
         if !is_of_member(&rows[place]) {
@@ -84,6 +85,28 @@ pub fn share<A: Allocator>(
         }
     }
     Ok(share)
+}
+
+/// The worker, of so many, whose share is all of some rows, if there is one.
+pub fn sole_worker(rows: &[Row], workers: u32) -> Option<u32>
+    requires { 0 < workers }
+    ensures within { IfSome result (λ worker. worker < workers) }
+    ensures sole { IfSome result (λ worker. share_of worker workers rows.now ≡ rows.now) }
+{
+    let worker = rows.first()?.command.member()? % workers;
+    if are_worked_by(rows, worker, workers) {
+        Some(worker)
+    } else {
+        None
+    }
+}
+
+/// Whether all rows are those of members of this worker.
+fn are_worked_by(rows: &[Row], worker: u32, workers: u32) -> bool
+    requires { worker < workers }
+    ensures { result ≡ list_all (is_worked_by worker workers) rows.now }
+{
+    rows.iter().all(|row| is_worked_by(row, worker, workers))
 }
 
 /// Whether a row is that of a member of this worker.
