@@ -5,13 +5,14 @@ use Rattle.std.specs.Result.{IsErrAnd}
 use Rattle.std.proofs.lemmas.Bool.{le-ltb, ltb-true}
 use Rattle.xm_desk.specs.declared.opening.OpenFault.{OpenFault}
 use Rattle.xm_day.proofs.Days.{lacks-more}
-use Rattle.xm_day.specs.Answers.{AreRowsOf, HasTaken, OrdersEnd, RowsRun, statement_of}
+use Rattle.xm_day.specs.Answers.{AreRowsOf, DesksEnd, HasTaken, InFileOrder, IsSegmentOf, OrdersEnd, RowsRun, WritesPart}
+use Rattle.xm_day.specs.Checks.{CheckEnds, OpeningEnds}
 use Rattle.xm_day.specs.declared.desks.OpenDay.{OpenDay}
 use Rattle.xm_files.specs.Batches.{RowsLeft, rows_from, text_left}
 use Rattle.xm_files.specs.FileFaults.{is_from_outside}
 use Rattle.xm_files.specs.Orders.{orders_of}
 use Rattle.xm_files.specs.declared.file_faults.FileFault.{FileFault}
-use Rattle.xm_day.specs.Day.{LacksMemoryAt, day, opening_day}
+use Rattle.xm_day.specs.Day.{Day, LacksMemoryAt, opening_day}
 use Rattle.xm_segment.specs.Opening.{segment_fault}
 use Rattle.xm_day.specs.Answers.{IsOfWriting}
 use Rattle.xm_files.specs.Names.{NameLists}
@@ -19,18 +20,17 @@ use Rattle.xm_segment.specs.declared.config.SegmentConfig.{SegmentConfig}
 use Rattle.xm_day.specs.declared.faults.DayFault.{DayFault}
 use Rattle.xm_day.specs.declared.faults.DayFault.TheVariants.{Segment, Orders, Open, OutOfMemory, WriteFailed}
 use Rattle.xm_segment.specs.declared.rows.Row.{Row}
-use Rattle.xm_ticks.specs.Writing.{AppendsPrefix}
 
 -- the statement was not written
-pub OrdersEnd-of_writing : (config : SegmentConfig) (names : NameLists) (rows : List Row) (orders old new : Option (List ℕ)) (fault : DayFault)
+pub OrdersEnd-of_writing : (days : SegmentConfig → List Row → Day → Type 0) (config : SegmentConfig) (names : NameLists) (rows : List Row) (orders old new : Option (List ℕ)) (fault : DayFault)
     → AreRowsOf orders config names rows → segment_fault config ≡ None → IsOfWriting fault
-    → (fault ≡ WriteFailed → AppendsPrefix old new (statement_of names (day config rows)))
-    → OrdersEnd config names orders old new (Err fault)
-OrdersEnd-of_writing config names rows orders old new (OutOfMemory _) read sound is failed = (rows, read, sound)
-OrdersEnd-of_writing config names rows orders old new WriteFailed read sound is failed = (rows, read, (sound, failed refl))
-OrdersEnd-of_writing config names rows orders old new (Segment fault) read sound is failed = absurd is
-OrdersEnd-of_writing config names rows orders old new (Orders fault) read sound is failed = absurd is
-OrdersEnd-of_writing config names rows orders old new (Open fault) read sound is failed = absurd is
+    → (fault ≡ WriteFailed → WritesPart (days config rows) names old new)
+    → OrdersEnd days config names orders old new (Err fault)
+OrdersEnd-of_writing days config names rows orders old new (OutOfMemory _) read sound is failed = (rows, read, sound)
+OrdersEnd-of_writing days config names rows orders old new WriteFailed read sound is failed = (rows, read, (sound, failed refl))
+OrdersEnd-of_writing days config names rows orders old new (Segment fault) read sound is failed = absurd is
+OrdersEnd-of_writing days config names rows orders old new (Orders fault) read sound is failed = absurd is
+OrdersEnd-of_writing days config names rows orders old new (Open fault) read sound is failed = absurd is
 
 -- what went wrong at some rows is so where more come after them
 pub taken-more : (config : SegmentConfig) (rows more : List Row) (fault : DayFault) → HasTaken config rows (Err fault) → HasTaken config (rows ++ more) (Err fault)
@@ -45,14 +45,18 @@ pub if_memory : (config : SegmentConfig) (rows : List Row) (result : Result Open
 if_memory config rows (Ok d) is sound lacks = absurd is
 if_memory config rows (Err fault) is sound lacks = subst (λ (f : DayFault). HasTaken config rows (Err f)) (sym is) (sound, lacks)
 
--- the rows of a file were read, and taken where that could be
-pub run-done : (config : SegmentConfig) (names : NameLists) (file : RowsLeft) (result : Result OpenDay DayFault) (rows : List Row) → rows_from names config file [] ≡ Ok rows → HasTaken config rows result → RowsRun config names file result
-run-done config names file (Ok d) rows read has = (rows, read, has)
-run-done config names file (Err (Open fault)) rows read has = (rows, read, has)
-run-done config names file (Err (OutOfMemory _)) rows read has = (rows, read, has)
-run-done config names file (Err WriteFailed) rows read has = absurd has
-run-done config names file (Err (Segment fault)) rows read has = absurd has
-run-done config names file (Err (Orders fault)) rows read has = absurd has
+-- the desks that took the rows in their order are those of their one day
+taken-ends : (config : SegmentConfig) (rows : List Row) (result : Result OpenDay DayFault) → HasTaken config rows result → DesksEnd InFileOrder config rows result
+taken-ends config rows (Ok d) has = (has.0, has.1, has.2)
+taken-ends config rows (Err (Open fault)) has = has
+taken-ends config rows (Err (OutOfMemory _)) has = has.0
+taken-ends config rows (Err WriteFailed) has = absurd has
+taken-ends config rows (Err (Segment fault)) has = absurd has
+taken-ends config rows (Err (Orders fault)) has = absurd has
+
+pub RowsRun-in_order : (config : SegmentConfig) (names : NameLists) (file : RowsLeft) (result : Result (Result OpenDay DayFault) FileFault) → RowsRun HasTaken config names file result → RowsRun (DesksEnd InFileOrder) config names file result
+RowsRun-in_order config names file (Ok day) read = (read.0, read.1, taken-ends config read.0 day read.2)
+RowsRun-in_order config names file (Err fault) read = read
 
 -- what the bytes of an order file give
 pub orders-read : (names : NameLists) (config : SegmentConfig) (file : Option (List ℕ)) (read : List ℕ) (left : RowsLeft) (rows : Result (List Row) FileFault) → IfSome file (λ bytes. read ≡ bytes) → length read ≤ 16777216
@@ -66,14 +70,19 @@ if-inside : {A B : Type 0} (outside : Bool) → OnFalse outside A → (A → B) 
 if-inside true a f = tt
 if-inside false a f = f a
 
--- the rows of a file weren't read, or couldn't be taken
-pub run-ended : (config : SegmentConfig) (names : NameLists) (orders old new : Option (List ℕ)) (left : RowsLeft) (fault : DayFault) → ((rows : Result (List Row) FileFault) → rows_from names config left [] ≡ rows → IfSome orders (λ bytes. orders_of names config bytes ≡ rows))
-    → RowsRun config names left (Err fault) → OrdersEnd config names orders old new (Err fault)
-run-ended config names orders old new left (Orders fault) gives run = record { of_bytes = if-inside (is_from_outside fault.cause) run.0 (gives (Err fault)); from_outside = run.1 }
-run-ended config names orders old new left (Open fault) gives run = (run.0, gives (Ok run.0) run.1, run.2)
-run-ended config names orders old new left (OutOfMemory _) gives run = (run.0, gives (Ok run.0) run.1, run.2.0)
-run-ended config names orders old new left WriteFailed gives run = absurd run.2
-run-ended config names orders old new left (Segment fault) gives run = absurd run.2
+-- the rows of a file weren't read
+pub unread-ends : (days : SegmentConfig → List Row → Day → Type 0) (config : SegmentConfig) (names : NameLists) (orders old new : Option (List ℕ)) (left : RowsLeft) (fault : FileFault) → ((rows : Result (List Row) FileFault) → rows_from names config left [] ≡ rows → IfSome orders (λ bytes. orders_of names config bytes ≡ rows))
+    → RowsRun (DesksEnd days) config names left (Err fault) → OrdersEnd days config names orders old new (Err (Orders fault))
+unread-ends days config names orders old new left fault gives read = record { of_bytes = if-inside (is_from_outside fault.cause) read.0 (gives (Err fault)); from_outside = read.1 }
+
+-- they were read, and couldn't be taken
+pub untaken-ends : (days : SegmentConfig → List Row → Day → Type 0) (config : SegmentConfig) (names : NameLists) (orders old new : Option (List ℕ)) (left : RowsLeft) (fault : DayFault) → ((rows : Result (List Row) FileFault) → rows_from names config left [] ≡ rows → IfSome orders (λ bytes. orders_of names config bytes ≡ rows))
+    → RowsRun (DesksEnd days) config names left (Ok (Err fault)) → OrdersEnd days config names orders old new (Err fault)
+untaken-ends days config names orders old new left (Open fault) gives read = (read.0, gives (Ok read.0) read.1, read.2)
+untaken-ends days config names orders old new left (OutOfMemory _) gives read = (read.0, gives (Ok read.0) read.1, read.2)
+untaken-ends days config names orders old new left WriteFailed gives read = absurd read.2
+untaken-ends days config names orders old new left (Segment fault) gives read = absurd read.2
+untaken-ends days config names orders old new left (Orders fault) gives read = absurd read.2
 
 some-if : (some : Bool) (n : ℕ) (fault : OpenFault) (rest : Option OpenFault) → nat_lt 0 n ≡ some → (if not some then Some fault else rest) ≡ None → 0 < n
 some-if true n fault rest test none = ltb-true 0 n test
@@ -82,3 +91,13 @@ some-if false n fault rest test none = cc
 -- a segment without a fault has a security
 pub some-security : (config : SegmentConfig) → segment_fault config ≡ None → 0 < length config.securities
 some-security config none = some-if (nat_lt 0 (length config.securities)) (length config.securities) _ _ refl none
+
+-- a segment file was read, and its segment checked
+pub CheckEnds-read : (segment old new : Option (List ℕ)) (config : SegmentConfig) (names : NameLists) (result : Result (Unit {0}) DayFault) → IsSegmentOf segment config names → OpeningEnds config old new result
+    → CheckEnds segment old new result
+CheckEnds-read segment old new config names (Ok done) read ends = (config, names, read, ends)
+CheckEnds-read segment old new config names (Err (Segment fault)) read ends = absurd ends
+CheckEnds-read segment old new config names (Err (Orders fault)) read ends = absurd ends
+CheckEnds-read segment old new config names (Err (Open fault)) read ends = (config, names, read, ends)
+CheckEnds-read segment old new config names (Err (OutOfMemory _)) read ends = (config, names, read, ends)
+CheckEnds-read segment old new config names (Err WriteFailed) read ends = (config, names, read, ends)

@@ -1,4 +1,9 @@
 pub mod Lines
 pub mod Days
 pub mod Endings
-pub mod CashSums
+mod CashSums
+mod SharedOut
+mod Sharing
+mod Crosses
+mod Gathered
+mod Worked

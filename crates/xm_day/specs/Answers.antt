@@ -42,13 +42,25 @@ IsOpenFault config fault = segment_fault config ≡ Some fault
 abbrev pub statement_of : NameLists → Day → List ℕ
 statement_of names d = statement names d.states d.accepted d.refused
 
--- what was written is the statement of the day of these rows, and nothing else; the report has the day's counts
-pub record WritesDay (config : SegmentConfig) (names : NameLists) (rows : List Row) (report : DayReport) (old new : Option (List ℕ)) : Type 0 where
-  pub written : Appends old new (statement_of names (day config rows))
-  pub accepted : report.accepted ≡ (day config rows).accepted
-  pub refused : report.refused ≡ (day config rows).refused
+-- taken in the order of the file, rows have one day
+abbrev pub InFileOrder : SegmentConfig → List Row → Day → Type 0
+InFileOrder config rows d = d ≡ day config rows
 
--- the desks have taken these rows, unless the segment can't be opened or memory is wanting at one of them
+-- what was written is the statement of a day that these rows may have, and nothing else; the report has the day's counts
+pub record WritesDay (days : Day → Type 0) (names : NameLists) (report : DayReport) (old new : Option (List ℕ)) : Type 0 where
+  pub day : Day
+  pub is_of_rows : days day
+  pub written : Appends old new (statement_of names day)
+  pub accepted : report.accepted ≡ day.accepted
+  pub refused : report.refused ≡ day.refused
+
+-- a part of such a statement was written, but not all of it
+pub record WritesPart (days : Day → Type 0) (names : NameLists) (old new : Option (List ℕ)) : Type 0 where
+  pub day : Day
+  pub is_of_rows : days day
+  pub written : AppendsPrefix old new (statement_of names day)
+
+-- the desks have taken these rows in their order, unless the segment can't be opened or memory is wanting at one of them
 abbrev pub HasTaken : SegmentConfig → List Row → Result OpenDay DayFault → Type 0
 HasTaken config rows (Ok d) =
     (segment_fault config ≡ None) × (length d.desks.items ≡ length config.securities) × (day_of d.desks.items d.report.accepted d.report.refused ≡ day config rows) × (d.report.accepted + d.report.refused ≡ length rows)
@@ -56,30 +68,38 @@ HasTaken config rows (Err (Open fault)) = IsOpenFault config fault
 HasTaken config rows (Err (OutOfMemory _)) = (segment_fault config ≡ None) × LacksMemoryAt (opening_day config) rows
 HasTaken config rows (Err fault) = ⊥
 
--- the desks have taken the rows of an order file, if it has no fault
-abbrev pub RowsRun : SegmentConfig → NameLists → RowsLeft → Result OpenDay DayFault → Type 0
-RowsRun config names file (Err (Orders fault)) = OnFalse (is_from_outside fault.cause) (rows_from names config file [] ≡ Err fault) × OnTrue (is_from_outside fault.cause) (fault.line ≡ 0)
-RowsRun config names file result = (rows : List Row) × (rows_from names config file [] ≡ Ok rows) × HasTaken config rows result
+-- the desks are those of a day that the rows may have, unless the segment can't be opened or memory is wanting
+abbrev pub DesksEnd : (SegmentConfig → List Row → Day → Type 0) → SegmentConfig → List Row → Result OpenDay DayFault → Type 0
+DesksEnd days config rows (Ok d) =
+    (segment_fault config ≡ None) × (length d.desks.items ≡ length config.securities) × days config rows (day_of d.desks.items d.report.accepted d.report.refused)
+DesksEnd days config rows (Err (Open fault)) = IsOpenFault config fault
+DesksEnd days config rows (Err (OutOfMemory _)) = segment_fault config ≡ None
+DesksEnd days config rows (Err fault) = ⊥
 
--- how the rows of an order file are run that has no fault
-abbrev pub RowsEnd : SegmentConfig → NameLists → List Row → Option (List ℕ) → Option (List ℕ) → Result DayReport DayFault → Type 0
-RowsEnd config names rows old new (Ok report) = (segment_fault config ≡ None) × WritesDay config names rows report old new
-RowsEnd config names rows old new (Err (Open fault)) = IsOpenFault config fault
-RowsEnd config names rows old new (Err (OutOfMemory _)) = segment_fault config ≡ None
-RowsEnd config names rows old new (Err WriteFailed) = (segment_fault config ≡ None) × AppendsPrefix old new (statement_of names (day config rows))
-RowsEnd config names rows old new (Err (Segment fault)) = ⊥
-RowsEnd config names rows old new (Err (Orders fault)) = ⊥
+-- what has taken the rows of an order file, if it has no fault
+abbrev pub RowsRun : {A : Type 0} → (SegmentConfig → List Row → A → Type 0) → SegmentConfig → NameLists → RowsLeft → Result A FileFault → Type 0
+RowsRun taken config names file (Ok day) = (rows : List Row) × (rows_from names config file [] ≡ Ok rows) × taken config rows day
+RowsRun taken config names file (Err fault) = OnFalse (is_from_outside fault.cause) (rows_from names config file [] ≡ Err fault) × OnTrue (is_from_outside fault.cause) (fault.line ≡ 0)
+
+-- how the rows of an order file are run that has no fault, where they may have these days
+abbrev pub RowsEnd : (SegmentConfig → List Row → Day → Type 0) → SegmentConfig → NameLists → List Row → Option (List ℕ) → Option (List ℕ) → Result DayReport DayFault → Type 0
+RowsEnd days config names rows old new (Ok report) = (segment_fault config ≡ None) × WritesDay (days config rows) names report old new
+RowsEnd days config names rows old new (Err (Open fault)) = IsOpenFault config fault
+RowsEnd days config names rows old new (Err (OutOfMemory _)) = segment_fault config ≡ None
+RowsEnd days config names rows old new (Err WriteFailed) = (segment_fault config ≡ None) × WritesPart (days config rows) names old new
+RowsEnd days config names rows old new (Err (Segment fault)) = ⊥
+RowsEnd days config names rows old new (Err (Orders fault)) = ⊥
 
 -- how the day ends of a segment file that has no fault
-abbrev pub OrdersEnd : SegmentConfig → NameLists → Option (List ℕ) → Option (List ℕ) → Option (List ℕ) → Result DayReport DayFault → Type 0
-OrdersEnd config names orders old new (Err (Orders fault)) = IsFileFault (orders_of names config) orders fault
-OrdersEnd config names orders old new result = (rows : List Row) × AreRowsOf orders config names rows × RowsEnd config names rows old new result
+abbrev pub OrdersEnd : (SegmentConfig → List Row → Day → Type 0) → SegmentConfig → NameLists → Option (List ℕ) → Option (List ℕ) → Option (List ℕ) → Result DayReport DayFault → Type 0
+OrdersEnd days config names orders old new (Err (Orders fault)) = IsFileFault (orders_of names config) orders fault
+OrdersEnd days config names orders old new result = (rows : List Row) × AreRowsOf orders config names rows × RowsEnd days config names rows old new result
 
 -- how the day of two files ends
-abbrev pub DayEnds : Option (List ℕ) → Option (List ℕ) → Option (List ℕ) → Option (List ℕ) → Result DayReport DayFault → Type 0
-DayEnds segment orders old new (Err (Segment fault)) = IsFileFault segment_of segment fault
-DayEnds segment orders old new result =
-    (config : SegmentConfig) × (names : NameLists) × IsSegmentOf segment config names × OrdersEnd config names orders old new result
+abbrev pub DayEnds : (SegmentConfig → List Row → Day → Type 0) → Option (List ℕ) → Option (List ℕ) → Option (List ℕ) → Option (List ℕ) → Result DayReport DayFault → Type 0
+DayEnds days segment orders old new (Err (Segment fault)) = IsFileFault segment_of segment fault
+DayEnds days segment orders old new result =
+    (config : SegmentConfig) × (names : NameLists) × IsSegmentOf segment config names × OrdersEnd days config names orders old new result
 
 -- a statement isn't written for want of memory, or because the writer failed
 abbrev pub IsOfWriting : DayFault → Type 0

@@ -1,4 +1,7 @@
 pub mod Answers
+pub mod Checks
 pub mod Day
 pub mod Examples
+pub mod Standing
 pub mod Statement
+pub mod Workers

@@ -1,19 +1,21 @@
 //! The day of a segment, from its files to its statement.
-ghost use Rattle.std.specs.Prelude.{◌≡◌, ◌≢◌, IfErr, length};
-ghost use Rattle.xm_day.specs.Answers.{DayEnds, OrdersEnd, RowsRun};
+ghost use Rattle.std.specs.Prelude.{◌≡◌, ◌≢◌, ◌≤◌, IfErr, length};
+ghost use Rattle.xm_day.specs.Answers.{DayEnds, InFileOrder, OrdersEnd};
+ghost use Rattle.xm_day.specs.Workers.{IsShared};
+ghost use Rattle.xm_segment.specs.declared.opening.TheConstants.{MAX_WORKERS};
 
-use crate::desks::{OpenDay, open_day, take_more};
 use crate::faults::DayFault;
 use crate::report::DayReport;
+use crate::runs::run_rows;
+use crate::shared_day::run_shared;
 use crate::statements::statement;
 use std::alloc::Global;
 use std::io;
-use xm_files::{Batch, Part, RowReader, SegmentNames, read_orders, read_segment};
+use std::sync::Wait;
+use std::thread::Threads;
+use xm_files::{RowReader, SegmentNames, read_orders, read_segment};
 use xm_names::Storage;
-use xm_segment::SegmentConfig;
-
-/// How many rows are read before they are taken, so that they are still in a near cache.
-const BATCH: Part = Part::Rows(512);
+use xm_segment::{Gate, SegmentConfig};
 
 /// Runs the day of a segment whose file is read: reads the order file, takes its rows, and writes
 /// the statement. The checks come in this order.
@@ -30,7 +32,7 @@ pub fn run_orders<R: io::Read, W: io::Write>(
 ) -> Result<DayReport, DayFault>
     requires securities { length names.now.securities ≡ length config.now.securities }
     requires members { length names.now.members ≡ config.now.members }
-    ensures ends { OrdersEnd config.now names.now (R.remaining orders.old) (W.contents out.old) (W.contents out.new) result }
+    ensures ends { OrdersEnd InFileOrder config.now names.now (R.remaining orders.old) (W.contents out.old) (W.contents out.new) result }
     ensures untouched { IfErr result (λ fault. fault ≢ DayFault.WriteFailed → out.new ≡ out.old) }
 {
     let bytes = match read_orders(storage.alloc, orders) {
@@ -38,33 +40,12 @@ pub fn run_orders<R: io::Read, W: io::Write>(
         Err(fault) => return Err(DayFault::Orders(fault)),
     };
     let mut file = RowReader::of(bytes.as_slice());
-    let day = run_rows(storage, config, names, &mut file)?;
+    let day = match run_rows(storage, config, names, &mut file) {
+        Ok(day) => day?,
+        Err(fault) => return Err(DayFault::Orders(fault)),
+    };
     statement(storage.alloc, day.desks.as_slice(), names, &day.report, out)?;
     Ok(day.report)
-}
-
-/// Reads the rows of an order file, batch by batch, and takes them. A fault of the file comes before any other: where the
-/// desks can't be opened or lack memory, the rest is read all the same.
-fn run_rows(
-    storage: Storage<Global>,
-    config: &SegmentConfig,
-    names: &SegmentNames,
-    file: &mut RowReader<'_>,
-) -> Result<OpenDay, DayFault>
-    ensures { RowsRun config.now names.now file.old result }
-{
-    let mut batch = Batch::new(storage.alloc);
-    let mut day = open_day(storage, config);
-    'batches: loop {
-        let more = match file.read(storage.alloc, &mut batch, BATCH, names, config) {
-            Ok(more) => more,
-            Err(fault) => return Err(DayFault::Orders(fault)),
-        };
-        day = take_more(day, batch.rows());
-        if !more {
-            return day;
-        }
-    }
 }
 
 /// Runs the day of a segment file and an order file: reads both, takes the rows on the calling
@@ -78,7 +59,7 @@ pub fn run_alone<S: io::Read, R: io::Read, W: io::Write>(
     orders: &mut R,
     out: &mut W,
 ) -> Result<DayReport, DayFault>
-    ensures ends { DayEnds (S.remaining segment.old) (R.remaining orders.old) (W.contents out.old) (W.contents out.new) result }
+    ensures ends { DayEnds InFileOrder (S.remaining segment.old) (R.remaining orders.old) (W.contents out.old) (W.contents out.new) result }
     ensures untouched { IfErr result (λ fault. fault ≢ DayFault.WriteFailed → out.new ≡ out.old) }
 {
     let (config, names) = match read_segment(storage.alloc, segment) {
@@ -86,4 +67,66 @@ pub fn run_alone<S: io::Read, R: io::Read, W: io::Write>(
         Err(fault) => return Err(DayFault::Segment(fault)),
     };
     run_orders(storage, &config, &names, orders, out)
+}
+
+/// Runs the day of a segment file and an order file with so many workers. One takes the rows as `run_alone` does.
+///
+/// Several take each round of the order file side by side, each the rows of its members, in their order, in a thread of its
+/// own; then the round's phase rows are taken. So two runs may differ where members compete. What is written is the
+/// statement of lawful journals, one for each security, whose commands are the accepted rows.
+///
+/// The faults are those of `run_alone`, in their order. `OutOfMemory` also tells that a thread's start was refused.
+pub fn run_day<T: Threads + Wait + Sync, G: Gate + Sync, S: io::Read, R: io::Read, W: io::Write>(
+    rt: &T,
+    storage: Storage<Global>,
+    segment: &mut S,
+    orders: &mut R,
+    out: &mut W,
+    workers: u32,
+    gate: &G,
+) -> Result<DayReport, DayFault>
+    requires some { 1 ≤ workers }
+    requires few { workers ≤ MAX_WORKERS }
+    ensures alone { workers ≡ 1 → DayEnds InFileOrder (S.remaining segment.old) (R.remaining orders.old) (W.contents out.old) (W.contents out.new) result }
+    ensures shared { workers ≢ 1 → DayEnds IsShared (S.remaining segment.old) (R.remaining orders.old) (W.contents out.old) (W.contents out.new) result }
+    ensures untouched { IfErr result (λ fault. fault ≢ DayFault.WriteFailed → out.new ≡ out.old) }
+{
+    if workers == 1 {
+        return run_alone(storage, segment, orders, out);
+    }
+    let (config, names) = match read_segment(storage.alloc, segment) {
+        Ok(segment) => segment,
+        Err(fault) => return Err(DayFault::Segment(fault)),
+    };
+    run_shared_orders(rt, gate, workers, storage, &config, &names, orders, out)
+}
+
+/// Runs the day of a segment whose file is read, and whose rows so many workers take.
+fn run_shared_orders<T: Threads + Wait + Sync, G: Gate + Sync, R: io::Read, W: io::Write>(
+    rt: &T,
+    gate: &G,
+    workers: u32,
+    storage: Storage<Global>,
+    config: &SegmentConfig,
+    names: &SegmentNames,
+    orders: &mut R,
+    out: &mut W,
+) -> Result<DayReport, DayFault>
+    requires some { 1 ≤ workers }
+    requires few { workers ≤ MAX_WORKERS }
+    requires securities { length names.now.securities ≡ length config.now.securities }
+    ensures ends { OrdersEnd IsShared config.now names.now (R.remaining orders.old) (W.contents out.old) (W.contents out.new) result }
+    ensures untouched { IfErr result (λ fault. fault ≢ DayFault.WriteFailed → out.new ≡ out.old) }
+{
+    let bytes = match read_orders(storage.alloc, orders) {
+        Ok(bytes) => bytes,
+        Err(fault) => return Err(DayFault::Orders(fault)),
+    };
+    let mut file = RowReader::of(bytes.as_slice());
+    let day = match run_shared(rt, gate, workers, storage, config, names, &mut file) {
+        Ok(day) => day?,
+        Err(fault) => return Err(DayFault::Orders(fault)),
+    };
+    statement(storage.alloc, day.desks.as_slice(), names, &day.report, out)?;
+    Ok(day.report)
 }

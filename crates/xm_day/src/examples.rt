@@ -2,6 +2,7 @@
 #![tactic(auto, unfolding(xm_rules::specs::Refusals::refusal_of, xm_rules::specs::Step::step))]
 
 ghost use Rattle.std.specs.Prelude.{◌≡◌, codes, map, negsuc, pos, None, Some, [], ◌∷◌};
+ghost use Rattle.xm_day.specs.Checks.{check_line};
 ghost use Rattle.xm_day.specs.Day.{day, opening_day};
 ghost use Rattle.xm_segment.specs.Opening.{segment_fault};
 ghost use Rattle.xm_day.specs.Examples.{broad_security, cascade_rows, cascade_state, cascade_text, every_phase, every_phase_word, every_restriction, every_restriction_word, every_trade_kind, every_trade_word, every_validity, every_validity_text, example_config, example_names, open_row, penny_state, sized_config};
@@ -47,6 +48,12 @@ pub fn cash_of_two_securities()
     ensures buyer { total_cash (cascade_state ∷ penny_state ∷ []) 0 ≡ negsuc 5934899 }
     ensures seller { total_cash (cascade_state ∷ penny_state ∷ []) 1 ≡ pos 5934900 }
     ensures line { member_line example_names (cascade_state ∷ penny_state ∷ []) 0 ≡ codes "MEMBER AAA -593.4900\n" }
+{}
+
+/// The line of a check, which counts the securities and the members of the segment.
+pub fn check_lines()
+    ensures small { check_line example_config ≡ codes "OK 1 securities 2 members\n" }
+    ensures largest { check_line (sized_config 8 1000) ≡ codes "OK 8 securities 1000 members\n" }
 {}
 
 /// A row of an unknown security, before one that is accepted: it is counted as refused, and changes nothing.

@@ -1,19 +1,26 @@
 //! The day of a segment: its rows run on desks, and its statement.
 #![tactic(auto)]
 
+mod checks;
 mod day;
 mod desks;
 pub mod examples;
 mod faults;
 mod remaining;
 mod report;
+mod runs;
+mod shared_day;
+mod shares;
+mod standing;
 mod statements;
 mod sums;
 mod texts;
 mod traded;
 mod words;
+mod worker;
 
-pub use crate::day::{run_alone, run_orders};
+pub use crate::checks::check;
+pub use crate::day::{run_alone, run_day, run_orders};
 pub use crate::faults::DayFault;
 pub use crate::report::DayReport;
 pub use crate::statements::statement;

@@ -1,0 +1,10 @@
+use Rattle.std.proofs.Common.{subst}
+use Rattle.xm_day.proofs.Sharing.{gathered-ends}
+use Rattle.xm_day.specs.Workers.{HasShared}
+use Rattle.xm_day.proofs.shared_day.closed.Goals as goal
+
+pub returns : goal.returns
+returns g c = λ config rows has.
+    let settings = g.S.Naming.settings in
+    let gathered = c.in_ok-gathered in
+    gathered-ends settings config rows c.in_ok-day.field-0 gathered.field-0 (subst (HasShared settings config rows) c.in_ok-day.was has) gathered.ensures.journals gathered.ensures.accepted gathered.ensures.all

@@ -1,0 +1,13 @@
+use Rattle.std.proofs.Common.{◌≡◌, ◌+◌, length}
+use Rattle.xm_day.specs.Standing.{will_be_taken}
+use Rattle.xm_day.specs.Workers.{taken_by}
+use Rattle.xm_day.proofs.shares.join_all.Given as goal
+
+abbrev pub invariant-loop-one : goal.invariant-loop-one
+invariant-loop-one g l = record {
+  all : length l.left.items + length l.workers.items ≡ length l.fn.standing.items;
+  taken : will_be_taken l.left.items + taken_by l.workers.items ≡ will_be_taken l.fn.standing.items;
+}
+
+abbrev pub decreases-loop-one : goal.decreases-loop-one
+decreases-loop-one g l = length l.left.items

@@ -1,0 +1,53 @@
+//! The rows of an order file, run in their order.
+ghost use Rattle.std.specs.Prelude.{[]};
+ghost use Rattle.xm_day.specs.Answers.{DesksEnd, HasTaken, InFileOrder, RowsRun};
+
+use crate::desks::{OpenDay, open_day, take_more};
+use crate::faults::DayFault;
+use std::alloc::Global;
+use xm_files::{Batch, FileFault, Part, RowReader, SegmentNames};
+use xm_names::Storage;
+use xm_segment::SegmentConfig;
+
+/// How many rows are read before they are taken, so that they are still in a near cache.
+const BATCH: Part = Part::Rows(512);
+
+/// Reads the rows of an order file, batch by batch, and has the desks of a segment take them. The fault of the file is answered,
+/// if it has one, and else what came of its rows.
+pub(crate) fn run_rows(
+    storage: Storage<Global>,
+    config: &SegmentConfig,
+    names: &SegmentNames,
+    file: &mut RowReader<'_>,
+) -> Result<Result<OpenDay, DayFault>, FileFault>
+    ensures { RowsRun (DesksEnd InFileOrder) config.now names.now file.old result }
+{
+    let opened = open_day(storage, config);
+    take_file(storage.alloc, opened, config, names, file)
+}
+
+/// Reads the rows of an order file, and has them taken. A fault of the file comes before any other: where the segment can't be
+/// opened or memory is wanting, the rest is read all the same.
+fn take_file(
+    alloc: Global,
+    opened: Result<OpenDay, DayFault>,
+    config: &SegmentConfig,
+    names: &SegmentNames,
+    file: &mut RowReader<'_>,
+) -> Result<Result<OpenDay, DayFault>, FileFault>
+    requires { HasTaken config.now [] opened }
+    ensures { RowsRun HasTaken config.now names.now file.old result }
+{
+    let mut batch = Batch::new(alloc);
+    let mut day = opened;
+    'parts: loop {
+        let more = match file.read(alloc, &mut batch, BATCH, names, config) {
+            Ok(more) => more,
+            Err(fault) => return Err(fault),
+        };
+        day = take_more(day, batch.rows());
+        if !more {
+            return Ok(day);
+        }
+    }
+}

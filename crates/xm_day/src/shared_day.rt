@@ -1,0 +1,264 @@
+//! A day that workers share.
+ghost use Rattle.std.specs.Prelude.{◌≡◌, ◌≢◌, ◌+◌, ◌≤◌, ◌++◌, All, List, [], IfOk, length};
+ghost use Rattle.xm_day.specs.Answers.{DesksEnd, RowsRun};
+ghost use Rattle.xm_day.specs.Workers.{AreJournals, HasShared, IsShared, accepted_by, commands_in, taken_by, taken_in};
+ghost use Rattle.xm_files.specs.Orders.{max_rows};
+ghost use Rattle.xm_segment.specs.Gathering.{AreGathered, all_sums};
+ghost use Rattle.xm_segment.specs.Ledgers.{accepted_in};
+ghost use Rattle.xm_segment.specs.Names.{NamesSegment};
+ghost use Rattle.xm_segment.specs.declared.config.SegmentConfig.{SegmentConfig};
+ghost use Rattle.xm_segment.specs.declared.gathered.GatherFault.TheVariants as GatherFault;
+ghost use Rattle.xm_segment.specs.declared.opening.TheConstants.{MAX_WORKERS};
+ghost use Rattle.xm_segment.specs.declared.rows.Row.{Row};
+
+use crate::desks::OpenDay;
+use crate::faults::DayFault;
+use crate::report::DayReport;
+use crate::shares::take_members;
+use crate::worker::Worker;
+use std::alloc::Global;
+use std::marker::{Brand, Model};
+use std::sync::Wait;
+use std::thread::Threads;
+use xm_desk::Desk;
+use xm_files::{Batch, FileFault, Part, RowReader, SegmentNames, first_phase};
+use xm_memory::OutOfMemory;
+use xm_names::Storage;
+use xm_segment::{Blanks, Gate, GatherFault, Naming, Row, Seat, Segment, SegmentConfig};
+
+/// Reads the rows of an order file, round by round, and has so many workers take them, on a segment that the ledgers made here
+/// give a name. The fault of the file is answered, if it has one, and else what came of its rows.
+pub(crate) fn run_shared<T: Threads + Wait + Sync, G: Gate + Sync>(
+    rt: &T,
+    gate: &G,
+    workers: u32,
+    storage: Storage<Global>,
+    config: &SegmentConfig,
+    names: &SegmentNames,
+    file: &mut RowReader<'_>,
+) -> Result<Result<OpenDay, DayFault>, FileFault>
+    requires some { 1 ≤ workers }
+    requires few { workers ≤ MAX_WORKERS }
+    ensures { RowsRun (DesksEnd IsShared) config.now names.now file.old result }
+{
+    let blanks = Blanks::new(workers);
+    run_named::<Brand, T, G>(rt, gate, workers, blanks, storage, config, names, file)
+}
+
+/// Runs the rows on the segment that has this name.
+fn run_named<S: Naming + Send + Sync, T: Threads + Wait + Sync, G: Gate + Sync>(
+    rt: &T,
+    gate: &G,
+    workers: u32,
+    blanks: Blanks,
+    storage: Storage<Global>,
+    config: &SegmentConfig,
+    names: &SegmentNames,
+    file: &mut RowReader<'_>,
+) -> Result<Result<OpenDay, DayFault>, FileFault>
+    requires named { NamesSegment S.settings S.ledgers S.workers config.now workers blanks }
+    requires some { 1 ≤ workers }
+    requires few { workers ≤ MAX_WORKERS }
+    ensures { RowsRun (DesksEnd IsShared) config.now names.now file.old result }
+{
+    let opened = SharedDay::<S>::open(workers, blanks, storage, config);
+    match take_file(rt, gate, storage.alloc, opened, config, names, file) {
+        Ok(day) => Ok(closed(storage.alloc, day)),
+        Err(fault) => Err(fault),
+    }
+}
+
+/// Reads the rows of an order file, round by round, and has them taken. A fault of the file comes before any other: where the
+/// segment can't be opened or memory is wanting, the rest is read all the same.
+fn take_file<S: Naming + Send + Sync, T: Threads + Wait + Sync, G: Gate + Sync>(
+    rt: &T,
+    gate: &G,
+    alloc: Global,
+    opened: Result<SharedDay<S>, DayFault>,
+    config: &SegmentConfig,
+    names: &SegmentNames,
+    file: &mut RowReader<'_>,
+) -> Result<Result<SharedDay<S>, DayFault>, FileFault>
+    requires { HasShared S.settings config.now [] opened }
+    ensures { RowsRun (HasShared S.settings) config.now names.now file.old result }
+{
+    let mut batch = Batch::new(alloc);
+    let mut day = opened;
+    'rounds: loop {
+        let more = match file.read(alloc, &mut batch, Part::Round, names, config) {
+            Ok(more) => more,
+            Err(fault) => return Err(fault),
+        };
+        day = take_more(rt, gate, day, batch.rows());
+        if !more {
+            return Ok(day);
+        }
+    }
+}
+
+/// Takes the rows of a round, where nothing went wrong before.
+fn take_more<S: Naming + Send + Sync, T: Threads + Wait + Sync, G: Gate + Sync>(
+    rt: &T,
+    gate: &G,
+    day: Result<SharedDay<S>, DayFault>,
+    rows: &[Row],
+) -> Result<SharedDay<S>, DayFault>
+    requires room { IfOk day (λ d. taken_by d + length rows.now ≤ max_rows) }
+    ensures { (config : SegmentConfig) (taken : List Row) → HasShared S.settings config taken day → HasShared S.settings config (taken ++ rows.now) result }
+{
+    Ok(day?.take_round(rt, gate, rows)?)
+}
+
+/// Gathers the segment of a day whose rows were taken.
+fn closed<S: Naming>(
+    alloc: Global,
+    day: Result<SharedDay<S>, DayFault>,
+) -> Result<OpenDay, DayFault>
+    ensures { (config : SegmentConfig) (rows : List Row) → HasShared S.settings config rows day → DesksEnd IsShared config rows result }
+{
+    Ok(day?.gathered(alloc)?)
+}
+
+/// A segment, and its workers, in the order of their numbers. A clause sees what each worker has counted.
+struct SharedDay<S: Naming> {
+    segment: Segment<S>,
+    workers: Vec<Worker<S>>,
+}
+
+impl<S: Naming> Drop for SharedDay<S> {
+    fn drop(self) {
+        let SharedDay {
+            segment: _segment,
+            workers: _workers,
+        } = self;
+    }
+}
+
+impl<S: Naming> Model for SharedDay<S> {
+    ghost use Rattle.std.specs.Prelude.{◌≡◌, ◌≤◌, List, length};
+    ghost use Rattle.xm_day.specs.Workers.{taken_by};
+    ghost use Rattle.xm_day.specs.declared.report.DayReport.{DayReport};
+    ghost use Rattle.xm_files.specs.Orders.{max_rows};
+    ghost use Rattle.xm_segment.specs.declared.opening.TheConstants.{MAX_WORKERS};
+
+    ghost Value = { List DayReport };
+
+    ghost view = { λ d. d.workers.items };
+
+    ghost invariant = { λ d. record {
+      all : length d.workers.items ≡ S.workers;
+      some : 1 ≤ S.workers;
+      few : S.workers ≤ MAX_WORKERS;
+      within : taken_by d.workers.items ≤ max_rows;
+    } };
+}
+
+impl<S: Naming> SharedDay<S> {
+    /// Opens a segment for so many workers.
+    fn open(
+        workers: u32,
+        blanks: Blanks,
+        storage: Storage<Global>,
+        config: &SegmentConfig,
+    ) -> Result<SharedDay<S>, DayFault>
+        requires named { NamesSegment S.settings S.ledgers S.workers config.now workers blanks }
+        requires some { 1 ≤ workers }
+        requires few { workers ≤ MAX_WORKERS }
+        ensures { HasShared S.settings config.now [] result }
+    {
+        let (segment, seats, _rows) = Segment::open(storage, blanks, config, workers, 0)?;
+        let workers = seated(seats)?;
+        Ok(SharedDay { segment, workers })
+    }
+
+    /// Takes the rows of a round: those of the members side by side, and then those of the phases, which the first worker takes.
+    fn take_round<T: Threads + Wait + Sync, G: Gate + Sync>(
+        self,
+        rt: &T,
+        gate: &G,
+        rows: &[Row],
+    ) -> Result<SharedDay<S>, OutOfMemory>
+    where
+        S: Send + Sync,
+        requires { taken_by self + length rows.now ≤ max_rows }
+        ensures { IfOk result (λ day. taken_by day ≡ taken_by self + length rows.now) }
+    {
+        let SharedDay { segment, workers } = self;
+        let (members, phases) = rows.split_at(first_phase(rows));
+        let mut workers = take_members(rt, gate, &segment, workers, members)?;
+        workers[0].work(rt, gate, &segment, phases)?;
+        Ok(SharedDay { segment, workers })
+    }
+
+    /// The desks of the segment, and what was counted.
+    fn gathered(self, alloc: Global) -> Result<OpenDay, OutOfMemory>
+        ensures journals { IfOk result (λ day. AreJournals S.settings day.desks.items) }
+        ensures accepted { IfOk result (λ day. day.report.accepted ≡ commands_in day.desks.items) }
+        ensures all { IfOk result (λ day. day.report.accepted + day.report.refused ≡ taken_by self) }
+    {
+        let SharedDay { segment, workers } = self;
+        let (seats, report) = counted(workers)?;
+        let desks = desks_of(segment, alloc, seats)?;
+        Ok(OpenDay { desks, report })
+    }
+}
+
+/// The desks of a segment whose seats are all there.
+fn desks_of<S: Naming>(
+    segment: Segment<S>,
+    alloc: Global,
+    seats: Vec<Seat<S>>,
+) -> Result<Vec<Desk<Global>>, OutOfMemory>
+    requires { S.workers ≤ length seats.items }
+    ensures { IfOk result (λ desks. AreGathered S.settings (all_sums seats.items) desks.items) }
+{
+    let mut rows = Vec::new(alloc);
+    match segment.gather(alloc, seats, rows.as_mut_slice()) {
+        Ok(gathered) => Ok(gathered.desks),
+        Err(back) => Err(want_of_memory(back.2)),
+    }
+}
+
+/// The want of memory that a segment wasn't gathered for, whose seats are all there.
+fn want_of_memory(fault: GatherFault) -> OutOfMemory
+    requires { fault ≢ GatherFault.MissingSeat }
+{
+    match fault {
+        GatherFault::OutOfMemory(error) => error,
+        GatherFault::MissingSeat => unreachable!(),
+    }
+}
+
+/// A worker for each seat, in which nothing is counted.
+fn seated<S: Naming>(seats: Vec<Seat<S>>) -> Result<Vec<Worker<S>>, OutOfMemory>
+    requires { All (λ seat. accepted_in seat.sums ≡ 0) seats.items }
+    ensures all { IfOk result (λ workers. length workers.items ≡ length seats.items) }
+    ensures none { IfOk result (λ workers. taken_by workers.items ≡ 0) }
+{
+    let mut workers = Vec::with_capacity(*seats.allocator(), seats.len())?;
+    for seat in seats {
+        workers.push(Worker::new(seat))?;
+    }
+    Ok(workers)
+}
+
+/// The seats of workers, and what all of them counted.
+fn counted<S: Naming>(mut workers: Vec<Worker<S>>) -> Result<(Vec<Seat<S>>, DayReport), OutOfMemory>
+    requires { taken_by workers.items ≤ max_rows }
+    ensures seats { IfOk result (λ parts. length parts.0.items ≡ length workers.items) }
+    ensures accepted { IfOk result (λ parts. parts.1.accepted ≡ accepted_by parts.0.items) }
+    ensures all { IfOk result (λ parts. taken_in parts.1 ≡ taken_by workers.items) }
+{
+    let mut seats = Vec::with_capacity(*workers.allocator(), workers.len())?;
+    let mut sum = DayReport {
+        accepted: 0,
+        refused: 0,
+    };
+    while let Some(worker) = workers.pop() {
+        let (seat, report) = worker.into_parts();
+        seats.push(seat)?;
+        sum.accepted += report.accepted;
+        sum.refused += report.refused;
+    }
+    Ok((seats, sum))
+}
