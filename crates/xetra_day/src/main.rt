@@ -1,4 +1,4 @@
-//! `xetra-day run SEGMENT ORDERS`: replays a trading day and writes its statement.
+//! `xetra-day`: replays a trading day and writes its statement, or checks a segment file.
 #![tactic(auto)]
 
 use std::process::ExitCode;

@@ -1,39 +1,43 @@
--- The program's name, `run` and two paths are a run of these two files.
-use Rattle.std.proofs.Common.{◌≡◌, ◌==◌, List, [], ◌∷◌, Option, Some, None, Err, true, false, not, codes, refl, sym, ap, ◌∙◌, Bool, Result, Ok, IfErr, IsErrAnd, inl, inr, ◌⊎◌}
+-- Words that ask for a run or a check are answered with it.
+use Rattle.std.proofs.Common.{ℕ, pos, ◌≡◌, ◌≤◌, ◌&&◌, unwrap_or, slice_get, ◌==◌, List, [], ◌∷◌, Option, Some, None, Err, true, false, not, codes, refl, sym, ap, ◌∙◌, Bool, Result, Ok, IfErr, IsErrAnd, inl, inr, ◌⊎◌}
 use Rattle.std.specs.Str.{bytes_eq}
-use Rattle.clap.specs.Lexer.{strip_byte}
-use Rattle.clap.specs.Words.{App, HasKind, IsAmong, Kinds, Text, fault_of, is_simple_and_free, kind_of, takes}
+use Rattle.clap.specs.Lexer.{strip_byte, without_minus}
+use Rattle.clap.specs.ValueTests.{is_signed_in}
+use Rattle.std.specs.Fmt.{decimal}
+use Rattle.std.specs.List.{list_all}
+use Rattle.clap.specs.Simple.{Shape, built}
+use Rattle.clap.specs.Takes.{default_passes, is_valid, level_passes, settle_passes, walk_passes}
+use Rattle.clap.specs.Walk.{Held, Walk, finished, idle, nothing_held, walk, walk_from}
+use Rattle.clap.specs.declared.builder.value_parser.Reading.TheVariants.{AsWritten}
+use Rattle.clap.specs.declared.parser.matches.ValueSource.TheVariants.{CommandLine}
+use Rattle.clap.specs.Words.{App, HasKind, IsAmong, Kinds, Row, Text, fault_of, is_simple_and_free, kind_of, takes}
 use Rattle.clap.specs.declared.error.Error.{Error}
 use Rattle.clap.specs.declared.error.kind.ErrorKind.{ErrorKind}
 use Rattle.clap.specs.declared.error.kind.ErrorKind.TheVariants as kind
 use Rattle.clap.proofs.OnLiterals.{clap_on_literals}
 use Rattle.xm_day.specs.declared.faults.DayFault.TheVariants as day
 use Rattle.xm_program.specs.declared.requests.Failure.TheVariants.{Day}
-use Rattle.xm_program.specs.Requests.{AnswersWords, AsksRun, IsOfWords, answer_at, answer_of, day_app, is_plain_word, paths_of}
+use Rattle.xm_program.specs.declared.requests.Request.{Request}
+use Rattle.xm_program.specs.declared.requests.Request.TheVariants.{Run, Check, Help}
+use Rattle.xm_program.specs.Requests.{AnswersWords, Asked, Asks, IsRequest, IsOfWords, answer_at, answer_of, asked_in, asked_of, check, day_app, is_plain_word, run, run_of, workers_in, workers_words}
+use Rattle.xm_program.proofs.Numbers.{number-text}
 
 false_of : (b : Bool) → not b ≡ true → b ≡ false
 false_of true h = absurd (cc)
 false_of false h = refl
 
-abbrev left : Option (Text × Text) → Text
-left None = []
-left (Some p) = p.0
-
-abbrev right : Option (Text × Text) → Text
-right None = []
-right (Some p) = p.1
-
--- two pairs that are one have the same parts
-pub some_pair : (o : Option (Text × Text)) (a b x y : Text) → o ≡ Some (a, b) → o ≡ Some (x, y) → (a ≡ x) × (b ≡ y)
-some_pair o a b x y e f = (sym (ap left e) ∙ ap left f, sym (ap right e) ∙ ap right f)
-
 pub answer-memory : (error : Error) → kind_of error ≡ kind.OutOfMemory → answer_of error ≡ Err (Day (day.OutOfMemory tt))
 answer-memory error e = rw e refl
 
--- words that are a run are taken, and name these two files
-pub record IsTaken (words : List Text) (segment orders : Text) : Type 0 where
+-- words that are taken, and ask for this
+pub record IsTaken (words : List Text) (asked : Asked) : Type 0 where
   pub taken : takes day_app words ≡ true
-  pub paths : paths_of words ≡ Some (segment, orders)
+  pub asks : asked_of words ≡ Some asked
+
+-- a word that is taken as it stands
+record IsPlain (word : Text) : Type 0 where
+  no_hyphen : strip_byte 45 word ≡ None
+  no_hyphens : bytes_eq word (45 ∷ 45 ∷ []) ≡ false
 
 no_hyphen : (word : Text) → is_plain_word word ≡ true → strip_byte 45 word ≡ None
 no_hyphen [] h = refl
@@ -43,21 +47,106 @@ no_hyphens : (word : Text) → is_plain_word word ≡ true → bytes_eq word (45
 no_hyphens [] h = refl
 no_hyphens (x ∷ word) h = rw (false_of (x == 45) h) refl
 
-takes-two : (program s o : Text) → strip_byte 45 s ≡ None → bytes_eq s (45 ∷ 45 ∷ []) ≡ false → strip_byte 45 o ≡ None → bytes_eq o (45 ∷ 45 ∷ []) ≡ false → takes day_app (program ∷ codes "run" ∷ s ∷ o ∷ []) ≡ true
-unfolding clap_on_literals
-takes-two program s o a b c d = simp (a, b, c, d)
+plain : (word : Text) → is_plain_word word ≡ true → IsPlain word
+plain word h = record { no_hyphen = no_hyphen word h; no_hyphens = no_hyphens word h }
 
-paths-two : (program s o : Text) → strip_byte 45 s ≡ None → bytes_eq s (45 ∷ 45 ∷ []) ≡ false → strip_byte 45 o ≡ None → bytes_eq o (45 ∷ 45 ∷ []) ≡ false → paths_of (program ∷ codes "run" ∷ s ∷ o ∷ []) ≡ Some (s, o)
-unfolding clap_on_literals
-paths-two program s o a b c d = simp (a, b, c, d)
+-- the command line of a run, as it is built
+abbrev run_shape : Shape
+run_shape = unwrap_or (slice_get (built day_app).subs 0) day_app.top
 
-pub taken : (words : List Text) (segment orders : Text) → AsksRun words segment orders → IsTaken words segment orders
-taken words segment orders asks =
-    let a = no_hyphen segment asks.segment_is_plain in
-    let b = no_hyphens segment asks.segment_is_plain in
-    let c = no_hyphen orders asks.orders_is_plain in
-    let d = no_hyphens orders asks.orders_is_plain in
-    rw asks.words_are (record { taken = takes-two asks.program segment orders a b c d; paths = paths-two asks.program segment orders a b c d })
+-- a value that the words give
+abbrev given : Text → Text → Row
+given id value = record { id = id; values = value ∷ []; count = None; source = Some CommandLine; reading = AsWritten }
+
+-- where the walk over two paths and a number of workers stands
+abbrev walked_to : Text → Text → Text → Walk
+walked_to s o n = record {
+  held = record { rows = given (codes "SEGMENT") s ∷ given (codes "ORDERS") o ∷ []; pending = Some (codes "workers", n ∷ []); skip = 0 };
+  waiting = idle;
+  position = 3;
+  is_trailing = false;
+  stopped = None;
+}
+
+-- what a run is asked after the walk over its words
+abbrev end_passes : Held → Bool
+end_passes end =
+    settle_passes run_shape.rules run_shape.args_override_self end && (list_all default_passes run_shape.rules && is_valid run_shape (finished run_shape.rules end) false)
+
+both-true : (p q : Bool) → p ≡ true → q ≡ true → (p && q) ≡ true
+both-true p q h k = rw (h, k) refl
+
+module _ (program s o : Text) (a : strip_byte 45 s ≡ None) (b : bytes_eq s (45 ∷ 45 ∷ []) ≡ false) where
+  takes-check : takes day_app (program ∷ codes "check" ∷ s ∷ []) ≡ true
+  unfolding clap_on_literals
+  takes-check = simp (a, b)
+
+  asks-check : asked_of (program ∷ codes "check" ∷ s ∷ []) ≡ Some (check s)
+  unfolding clap_on_literals
+  asks-check = simp (a, b)
+
+  module _ (c : strip_byte 45 o ≡ None) (d : bytes_eq o (45 ∷ 45 ∷ []) ≡ false) where
+    takes-run : takes day_app (program ∷ codes "run" ∷ s ∷ o ∷ []) ≡ true
+    unfolding clap_on_literals
+    takes-run = simp (a, b, c, d)
+
+    asks-run : asked_of (program ∷ codes "run" ∷ s ∷ o ∷ []) ≡ Some (run s o 1)
+    unfolding clap_on_literals
+    asks-run = simp (a, b, c, d)
+
+  module _ (c : strip_byte 45 o ≡ None) (d : bytes_eq o (45 ∷ 45 ∷ []) ≡ false) (n : Text) (e : strip_byte 45 n ≡ None) (f : bytes_eq n (45 ∷ 45 ∷ []) ≡ false) where
+    abbrev numbered : List Text
+    numbered = s ∷ o ∷ codes "--workers" ∷ n ∷ []
+
+    -- what the walk over these words has come to
+    numbered-walked : walk run_shape.rules [] nothing_held numbered ≡ walked_to s o n
+    unfolding clap_on_literals
+    numbered-walked = simp (a, b, c, d, e, f)
+
+    numbered-pass : walk_passes run_shape [] (walk_from nothing_held) numbered ≡ true
+    unfolding clap_on_literals
+    numbered-pass = simp (a, b, c, d, e, f)
+
+    level-passes : is_signed_in (pos 1) (pos 64) n ≡ true → level_passes run_shape [] nothing_held numbered false ≡ true
+    unfolding clap_on_literals
+    level-passes passes =
+        both-true _ _ numbered-pass
+        (ap (λ (w : Walk). end_passes w.held) numbered-walked ∙ both-true _ _ (both-true _ _ passes refl) refl)
+
+    takes-run-by : is_signed_in (pos 1) (pos 64) n ≡ true → takes day_app (program ∷ codes "run" ∷ numbered) ≡ true
+    unfolding clap_on_literals
+    takes-run-by passes = both-true _ _ (level-passes passes) refl
+
+    asks-run-by : (number : ℕ) → without_minus n ≡ n → workers_in n ≡ Some number → asked_of (program ∷ codes "run" ∷ numbered) ≡ Some (run s o number)
+    unfolding clap_on_literals
+    asks-run-by number same is =
+        ap (λ (w : Walk). asked_in (Some (codes "run", finished run_shape.rules w.held))) numbered-walked
+        ∙ ap (λ (text : Text). run_of (Some s) (Some o) (workers_in text)) same ∙ ap (run_of (Some s) (Some o)) is
+
+-- the words that ask for it are taken
+taken-run : (words : List Text) (program s o : Text) (number : Option ℕ) → words ≡ program ∷ codes "run" ∷ s ∷ o ∷ workers_words number → IsPlain s → IsPlain o → 1 ≤ unwrap_or number 1 → unwrap_or number 1 ≤ 64 → IsTaken words (run s o (unwrap_or number 1))
+taken-run words program s o None are p q some few =
+    rw are (record {
+      taken = takes-run program s o p.no_hyphen p.no_hyphens q.no_hyphen q.no_hyphens;
+      asks = asks-run program s o p.no_hyphen p.no_hyphens q.no_hyphen q.no_hyphens;
+    })
+taken-run words program s o (Some k) are p q some few =
+    let n = number-text k some few in
+    let t = plain (decimal k) n.is_plain in
+    rw are (record {
+      taken = takes-run-by program s o p.no_hyphen p.no_hyphens q.no_hyphen q.no_hyphens (decimal k) t.no_hyphen t.no_hyphens n.passes;
+      asks = asks-run-by program s o p.no_hyphen p.no_hyphens q.no_hyphen q.no_hyphens (decimal k) t.no_hyphen t.no_hyphens k n.as_it_stands n.is_in;
+    })
+
+pub taken : (words : List Text) (asked : Asked) → Asks words asked → IsTaken words asked
+taken words (run segment orders workers) asks =
+    rw asks.workers_are (taken-run words asks.program segment orders asks.number asks.words_are (plain segment asks.segment_is_plain) (plain orders asks.orders_is_plain) (rw asks.workers_are at asks.some) (rw asks.workers_are at asks.few))
+taken words (check segment) asks =
+    let p = plain segment asks.segment_is_plain in
+    rw asks.words_are (record {
+      taken = takes-check asks.program segment [] p.no_hyphen p.no_hyphens;
+      asks = asks-check asks.program segment [] p.no_hyphen p.no_hyphens;
+    })
 
 -- where there is no fault, said of the command line that a command has
 pub no_fault : (app : App) (words : List Text) → app ≡ day_app → (is_simple_and_free app ≡ true → fault_of app words ≡ []) → fault_of day_app words ≡ []
@@ -67,25 +156,25 @@ no_fault app words e h = let k = rw e at h in k refl
 pub fault-met : (app : App) (words : List Text) (error : Error) → app ≡ day_app → (is_simple_and_free app ≡ true → HasKind (fault_of app words) error) → HasKind (fault_of day_app words) error
 fault-met app words error e h = let k = rw e at h in k refl
 
-pub of_words : (faults : Kinds) (paths : Option (Text × Text)) (error : Error) → HasKind faults error → IsOfWords faults paths error
-of_words faults paths error (inl memory) = inl memory
-of_words faults paths error (inr fault) = inr (inl fault)
+pub of_words : (faults : Kinds) (asked : Option Asked) (error : Error) → HasKind faults error → IsOfWords faults asked error
+of_words faults asked error (inl memory) = inl memory
+of_words faults asked error (inr fault) = inr (inl fault)
 
 -- help or the version is among the faults of words that are answered with it
-among : (faults : Kinds) (paths : Option (Text × Text)) (error : Error) → (kind_of error ≡ kind.DisplayHelp) ⊎ (kind_of error ≡ kind.DisplayVersion) → IsOfWords faults paths error → IsAmong (kind_of error) faults
-among faults paths error is (inr (inl fault)) = fault
-among faults paths error (inl help) (inl memory) = let bad : kind.DisplayHelp ≡ kind.OutOfMemory = sym help ∙ memory in absurd (cc)
-among faults paths error (inr version) (inl memory) = let bad : kind.DisplayVersion ≡ kind.OutOfMemory = sym version ∙ memory in absurd (cc)
-among faults paths error (inl help) (inr (inr none)) = let bad : kind.DisplayHelp ≡ kind.MissingSubcommand = sym help ∙ none.0 in absurd (cc)
-among faults paths error (inr version) (inr (inr none)) = let bad : kind.DisplayVersion ≡ kind.MissingSubcommand = sym version ∙ none.0 in absurd (cc)
+among : (faults : Kinds) (asked : Option Asked) (error : Error) → (kind_of error ≡ kind.DisplayHelp) ⊎ (kind_of error ≡ kind.DisplayVersion) → IsOfWords faults asked error → IsAmong (kind_of error) faults
+among faults asked error is (inr (inl fault)) = fault
+among faults asked error (inl help) (inl memory) = let bad : kind.DisplayHelp ≡ kind.OutOfMemory = sym help ∙ memory in absurd (cc)
+among faults asked error (inr version) (inl memory) = let bad : kind.DisplayVersion ≡ kind.OutOfMemory = sym version ∙ memory in absurd (cc)
+among faults asked error (inl help) (inr (inr none)) = let bad : kind.DisplayHelp ≡ kind.MissingSubcommand = sym help ∙ none.0 in absurd (cc)
+among faults asked error (inr version) (inr (inr none)) = let bad : kind.DisplayVersion ≡ kind.MissingSubcommand = sym version ∙ none.0 in absurd (cc)
 
 -- what the answer to an error of the words is
-pub answered : (faults : Kinds) (paths : Option (Text × Text)) (error : Error) → IsOfWords faults paths error → AnswersWords faults paths (answer_of error)
-answered faults paths error of = go (kind_of error) refl
+pub answered : (faults : Kinds) (asked : Option Asked) (error : Error) → IsOfWords faults asked error → AnswersWords faults asked (answer_of error)
+answered faults asked error of = go (kind_of error) refl
   where
-    go : (k : ErrorKind) → kind_of error ≡ k → AnswersWords faults paths (answer_at error k)
-    go kind.DisplayHelp e = (rw e refl, among faults paths error (inl e) of)
-    go kind.DisplayVersion e = (rw e refl, among faults paths error (inr e) of)
+    go : (k : ErrorKind) → kind_of error ≡ k → AnswersWords faults asked (answer_at error k)
+    go kind.DisplayHelp e = (rw e refl, among faults asked error (inl e) of)
+    go kind.DisplayVersion e = (rw e refl, among faults asked error (inr e) of)
     go kind.OutOfMemory e = refl
     go _ e = of
 
@@ -93,3 +182,9 @@ answered faults paths error of = go (kind_of error) refl
 pub err_from : {A : Type 0} (r : Result A Error) (v : Error) (P : Error → Type 0) → IsErrAnd r (λ e. e ≡ v) → P v → IfErr r P
 err_from (Ok a) v P h p = tt
 err_from (Err e) v P h p = rw h p
+
+-- what was asked for is the answer to words without a fault
+pub requested : (faults : Kinds) (asked : Option Asked) (request : Request) → faults ≡ [] → IsRequest asked request → AnswersWords faults asked (Ok request)
+requested faults asked (Run segment orders workers) none is = (none, is)
+requested faults asked (Check segment) none is = (none, is)
+requested faults asked (Help error) none is = absurd is

@@ -1,18 +1,23 @@
 -- How the words of a command line are answered.
-use Rattle.std.specs.Prelude.{◌≡◌, ◌==◌, ℕ, Bool, false, true, not, if◌then◌else◌, ◌⊎◌, List, [], ◌∷◌, Option, Some, None, Result, Ok, Err, ⊤, codes}
+use Rattle.std.specs.Prelude.{◌≡◌, ◌≤◌, ◌==◌, ℕ, pos, Bool, false, true, not, if◌then◌else◌, ◌⊎◌, List, [], ◌∷◌, Option, Some, None, Result, Ok, Err, ⊤, codes, option_and_then, option_map, unwrap_or}
+use Rattle.std.specs.Fmt.{decimal}
 use Rattle.std.specs.Str.{bytes_eq}
+use Rattle.std.specs.Str.Parse.{digits_value, without_leading_plus}
 use Rattle.clap.specs.Values.{kind_of}
-use Rattle.clap.specs.Words.{App, IsAmong, Kinds, Row, Rule, Text, first_of, new_app, new_rule, subcommand_of, with_rule, with_subcommand}
+use Rattle.clap.specs.ValueTests.{is_unsigned_in}
+use Rattle.clap.specs.Words.{App, IsAmong, Kinds, Row, Rule, Text, first_of, new_app, new_rule, one_of, subcommand_of, with_rule, with_subcommand}
 use Rattle.clap.specs.Simple.{on_top}
 use Rattle.clap.specs.declared.builder.action.ArgAction.TheVariants.{Set}
+use Rattle.clap.specs.declared.builder.value_parser.ValueParser.TheVariants.{Signed}
 use Rattle.clap.specs.declared.error.Error.{Error}
 use Rattle.clap.specs.declared.error.kind.ErrorKind.{ErrorKind}
 use Rattle.clap.specs.declared.error.kind.ErrorKind.TheVariants as kind
 use Rattle.std_io.specs.declared.io.kind.ErrorKind.{ErrorKind as ReadKind}
 use Rattle.std_io.specs.declared.io.kind.ErrorKind.TheVariants as reading
 use Rattle.xm_day.specs.declared.faults.DayFault.TheVariants as day
+use Rattle.xm_segment.specs.Opening.{max_workers}
 use Rattle.xm_program.specs.declared.requests.Request.{Request}
-use Rattle.xm_program.specs.declared.requests.Request.TheVariants.{Run, Help}
+use Rattle.xm_program.specs.declared.requests.Request.TheVariants.{Run, Check, Help}
 use Rattle.xm_program.specs.declared.requests.Failure.{Failure}
 use Rattle.xm_program.specs.declared.requests.Failure.TheVariants.{Day, Words}
 
@@ -22,55 +27,102 @@ use Rattle.xm_program.specs.declared.requests.Failure.TheVariants.{Day, Words}
 abbrev pub path_rule : Text → Rule
 path_rule id = record (new_rule id) { required = true; action = Some Set }
 
--- `run SEGMENT ORDERS`
+-- `--workers N`, a number from 1 on, which is 1 where the words give none
+abbrev pub workers_rule : Rule
+workers_rule = record (new_rule (codes "workers")) {
+  long = Some (codes "workers");
+  action = Some Set;
+  value_names = 1;
+  defaults = codes "1" ∷ [];
+  parser = Some (Signed (pos 1) (pos max_workers));
+}
+
+-- `run SEGMENT ORDERS --workers N`
 abbrev pub run_app : App
-run_app = with_rule (with_rule (new_app (codes "run")) (path_rule (codes "SEGMENT"))) (path_rule (codes "ORDERS"))
+run_app = with_rule (with_rule (with_rule (new_app (codes "run")) (path_rule (codes "SEGMENT"))) (path_rule (codes "ORDERS"))) workers_rule
+
+-- `check SEGMENT`
+abbrev pub check_app : App
+check_app = with_rule (new_app (codes "check")) (path_rule (codes "SEGMENT"))
 
 -- `xetra-day`, with a subcommand
 abbrev pub day_app : App
-day_app = with_subcommand (on_top (λ s. record s { has_version = true; subcommand_required = true; arg_required_else_help = true })
-    (new_app (codes "xetra-day"))) run_app.top
+day_app = with_subcommand (with_subcommand (on_top (λ s. record s { has_version = true; subcommand_required = true; arg_required_else_help = true })
+    (new_app (codes "xetra-day"))) run_app.top) check_app.top
 
--- the two paths among the values of a subcommand
-abbrev pub both_paths : Option Text → Option Text → Option (Text × Text)
-both_paths (Some segment) (Some orders) = Some (segment, orders)
-both_paths (Some segment) None = None
-both_paths None orders = None
+-- ---- what the words ask for
 
-abbrev pub paths_in : Option (Text × List Row) → Option (Text × Text)
-paths_in None = None
-paths_in (Some p) =
-    if bytes_eq p.0 (codes "run") then both_paths (first_of (codes "SEGMENT") p.1) (first_of (codes "ORDERS") p.1)
-    else None
+-- the run of a segment file and an order file by so many workers, or the check of a segment file
+pub data Asked : Type 0 where
+  run : Text → Text → ℕ → Asked
+  check : Text → Asked
 
--- the two files of the run that the words ask for
-abbrev pub paths_of : List Text → Option (Text × Text)
-paths_of words = paths_in (subcommand_of day_app words)
+-- a number of workers, by its decimal digits
+abbrev pub workers_in : Text → Option ℕ
+workers_in text = if is_unsigned_in 1 max_workers text then Some (digits_value 10 (without_leading_plus text)) else None
 
--- ---- the answer
+-- the run that the values of a subcommand ask for
+abbrev pub run_of : Option Text → Option Text → Option ℕ → Option Asked
+run_of (Some segment) (Some orders) (Some workers) = Some (run segment orders workers)
+run_of (Some segment) (Some orders) None = None
+run_of (Some segment) None workers = None
+run_of None orders workers = None
+
+abbrev pub asked_in : Option (Text × List Row) → Option Asked
+asked_in None = None
+asked_in (Some p) =
+    if bytes_eq p.0 (codes "run")
+    then run_of (first_of (codes "SEGMENT") p.1) (first_of (codes "ORDERS") p.1) (option_and_then workers_in (one_of (codes "workers") p.1))
+    else (if bytes_eq p.0 (codes "check") then option_map check (first_of (codes "SEGMENT") p.1) else None)
+
+-- the run or the check that the words ask for
+abbrev pub asked_of : List Text → Option Asked
+asked_of words = asked_in (subcommand_of day_app words)
 
 -- a word that is taken as it stands: it does not begin with a hyphen
 abbrev pub is_plain_word : Text → Bool
 is_plain_word [] = true
 is_plain_word (first ∷ rest) = not (first == 45)
 
--- the words are the program's name, `run` and two paths
-pub record AsksRun (words : List Text) (segment orders : Text) : Type 0 where
+-- the words that ask for so many workers: none where no number is asked for
+abbrev pub workers_words : Option ℕ → List Text
+workers_words None = []
+workers_words (Some workers) = codes "--workers" ∷ decimal workers ∷ []
+
+-- the words are the program's name, `run`, two paths and, if a number of workers is asked for, `--workers` and it
+pub record AsksRun (words : List Text) (segment orders : Text) (workers : ℕ) : Type 0 where
   pub program : Text
-  pub words_are : words ≡ program ∷ codes "run" ∷ segment ∷ orders ∷ []
+  pub number : Option ℕ
+  pub words_are : words ≡ program ∷ codes "run" ∷ segment ∷ orders ∷ workers_words number
   pub segment_is_plain : is_plain_word segment ≡ true
   pub orders_is_plain : is_plain_word orders ≡ true
+  pub workers_are : workers ≡ unwrap_or number 1
+  pub some : 1 ≤ workers
+  pub few : workers ≤ max_workers
 
--- the run of these two files, or want of memory
-abbrev pub IsRun : Result Request Failure → Text → Text → Type 0
-IsRun (Ok (Run s o)) segment orders = (s.now ≡ segment) × (o.now ≡ orders)
-IsRun (Ok (Help error)) segment orders = ⊥
-IsRun (Err failure) segment orders = failure ≡ Day (day.OutOfMemory tt)
+-- the words are the program's name, `check` and a path
+pub record AsksCheck (words : List Text) (segment : Text) : Type 0 where
+  pub program : Text
+  pub words_are : words ≡ program ∷ codes "check" ∷ segment ∷ []
+  pub segment_is_plain : is_plain_word segment ≡ true
 
--- a run is one of the files that the words name
-abbrev pub IsOfPaths : Option (Text × Text) → Request → Type 0
-IsOfPaths paths (Run s o) = paths ≡ Some (s.now, o.now)
-IsOfPaths paths (Help error) = ⊤
+-- the words ask for it in a form that is always taken
+abbrev pub Asks : List Text → Asked → Type 0
+Asks words (run segment orders workers) = AsksRun words segment orders workers
+Asks words (check segment) = AsksCheck words segment
+
+-- ---- the answer
+
+-- the request is what was asked for, and not a help text
+abbrev pub IsRequest : Option Asked → Request → Type 0
+IsRequest asked (Run segment orders workers) = asked ≡ Some (run segment.now orders.now workers)
+IsRequest asked (Check segment) = asked ≡ Some (check segment.now)
+IsRequest asked (Help error) = ⊥
+
+-- the answer is what was asked for, or want of memory
+abbrev pub IsGranted : Result Request Failure → Asked → Type 0
+IsGranted (Ok request) asked = IsRequest (Some asked) request
+IsGranted (Err failure) asked = failure ≡ Day (day.OutOfMemory tt)
 
 abbrev pub answer_at : Error → ErrorKind → Result Request Failure
 answer_at error kind.DisplayHelp = Ok (Help error)
@@ -78,7 +130,7 @@ answer_at error kind.DisplayVersion = Ok (Help error)
 answer_at error kind.OutOfMemory = Err (Day (day.OutOfMemory tt))
 answer_at error _ = Err (Words error)
 
--- what is answered where no run was asked for: a help text, want of memory, or a mistake in the words
+-- what is answered where nothing is done: a help text, want of memory, or a mistake in the words
 abbrev pub answer_of : Error → Result Request Failure
 answer_of error = answer_at error (kind_of error)
 
@@ -94,19 +146,19 @@ abbrev pub IsTold : Failure → Type 0
 IsTold (Day fault) = ⊤
 IsTold (Words error) = is_mistake (kind_of error) ≡ true
 
--- what an error of words with these faults and these paths is: want of memory, one of the faults, or that no run is asked for
--- where there is no fault
-abbrev pub IsOfWords : Kinds → Option (Text × Text) → Error → Type 0
-IsOfWords faults paths error = (kind_of error ≡ kind.OutOfMemory) ⊎ (IsAmong (kind_of error) faults
-    ⊎ ((kind_of error ≡ kind.MissingSubcommand) × (faults ≡ []) × (paths ≡ None)))
+-- what an error is of words with these faults, which ask for this: want of memory, one of the faults, or that nothing is asked
+-- for where there is no fault
+abbrev pub IsOfWords : Kinds → Option Asked → Error → Type 0
+IsOfWords faults asked error = (kind_of error ≡ kind.OutOfMemory) ⊎ (IsAmong (kind_of error) faults
+    ⊎ ((kind_of error ≡ kind.MissingSubcommand) × (faults ≡ []) × (asked ≡ None)))
 
--- the answer to words with these faults and these paths: a run only where there is no fault, help or the version only where
--- they ask for it, a mistake only for a fault of theirs, or where they ask for no run
-abbrev pub AnswersWords : Kinds → Option (Text × Text) → Result Request Failure → Type 0
-AnswersWords faults paths (Ok (Run segment orders)) = faults ≡ []
-AnswersWords faults paths (Ok (Help error)) = (is_mistake (kind_of error) ≡ false) × IsAmong (kind_of error) faults
-AnswersWords faults paths (Err (Day fault)) = fault ≡ day.OutOfMemory tt
-AnswersWords faults paths (Err (Words error)) = IsOfWords faults paths error
+-- the answer to words with these faults, which ask for this: what they ask for only where there is no fault, help or the
+-- version only where they ask for it, a mistake only for a fault of theirs, or where they ask for nothing
+abbrev pub AnswersWords : Kinds → Option Asked → Result Request Failure → Type 0
+AnswersWords faults asked (Ok (Help error)) = (is_mistake (kind_of error) ≡ false) × IsAmong (kind_of error) faults
+AnswersWords faults asked (Ok request) = (faults ≡ []) × IsRequest asked request
+AnswersWords faults asked (Err (Day fault)) = fault ≡ day.OutOfMemory tt
+AnswersWords faults asked (Err (Words error)) = IsOfWords faults asked error
 
 -- words that are not text are a mistake, or memory is wanting
 abbrev pub RefusesBytes : Failure → Type 0
@@ -118,7 +170,8 @@ abbrev pub IsUnread : ReadKind → Failure → Type 0
 IsUnread cause (Day fault) = fault ≡ day.OutOfMemory tt
 IsUnread cause (Words error) = (cause ≡ reading.InvalidData) × (kind_of error ≡ kind.ValueValidation)
 
--- the status that the program ends with after a failure: 1 where the day has no statement, 2 where the words were mistaken
+-- the status that the program ends with after a failure: 1 where what was asked for could not be done, 2 where the words were
+-- mistaken
 abbrev pub failure_status : Failure → ℕ
 failure_status (Day fault) = 1
 failure_status (Words error) = 2

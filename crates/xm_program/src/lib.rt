@@ -1,4 +1,5 @@
-//! What the program `xetra-day` does with its command line: it runs a day of two files, or prints its help.
+//! What the program `xetra-day` does with its command line: it runs a day of two files, checks a segment file,
+//! or prints its help.
 #![tactic(auto)]
 
 mod complaints;
@@ -6,8 +7,10 @@ mod fault_lines;
 mod inputs;
 mod program;
 mod requests;
+mod workers;
 
 pub use crate::fault_lines::fault_line;
 pub use crate::inputs::{Input, open_input};
-pub use crate::program::{run, run_program, run_words};
+pub use crate::program::{check, run, run_program, run_words};
 pub use crate::requests::{Failure, Request, read_words};
+pub use crate::workers::Workers;

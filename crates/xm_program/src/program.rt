@@ -1,29 +1,36 @@
 //! A call of the program, over any runtime.
-ghost use Rattle.std.specs.Prelude.{◌≡◌, ◌≢◌, ◌≤◌, ℕ, List, Option, Err, IfErr, map, string_bytes};
+ghost use Rattle.std.specs.Prelude.{◌≡◌, ◌≢◌, ◌≤◌, ℕ, List, Option, Err, IfErr, OnErr, OnOk, map, string_bytes};
+ghost use Rattle.std.specs.Io.KnownBytes.{Keeps};
 ghost use Rattle.std.specs.Process.{exit_status};
 ghost use Rattle.clap.specs.Words.{fault_of};
-ghost use Rattle.xm_program.specs.Days.{RunEnds};
+ghost use Rattle.xm_program.specs.Days.{FileCheckEnds, IsEnd, RunEnds};
 ghost use Rattle.xm_program.specs.Ends.{CallEnds, IsDone, IsToldAs};
-ghost use Rattle.xm_program.specs.Requests.{RefusesBytes, day_app, end_status, paths_of};
+ghost use Rattle.xm_program.specs.Requests.{RefusesBytes, asked_of, day_app, end_status};
 
 use crate::complaints::Complaints;
 use crate::fault_lines::{fault_line, told};
 use crate::inputs;
 use crate::requests::{self, Failure, Request};
+use crate::workers::Workers;
 use clap::Error;
 use std::alloc::Global;
 use std::io::{Read, Write};
 use std::process::ExitCode;
 use std::random::RandomSource;
 use std::rt::{Env, Files};
+use std::sync::Wait;
+use std::thread::Threads;
 use std::{env, fs, io};
-use xm_day::DayFault;
+use xm_day::{DayFault, run_day};
 use xm_memory::OutOfMemory;
 use xm_names::{Seed, Storage};
+use xm_segment::NoGate;
 use xm_ticks::write_whole;
 
 /// Does what the command line asks for, tells on standard error where it can't, and gives the status to end with.
-pub fn run_program<R: Env + AllocGlobal + Files + Print + Eprint + RandomSource>(rt: &R) -> ExitCode
+pub fn run_program<
+    R: Env + AllocGlobal + Files + Print + Eprint + RandomSource + Threads + Wait + Sync,
+>(rt: &R) -> ExitCode
     ensures { exit_status result ≤ 2 }
 {
     let mut complaints = Complaints { rt };
@@ -35,13 +42,13 @@ pub fn run_program<R: Env + AllocGlobal + Files + Print + Eprint + RandomSource>
 
 /// Does what these words ask for, of which the first is the program's name, tells on the second stream where it can't, and
 /// gives the status to end with.
-pub fn run_words<R: AllocGlobal + Files + RandomSource, W: Write, E: Write>(
+pub fn run_words<R: AllocGlobal + Files + RandomSource + Threads + Wait + Sync, W: Write, E: Write>(
     rt: &R,
     words: &[String],
     out: &mut W,
     complaints: &mut E,
 ) -> ExitCode
-    ensures { CallEnds (fault_of day_app (map string_bytes words.now)) (paths_of (map string_bytes words.now)) (W.contents out.old) (W.contents out.new)
+    ensures { CallEnds (fault_of day_app (map string_bytes words.now)) (asked_of (map string_bytes words.now)) (W.contents out.old) (W.contents out.new)
         (E.contents complaints.old) (E.contents complaints.new) (exit_status result) }
 {
     let ended = answer(rt, words, out);
@@ -49,36 +56,59 @@ pub fn run_words<R: AllocGlobal + Files + RandomSource, W: Write, E: Write>(
 }
 
 /// Does what these words ask for. Words that ask for help are never a mistake.
-fn answer<R: AllocGlobal + Files + RandomSource, W: Write>(
+fn answer<R: AllocGlobal + Files + RandomSource + Threads + Wait + Sync, W: Write>(
     rt: &R,
     words: &[String],
     out: &mut W,
 ) -> Result<(), Failure>
-    ensures { IsDone (fault_of day_app (map string_bytes words.now)) (paths_of (map string_bytes words.now)) (W.contents out.old) (W.contents out.new) result }
+    ensures { IsDone (fault_of day_app (map string_bytes words.now)) (asked_of (map string_bytes words.now)) (W.contents out.old) (W.contents out.new) result }
 {
     match requests::read_words(rt.alloc(), words)? {
-        Request::Run { segment, orders } => Ok(run_files(rt, segment, orders, out)?),
+        Request::Run {
+            segment,
+            orders,
+            workers,
+        } => Ok(run_files(rt, segment, orders, workers, out)?),
+        Request::Check { segment } => Ok(check_file(rt, segment, out)?),
         Request::Help(text) => Ok(print_help(text, out)?),
     }
 }
 
-/// Writes the statement of the day in the files at two paths.
-fn run_files<R: AllocGlobal + Files + RandomSource, W: Write>(
+/// Writes the statement of the day in the files at two paths, whose rows so many workers take.
+fn run_files<R: AllocGlobal + Files + RandomSource + Threads + Wait + Sync, W: Write>(
     rt: &R,
     segment: &str,
     orders: &str,
+    workers: Workers,
     out: &mut W,
 ) -> Result<(), DayFault>
-    ensures ends { (segment orders : Option (List ℕ)) × RunEnds segment orders (W.contents out.old) (W.contents out.new) result }
+    ensures ends { (segment orders : Option (List ℕ)) × RunEnds workers segment orders (W.contents out.old) (W.contents out.new) result }
     ensures untouched { IfErr result (λ fault. fault ≢ DayFault.WriteFailed → out.new ≡ out.old) }
 {
     let mut segment = inputs::open_input(|path| fs::open(rt, path), segment);
     let mut orders = inputs::open_input(|path| fs::open(rt, path), orders);
-    let storage = Storage {
+    run(rt, storage(rt), &mut segment, &mut orders, workers, out)
+}
+
+/// Checks the segment file at a path, and writes its line.
+fn check_file<R: AllocGlobal + Files + RandomSource, W: Write>(
+    rt: &R,
+    segment: &str,
+    out: &mut W,
+) -> Result<(), DayFault>
+    ensures ends { (segment : Option (List ℕ)) × FileCheckEnds segment (W.contents out.old) (W.contents out.new) result }
+    ensures untouched { IfErr result (λ fault. fault ≢ DayFault.WriteFailed → out.new ≡ out.old) }
+{
+    let mut segment = inputs::open_input(|path| fs::open(rt, path), segment);
+    check(storage(rt), &mut segment, out)
+}
+
+/// Where the structures of a call lie, whose tables have a seed that is drawn.
+fn storage<R: AllocGlobal + RandomSource>(rt: &R) -> Storage<Global> {
+    Storage {
         alloc: rt.alloc(),
         seed: Seed::drawn(rt),
-    };
-    run(storage, &mut segment, &mut orders, out)
+    }
 }
 
 /// Prints a help text, or the version.
@@ -99,17 +129,42 @@ fn read_command_line<R: Env + AllocGlobal>(rt: &R) -> Result<Vec<String>, Failur
     }
 }
 
-/// Writes the statement of the day in two files, and sees that all of it went out.
-pub fn run<S: Read, O: Read, W: Write>(
+/// Writes the statement of the day in two files, whose rows so many workers take, and sees that all of it went out.
+pub fn run<R: Threads + Wait + Sync, S: Read, O: Read, W: Write>(
+    rt: &R,
     storage: Storage<Global>,
     segment: &mut S,
     orders: &mut O,
+    workers: Workers,
     out: &mut W,
 ) -> Result<(), DayFault>
-    ensures ends { RunEnds (S.remaining segment.old) (O.remaining orders.old) (W.contents out.old) (W.contents out.new) result }
+    ensures ends { RunEnds workers (S.remaining segment.old) (O.remaining orders.old) (W.contents out.old) (W.contents out.new) result }
     ensures untouched { IfErr result (λ fault. fault ≢ DayFault.WriteFailed → out.new ≡ out.old) }
 {
-    match xm_day::run_alone(storage, segment, orders, out) {
+    let ended = run_day(rt, storage, segment, orders, out, workers.get(), &NoGate);
+    sent_out(ended, out)
+}
+
+/// Writes the line of a segment file that opens, and sees that all of it went out.
+pub fn check<S: Read, W: Write>(
+    storage: Storage<Global>,
+    segment: &mut S,
+    out: &mut W,
+) -> Result<(), DayFault>
+    ensures ends { FileCheckEnds (S.remaining segment.old) (W.contents out.old) (W.contents out.new) result }
+    ensures untouched { IfErr result (λ fault. fault ≢ DayFault.WriteFailed → out.new ≡ out.old) }
+{
+    let ended = xm_day::check(storage, segment, out);
+    sent_out(ended, out)
+}
+
+/// What is told of a call that wrote and ended so. All that it wrote goes out first.
+fn sent_out<T: Copy, W: Write>(ended: Result<T, DayFault>, out: &mut W) -> Result<(), DayFault>
+    ensures told { IsEnd ended result }
+    ensures kept { OnOk ended (Keeps (W.contents out.old) (W.contents out.new)) }
+    ensures untouched { OnErr ended (out.new ≡ out.old) }
+{
+    match ended {
         Ok(_) => out.flush().map_err(|_| DayFault::WriteFailed),
         Err(fault) => Err(told(fault)),
     }

@@ -1,25 +1,36 @@
 //! What the words of the command line ask for.
-ghost use Rattle.std.specs.Prelude.{◌≡◌, List, [], ℕ, IfOk, IfErr, IsSome, map, option_map, string_bytes, false, true};
-ghost use Rattle.clap.specs.Words.{app_of, fault_of, kind_of, subcommand_rows_of, takes};
+ghost use Rattle.std.specs.Prelude.{◌≡◌, [], IfOk, IfErr, IfSome, IsSome, None, codes, map, option_and_then, string_bytes, false, true};
+ghost use Rattle.clap.specs.Words.{app_of, fault_of, found_of, kind_of, one_of, rows_of, rule_of, subcommand_rows_of, takes};
 ghost use Rattle.clap.specs.declared.builder.command.Command.TheViews.{out-Command as fields_of};
 ghost use Rattle.clap.specs.declared.error.kind.ErrorKind.TheVariants as kind;
-ghost use Rattle.xm_program.specs.Requests.{AnswersWords, AsksRun, IsOfPaths, IsOfWords, IsRun, IsTold, IsUnread, answer_of, day_app, failure_status, paths_in, paths_of, run_app};
+ghost use Rattle.xm_program.specs.Requests.{AnswersWords, Asked, Asks, IsGranted, IsOfWords, IsRequest, IsTold, IsUnread, answer_of, asked_in, asked_of, check_app, day_app, failure_status, path_rule, run_app, workers_in, workers_rule};
 
+use crate::workers::Workers;
 use clap::error::ErrorKind;
-use clap::{Arg, ArgAction, ArgMatches, Command, Error};
+use clap::{Arg, ArgAction, ArgMatches, Command, Error, value_parser};
 use std::alloc::Global;
 use std::io;
 use xm_day::DayFault;
 use xm_memory::OutOfMemory;
+use xm_segment::MAX_WORKERS;
 
 /// What `--version` prints behind the name; the script `xetra-day` reads it here.
 const VERSION: &str = "0.1.0";
 
 const RUN: &str = "run";
 
+const CHECK: &str = "check";
+
 const SEGMENT: &str = "SEGMENT";
 
 const ORDERS: &str = "ORDERS";
+
+const WORKERS: &str = "workers";
+
+const SEGMENT_HELP: &str = "The segment file (TOML): the date, the members and the securities";
+
+const ORDERS_HELP: &str =
+    "The order file (CSV): a header, then one command a row, in the order of the day";
 
 const DAY_HELP: &str = "Replays a trading day of a segment of securities and writes its statement.
 
@@ -53,17 +64,36 @@ orders.csv
   uncross,,,*,,,,,,,,
   end,,,*,,,,,,,,";
 
+const WORKERS_HELP: &str = "How many workers take the rows of members, side by side: 1 to 64
+
+One worker takes all rows in the order of the file. More take each member's rows in their order,
+and the members side by side, so that two runs may differ where members compete. They are not
+faster: a command is shorter than the hand-over of a lock.";
+
+const CHECK_HELP: &str = "Checks a segment file and writes how many securities and members it has.
+
+The line is `OK <securities> securities <members> members`. The first fault ends the check: of the
+segment file, of the opening of the segment, of the writing. docs/FORMATS.md tells of each.";
+
 const STATUS_HELP: &str = "Exit status:
-  0  the statement was written
-  1  no statement: standard error has one line that names the fault
+  0  it is done: the statement or the line was written
+  1  it is not done: standard error has one line that names the fault
   2  the command line is mistaken
   3  the script xetra-day has no program to run: standard error says why";
 
 /// What a command line asks for.
 #[derive(Debug, Drop)]
 pub enum Request<'a> {
-    /// The statement of the day in two files, which are given by their paths.
-    Run { segment: &'a str, orders: &'a str },
+    /// The statement of the day in two files, which are given by their paths, and whose rows so many workers take.
+    Run {
+        segment: &'a str,
+        orders: &'a str,
+        workers: Workers,
+    },
+    /// The check of a segment file, which is given by its path.
+    Check {
+        segment: &'a str,
+    },
     /// A help text, or the version.
     Help(Error),
 }
@@ -71,7 +101,7 @@ pub enum Request<'a> {
 /// Why the program ends without what it was asked for.
 #[derive(Debug, Drop)]
 pub enum Failure {
-    /// The day has no statement.
+    /// The day has no statement, or the segment file isn't one that opens.
     Day(DayFault),
     /// The words are mistaken, as the text says.
     Words(Error),
@@ -114,19 +144,17 @@ impl From<DayFault> for Failure {
 ///
 /// A mistake in the words is refused as the text tells.
 pub fn read_words<'a>(alloc: Global, words: &'a [String]) -> Result<Request<'a>, Failure>
-    ensures paths { IfOk result (IsOfPaths (paths_of (map string_bytes words.entry.now))) }
     ensures told { IfErr result IsTold }
-    ensures answered { AnswersWords (fault_of day_app (map string_bytes words.entry.now)) (paths_of (map string_bytes words.entry.now)) result }
-    ensures run { (segment orders : List ℕ) → AsksRun (map string_bytes words.entry.now) segment orders
-        → IsRun result segment orders }
+    ensures answered { AnswersWords (fault_of day_app (map string_bytes words.entry.now)) (asked_of (map string_bytes words.entry.now)) result }
+    ensures granted { (asked : Asked) → Asks (map string_bytes words.entry.now) asked → IsGranted result asked }
 {
-    match read_paths(command_line(alloc)?, words) {
-        Ok((segment, orders)) => Ok(Request::Run { segment, orders }),
+    match read_request(command_line(alloc)?, words) {
+        Ok(request) => Ok(request),
         Err(error) => answer(error),
     }
 }
 
-/// What is answered where the words ask for no run.
+/// What is answered where nothing is done.
 fn answer<'a>(error: Error) -> Result<Request<'a>, Failure>
     ensures { result ≡ answer_of error }
 {
@@ -137,36 +165,45 @@ fn answer<'a>(error: Error) -> Result<Request<'a>, Failure>
     }
 }
 
-/// The two paths of a run.
-fn read_paths<'a>(
-    mut command: Command<'a>,
-    words: &'a [String],
-) -> Result<(&'a str, &'a str), Error>
+/// The run or the check that the words ask for.
+fn read_request<'a>(mut command: Command<'a>, words: &'a [String]) -> Result<Request<'a>, Error>
     requires { app_of command ≡ day_app }
-    ensures ok { IfOk result (λ p. paths_of (map string_bytes words.entry.now) ≡ Some (p.0.now, p.1.now)) }
+    ensures ok { IfOk result (IsRequest (asked_of (map string_bytes words.entry.now))) }
     ensures err { IfErr result (λ e. takes day_app (map string_bytes words.entry.now) ≡ true
-        → IsSome (paths_of (map string_bytes words.entry.now)) → kind_of e ≡ kind.OutOfMemory) }
+        → IsSome (asked_of (map string_bytes words.entry.now)) → kind_of e ≡ kind.OutOfMemory) }
     ensures faultless { IfOk result (λ _. fault_of day_app (map string_bytes words.entry.now) ≡ []) }
-    ensures fault { IfErr result (IsOfWords (fault_of day_app (map string_bytes words.entry.now)) (paths_of (map string_bytes words.entry.now))) }
+    ensures fault { IfErr result (IsOfWords (fault_of day_app (map string_bytes words.entry.now)) (asked_of (map string_bytes words.entry.now))) }
 {
     let matches = command.try_get_matches_from_mut(words)?;
-    match paths_in(&matches) {
-        Some(paths) => Ok(paths),
-        None => Err(command.error(ErrorKind::MissingSubcommand, "no run is asked for")?),
+    match request_in(&matches) {
+        Some(request) => Ok(request),
+        None => Err(command.error(ErrorKind::MissingSubcommand, "nothing is asked for")?),
     }
 }
 
-/// The two paths of a run that was met.
-fn paths_in<'a>(matches: &ArgMatches<'a>) -> Option<(&'a str, &'a str)>
-    ensures { option_map (λ p. (p.0.now, p.1.now)) result ≡ paths_in (subcommand_rows_of matches.now) }
+/// The run or the check that was met.
+fn request_in<'a>(matches: &ArgMatches<'a>) -> Option<Request<'a>>
+    ensures some { IfSome result (IsRequest (asked_in (subcommand_rows_of matches.now))) }
+    ensures none { result ≡ None → asked_in (subcommand_rows_of matches.now) ≡ None }
 {
-    let (name, run) = matches.subcommand()?;
-    if name != RUN {
-        return None;
+    let (name, values) = matches.subcommand()?;
+    let segment = values.get_str(SEGMENT)?;
+    match name {
+        RUN => Some(Request::Run {
+            segment,
+            orders: values.get_str(ORDERS)?,
+            workers: workers_in(values)?,
+        }),
+        CHECK => Some(Request::Check { segment }),
+        _ => None,
     }
-    let segment = run.get_str(SEGMENT)?;
-    let orders = run.get_str(ORDERS)?;
-    Some((segment, orders))
+}
+
+/// The number of workers among the values of a run.
+fn workers_in(values: &ArgMatches<'_>) -> Option<Workers>
+    ensures { result ≡ option_and_then workers_in (one_of (codes "workers") (rows_of (found_of values.now))) }
+{
+    Workers::new(values.get_one::<u32>(WORKERS)?)
 }
 
 /// Why the words of the command line weren't read: one isn't text, or memory is wanting.
@@ -203,7 +240,8 @@ fn command_line<'a>(alloc: Global) -> Result<Command<'a>, OutOfMemory>
         .after_help(STATUS_HELP)
         .subcommand_required(true)
         .arg_required_else_help(true)
-        .subcommand(run_command(alloc)?)?;
+        .subcommand(run_command(alloc)?)?
+        .subcommand(check_command(alloc)?)?;
     Ok(command)
 }
 
@@ -212,19 +250,48 @@ fn run_command<'a>(alloc: Global) -> Result<Command<'a>, OutOfMemory>
     ensures app { IfOk result (λ command. app_of command ≡ run_app) }
     ensures local { IfOk result (λ command. (fields_of command).has_globals ≡ false) }
 {
-    let segment = Arg::new(alloc, SEGMENT)
-        .required(true)
-        .action(ArgAction::Set)
-        .help("The segment file (TOML): the date, the members and the securities");
-    let orders = Arg::new(alloc, ORDERS)
-        .required(true)
-        .action(ArgAction::Set)
-        .help("The order file (CSV): a header, then one command a row, in the order of the day");
     let command = Command::new(alloc, RUN)
         .about("Runs the day of two files and writes its statement to standard output")
         .long_about(RUN_HELP)
         .after_help(STATUS_HELP)
-        .arg(segment)?
-        .arg(orders)?;
+        .arg(path(alloc, SEGMENT).help(SEGMENT_HELP))?
+        .arg(path(alloc, ORDERS).help(ORDERS_HELP))?
+        .arg(workers(alloc))?;
     Ok(command)
+}
+
+/// The part of the command line that checks a segment file.
+fn check_command<'a>(alloc: Global) -> Result<Command<'a>, OutOfMemory>
+    ensures app { IfOk result (λ command. app_of command ≡ check_app) }
+    ensures local { IfOk result (λ command. (fields_of command).has_globals ≡ false) }
+{
+    let command = Command::new(alloc, CHECK)
+        .about("Checks a segment file and writes how many securities and members it has")
+        .long_about(CHECK_HELP)
+        .after_help(STATUS_HELP)
+        .arg(path(alloc, SEGMENT).help(SEGMENT_HELP))?;
+    Ok(command)
+}
+
+/// The path of a file, which has to be given.
+fn path<'a>(alloc: Global, name: &'a str) -> Arg<'a>
+    ensures rule { rule_of result ≡ path_rule name.entry.now }
+    ensures local { result.global ≡ false }
+{
+    Arg::new(alloc, name).required(true).action(ArgAction::Set)
+}
+
+/// The number of workers, which may be left out.
+fn workers<'a>(alloc: Global) -> Arg<'a>
+    ensures rule { rule_of result ≡ workers_rule }
+    ensures local { result.global ≡ false }
+{
+    Arg::new(alloc, WORKERS)
+        .long(WORKERS)
+        .value_name("N")
+        .action(ArgAction::Set)
+        .value_parser(value_parser!(u32).range(1..=i64::from(MAX_WORKERS)))
+        .default_value("1")
+        .help("How many workers take the rows of members, side by side")
+        .long_help(WORKERS_HELP)
 }

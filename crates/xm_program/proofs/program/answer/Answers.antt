@@ -1,10 +1,10 @@
-use Rattle.std.proofs.Common.{rules, ap, ◌≡◌, Some, Ok, Err, [], inr, map, string_bytes}
+use Rattle.std.proofs.Common.{rules, ap, ◌≡◌, Ok, Err, inr, map, string_bytes}
 use Rattle.clap.specs.Words.{fault_of}
 use Rattle.xm_day.specs.declared.faults.DayFault.TheVariants.{WriteFailed}
-use Rattle.xm_program.specs.Requests.{AnswersWords, day_app, paths_of}
+use Rattle.xm_program.specs.Requests.{AnswersWords, asked_of, check, day_app, run}
 use Rattle.xm_program.specs.declared.requests.Failure.TheVariants.{Day}
-use Rattle.xm_program.specs.declared.requests.Request.TheVariants.{Help}
-use Rattle.xm_program.proofs.Ends.{asks-help, fault-done, refused-done, run-done}
+use Rattle.xm_program.specs.declared.requests.Request.TheVariants.{Run, Check, Help}
+use Rattle.xm_program.proofs.Ends.{all-done, asks-help, fault-done, refused-done}
 use Rattle.xm_program.proofs.program.answer.Goals as goal
 
 pub returns-in_err-segment : goal.returns-in_err-segment
@@ -15,28 +15,40 @@ returns-in_err-segment g c =
 pub returns-in_err-run_files-in-Run : goal.returns-in_err-run_files-in-Run
 returns-in_err-run_files-in-Run g c =
     let words = map string_bytes c.args.words.now in
-    let fault = c.in_err-run_files-in-Run.field-0.0 in
-    let none : fault_of day_app words ≡ [] = search rules in
-    let named : paths_of words ≡ Some (c.in-Run.segment.now, c.in-Run.orders.now) = search rules in
-    let is : c.from_residual-in_err-run_files-in-Run.result ≡ Err (Day fault) = search rules in
-    rw is (fault-done _ _ _ _ _ fault none named c.in_err-run_files-in-Run.ensures.ends (λ h. ap g.W.Write.contents (c.in_err-run_files-in-Run.ensures.untouched h)))
+    let met = c.in_err-run_files-in-Run in
+    let answered : AnswersWords (fault_of day_app words) (asked_of words) (Ok (Run c.in-Run.segment c.in-Run.orders c.in-Run.workers)) = search rules in
+    let is : c.from_residual-in_err-run_files-in-Run.result ≡ Err (Day met.field-0.0) = search rules in
+    rw is (fault-done _ _ (run c.in-Run.segment.now c.in-Run.orders.now c.in-Run.workers) _ _ met.field-0.0 answered.0 answered.1 met.ensures.ends (λ h. ap g.W.Write.contents (met.ensures.untouched h)))
+
+pub returns-in_err-check_file-in-Check : goal.returns-in_err-check_file-in-Check
+returns-in_err-check_file-in-Check g c =
+    let words = map string_bytes c.args.words.now in
+    let met = c.in_err-check_file-in-Check in
+    let answered : AnswersWords (fault_of day_app words) (asked_of words) (Ok (Check c.in-Check.segment)) = search rules in
+    let is : c.from_residual-in_err-check_file-in-Check.result ≡ Err (Day met.field-0.0) = search rules in
+    rw is (fault-done _ _ (check c.in-Check.segment.now) _ _ met.field-0.0 answered.0 answered.1 met.ensures.ends (λ h. ap g.W.Write.contents (met.ensures.untouched h)))
 
 pub returns-in_err-print_help-in-Help : goal.returns-in_err-print_help-in-Help
 returns-in_err-print_help-in-Help g c =
     let words = map string_bytes c.args.words.now in
-    let answered : AnswersWords (fault_of day_app words) (paths_of words) (Ok (Help c.in-Help.text)) = search rules in
+    let answered : AnswersWords (fault_of day_app words) (asked_of words) (Ok (Help c.in-Help.text)) = search rules in
     let is : c.from_residual-in_err-print_help-in-Help.result ≡ Err (Day WriteFailed) = search rules in
-    rw is (inr (asks-help (fault_of day_app words) (paths_of words) c.in-Help.text answered))
+    rw is (inr (asks-help (fault_of day_app words) (asked_of words) c.in-Help.text answered))
 
 pub returns-in_ok-run_files-in-Run : goal.returns-in_ok-run_files-in-Run
 returns-in_ok-run_files-in-Run g c =
     let words = map string_bytes c.args.words.now in
-    let none : fault_of day_app words ≡ [] = search rules in
-    let named : paths_of words ≡ Some (c.in-Run.segment.now, c.in-Run.orders.now) = search rules in
-    run-done _ _ _ _ _ none named c.in_ok-run_files-in-Run.ensures.ends
+    let answered : AnswersWords (fault_of day_app words) (asked_of words) (Ok (Run c.in-Run.segment c.in-Run.orders c.in-Run.workers)) = search rules in
+    all-done _ _ (run c.in-Run.segment.now c.in-Run.orders.now c.in-Run.workers) _ _ answered.0 answered.1 c.in_ok-run_files-in-Run.ensures.ends
+
+pub returns-in_ok-check_file-in-Check : goal.returns-in_ok-check_file-in-Check
+returns-in_ok-check_file-in-Check g c =
+    let words = map string_bytes c.args.words.now in
+    let answered : AnswersWords (fault_of day_app words) (asked_of words) (Ok (Check c.in-Check.segment)) = search rules in
+    all-done _ _ (check c.in-Check.segment.now) _ _ answered.0 answered.1 c.in_ok-check_file-in-Check.ensures.ends
 
 pub returns-in_ok-print_help-in-Help : goal.returns-in_ok-print_help-in-Help
 returns-in_ok-print_help-in-Help g c =
     let words = map string_bytes c.args.words.now in
-    let answered : AnswersWords (fault_of day_app words) (paths_of words) (Ok (Help c.in-Help.text)) = search rules in
-    inr (asks-help (fault_of day_app words) (paths_of words) c.in-Help.text answered)
+    let answered : AnswersWords (fault_of day_app words) (asked_of words) (Ok (Help c.in-Help.text)) = search rules in
+    inr (asks-help (fault_of day_app words) (asked_of words) c.in-Help.text answered)

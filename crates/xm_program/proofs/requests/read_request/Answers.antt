@@ -1,9 +1,9 @@
 use Rattle.std.proofs.Common.{ap, ◌≡◌, ◌∙◌, true, map, string_bytes}
 use Rattle.clap.specs.Words.{App, app_of, fault_of, kind_of, takes}
 use Rattle.clap.specs.declared.error.kind.ErrorKind.TheVariants as kind
-use Rattle.xm_program.specs.Requests.{day_app, paths_of}
+use Rattle.xm_program.specs.Requests.{day_app, asked_of}
 use Rattle.xm_program.proofs.Runs.{err_from, fault-met, no_fault, of_words}
-use Rattle.xm_program.proofs.requests.read_paths.Goals as goal
+use Rattle.xm_program.proofs.requests.read_request.Goals as goal
 
 pub returns-in_err-matches-clause-err : goal.returns-in_err-matches-clause-err
 returns-in_err-matches-clause-err c =
@@ -16,7 +16,7 @@ pub returns-in_err-matches-clause-fault : goal.returns-in_err-matches-clause-fau
 returns-in_err-matches-clause-fault c =
     let words = map string_bytes c.args.words.now in
     let met = fault-met _ words c.in_err-matches.field-0.0 c.requires c.in_err-matches.ensures.kinds in
-    err_from _ c.in_err-matches.field-0.0 _ c.from_residual.ensures.1 (of_words (fault_of day_app words) (paths_of words) c.in_err-matches.field-0.0 met)
+    err_from _ c.in_err-matches.field-0.0 _ c.from_residual.ensures.1 (of_words (fault_of day_app words) (asked_of words) c.in_err-matches.field-0.0 met)
 
 pub returns-in-Some-clause-faultless : goal.returns-in-Some-clause-faultless
 returns-in-Some-clause-faultless c = no_fault _ (map string_bytes c.args.words.now) c.requires c.in_ok-matches.ensures.kinds
