@@ -133,6 +133,9 @@ impl<'a> RowReader<'a> {
     /// Reads a part on: until a batch has so many rows, or the rows of a round, or the file ends. Answers whether there may
     /// be more. Lines without quotes are taken apart in place; from the first record on that isn't such a line, CSV reads
     /// the file.
+    ///
+    /// It is written out where it is called, where the part is known, so that no row is asked for another kind of part.
+    #[inline(always)]
     pub fn read(
         &mut self,
         alloc: Global,
@@ -286,6 +289,7 @@ struct LinesLeft<'a> {
 
 /// Adds the rows of the lines that a text begins with, of which the first has this number, up to the end of a part that a
 /// batch begins, and as long as none has a quote or a carriage return, and each has as many fields as columns.
+#[inline(always)]
 fn add_lines<'a>(
     batch: &mut Batch,
     text: &'a [u8],
