@@ -175,6 +175,15 @@ impl Flow {
         }
     }
 
+    /// Whether so many of the commands were accepted, as when they were drawn.
+    pub fn checked(&self, accepted: u32) -> Result<(), LoadFault> {
+        if u64::from(accepted) == self.course.accepted {
+            Ok(())
+        } else {
+            Err(LoadFault)
+        }
+    }
+
     /// Draws about so many commands, from pre-trading to the end of the day.
     pub fn day(&mut self, loaded: &mut Loaded, commands: u32) {
         for _command in 0..(commands / 20).min(400) {

@@ -38,17 +38,24 @@ pub fn now<R: Clock>(rt: &R) -> Result<Instant, LoadFault> {
     }
 }
 
-/// Prints the nanoseconds since an instant that each of so many units took, or nothing where there is no unit.
-pub fn tell_time<R: Print + Clock>(rt: &R, start: &Instant, units: u32) -> Result<(), LoadFault> {
-    match (start.elapsed(rt), units) {
-        (Err(_), _) => Err(LoadFault),
-        (Ok(_), 0) => Ok(()),
-        (Ok(taken), _) => {
-            let nanoseconds = taken
+/// The nanoseconds since an instant.
+pub fn nanoseconds_since<R: Clock>(rt: &R, start: &Instant) -> Result<u64, LoadFault> {
+    match start.elapsed(rt) {
+        Ok(taken) => Ok(
+            taken
                 .as_secs()
                 .wrapping_mul(1_000_000_000)
-                .wrapping_add(u64::from(taken.subsec_nanos()));
-            tell_figure(rt, nanoseconds / u64::from(units))
-        }
+                .wrapping_add(u64::from(taken.subsec_nanos())),
+        ),
+        Err(_) => Err(LoadFault),
     }
+}
+
+/// Prints the nanoseconds since an instant that each of so many units took, or nothing where there is no unit.
+pub fn tell_time<R: Print + Clock>(rt: &R, start: &Instant, units: u32) -> Result<(), LoadFault> {
+    let taken = nanoseconds_since(rt, start)?;
+    if units == 0 {
+        return Ok(());
+    }
+    tell_figure(rt, taken / u64::from(units))
 }

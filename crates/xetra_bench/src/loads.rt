@@ -26,7 +26,7 @@ pub struct Opening {
 }
 
 impl Opening {
-    fn settings(self) -> Option<DeskSettings> {
+    pub fn settings(self) -> Option<DeskSettings> {
         Some(DeskSettings {
             today: TODAY,
             members: self.members,
@@ -67,23 +67,30 @@ impl Loaded {
         }
     }
 
-    /// Gives the desk a command, and answers its reply or its refusal.
+    /// Gives the desk a command, and answers its reply or its refusal. It is called and not inlined, so that whole answers are
+    /// measured.
+    #[inline(never)]
     pub fn apply(&mut self, command: &Command) -> Result<Reply, Refusal> {
         self.desk.apply(command)
     }
 
-    /// Makes room for each of some commands, gives them to the desk, and answers how many it accepted.
-    pub fn take(&mut self, commands: &[Command]) -> Result<u32, LoadFault> {
-        if self.desk.reserve(commands.len()).is_err() {
-            return Err(LoadFault);
+    /// Makes room for so many commands.
+    pub fn reserve(&mut self, commands: usize) -> Result<(), LoadFault> {
+        match self.desk.reserve(commands) {
+            Ok(()) => Ok(()),
+            Err(_) => Err(LoadFault),
         }
+    }
+
+    /// Gives the desk some commands, and answers how many it accepted.
+    pub fn take(&mut self, commands: &[Command]) -> u32 {
         let mut accepted: u32 = 0;
         for command in commands {
             if self.apply(command).is_ok() {
                 accepted = accepted.wrapping_add(1);
             }
         }
-        Ok(accepted)
+        accepted
     }
 
     pub fn quote(&self) -> Quote {
