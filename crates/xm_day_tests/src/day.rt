@@ -1,5 +1,6 @@
 mod growths;
 mod whole_day;
+mod workers;
 
 use crate::files::fixtures::{
     BAD_WIDTHS, CASCADE, ERROR_KINDS, Failure, HEADER, NO_SECURITY, ORDERS, OneByteReader, SEGMENT,

@@ -24,6 +24,35 @@ journal = 100
     };
 }
 
+/// A segment file of these members, and of securities with these names, each with its dynamic width in thousandths.
+macro_rules! securities {
+    ($members:expr, $($name:expr => $dynamic:expr),+) => {
+        concat!(
+            "date = 20260105
+members = [",
+            $members,
+            "]
+",
+            $(
+                "
+[[security]]
+name = \"",
+                $name,
+                "\"
+tick = 100
+reference = \"10.00\"
+dynamic = ",
+                $dynamic,
+                "
+static = 200
+wide = 150
+journal = 1000
+"
+            ),+
+        )
+    };
+}
+
 /// An order file of these rows.
 macro_rules! orders {
     ($rows:expr) => {

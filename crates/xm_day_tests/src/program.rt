@@ -24,6 +24,7 @@ macro_rules! complains {
     };
 }
 
+mod cascades;
 mod ends;
 mod help;
 mod runtime;
@@ -35,12 +36,16 @@ use std::alloc::Global;
 use std::fs::File;
 use std::io::{Read, Write};
 use std::process::Abort;
+use std::sync::Wait;
+use std::thread::Threads;
 use std::{fs, io};
 use xm_day::DayFault;
 use xm_desk::OpenFault;
 use xm_files::{FileCause, FileFault};
 use xm_names::Storage;
-use xm_program::{Failure, Input, Request, fault_line, open_input, read_words, run};
+use xm_program::{
+    Failure, Input, Request, Workers, check, fault_line, open_input, read_words, run,
+};
 
 /// A fault of a file, in this line.
 macro_rules! at {
@@ -142,31 +147,119 @@ fn command_line(rt: &(impl Abort + AllocGlobal), words: &[&str]) -> Vec<String> 
 /// What a command line is answered with, as a text that tells which answer it is.
 fn answer_to(rt: &(impl Abort + AllocGlobal), line: &[String]) -> String {
     let alloc = rt.alloc();
-    let answer = match read_words(alloc, line) {
-        Ok(Request::Run { segment, orders }) => format!(in alloc; "run {segment} and {orders}"),
+    let answer = read_words(alloc, line);
+    let text = match &answer {
+        Ok(
+            Request::Run {
+                segment,
+                orders,
+                workers,
+            },
+        ) => {
+            let workers = workers.get();
+            format!(in alloc; "run {segment} and {orders} by {workers}")
+        }
+        Ok(Request::Check { segment }) => format!(in alloc; "check {segment}"),
         Ok(Request::Help(text)) => format!(in alloc; "help {text}"),
         Err(Failure::Day(fault)) => format!(in alloc; "fault {fault}"),
         Err(Failure::Words(text)) => format!(in alloc; "{text}"),
     };
-    answer.expect(rt, "memory")
+    text.expect(rt, "memory")
 }
 
 /// The words of a command line, without the program's name, with what they are answered.
 type Answered = (&'static [&'static str], Printed);
 
-const RUNS: [Answered; 3] = [
+const RUNS: [Answered; 6] = [
     (
         &["run", "day.toml", "day.csv"],
-        Printed::Text("run day.toml and day.csv"),
+        Printed::Text("run day.toml and day.csv by 1"),
     ),
     (
         &["run", "--", "-s", "--orders"],
-        Printed::Text("run -s and --orders"),
+        Printed::Text("run -s and --orders by 1"),
     ),
-    (&["run", "a day", ""], Printed::Text("run a day and ")),
+    (&["run", "a day", ""], Printed::Text("run a day and  by 1")),
+    (
+        &["run", "day.toml", "day.csv", "--workers", "1"],
+        Printed::Text("run day.toml and day.csv by 1"),
+    ),
+    (
+        &["run", "--workers", "64", "day.toml", "day.csv"],
+        Printed::Text("run day.toml and day.csv by 64"),
+    ),
+    (
+        &["run", "day.toml", "--workers=+08", "day.csv"],
+        Printed::Text("run day.toml and day.csv by 8"),
+    ),
 ];
 
-const MISTAKES: [Answered; 5] = [
+const CHECKS: [Answered; 2] = [
+    (&["check", "day.toml"], Printed::Text("check day.toml")),
+    (&["check", "--", "-s"], Printed::Text("check -s")),
+];
+
+/// Numbers of workers that aren't taken.
+const NUMBERS: [Answered; 6] = [
+    (
+        &["run", "day.toml", "day.csv", "--workers", "0"],
+        Printed::Text(
+            "error: invalid value '0' for '--workers <N>': 0 is not in 1..=64\n\nFor more information, try '--help'.\n",
+        ),
+    ),
+    (
+        &["run", "day.toml", "day.csv", "--workers", "65"],
+        Printed::Text(
+            "error: invalid value '65' for '--workers <N>': 65 is not in 1..=64\n\nFor more information, try '--help'.\n",
+        ),
+    ),
+    (
+        &["run", "day.toml", "day.csv", "--workers=-1"],
+        Printed::Text(
+            "error: invalid value '-1' for '--workers <N>': -1 is not in 1..=64\n\nFor more information, try '--help'.\n",
+        ),
+    ),
+    (
+        &["run", "day.toml", "day.csv", "--workers", "abc"],
+        Printed::Text(
+            "error: invalid value 'abc' for '--workers <N>': invalid digit found in string\n\nFor more information, try '--help'.\n",
+        ),
+    ),
+    (
+        &["run", "day.toml", "day.csv", "--workers"],
+        Printed::Text(
+            "error: a value is required for '--workers <N>' but none was supplied\n\nFor more information, try '--help'.\n",
+        ),
+    ),
+    (
+        &[
+            "run",
+            "day.toml",
+            "day.csv",
+            "--workers",
+            "2",
+            "--workers",
+            "2",
+        ],
+        Printed::Text(
+            "error: the argument '--workers <N>' cannot be used multiple times\n\nUsage: xetra-day run [OPTIONS] <SEGMENT> <ORDERS>\n\nFor more information, try '--help'.\n",
+        ),
+    ),
+];
+
+const MISTAKES: [Answered; 7] = [
+    (
+        &["check"],
+        Printed::Text(
+            "error: the following required arguments were not provided:\n  <SEGMENT>\n\nUsage: xetra-day check <SEGMENT>\n\nFor more information, try '--help'.\n",
+        ),
+    ),
+    (
+        &["check", "day.toml", "--workers", "1"],
+        Printed::Text(
+            "error: unexpected argument '--workers' found\n\n  tip: to pass '--workers' as a value, use '-- --workers'\n\nUsage: xetra-day check <SEGMENT>\n\nFor more information, try '--help'.\n",
+        ),
+    ),
     (
         &["run"],
         Printed::Text(
@@ -182,13 +275,13 @@ const MISTAKES: [Answered; 5] = [
     (
         &["run", "day.toml", "day.csv", "more"],
         Printed::Text(
-            "error: unexpected argument 'more' found\n\nUsage: xetra-day run <SEGMENT> <ORDERS>\n\nFor more information, try '--help'.\n",
+            "error: unexpected argument 'more' found\n\nUsage: xetra-day run [OPTIONS] <SEGMENT> <ORDERS>\n\nFor more information, try '--help'.\n",
         ),
     ),
     (
         &["run", "-s", "day.csv"],
         Printed::Text(
-            "error: unexpected argument '-s' found\n\n  tip: to pass '-s' as a value, use '-- -s'\n\nUsage: xetra-day run <SEGMENT> <ORDERS>\n\nFor more information, try '--help'.\n",
+            "error: unexpected argument '-s' found\n\n  tip: to pass '-s' as a value, use '-- -s'\n\nUsage: xetra-day run [OPTIONS] <SEGMENT> <ORDERS>\n\nFor more information, try '--help'.\n",
         ),
     ),
     (
@@ -200,7 +293,11 @@ const MISTAKES: [Answered; 5] = [
 ];
 
 /// The words that ask for help, and none, with how the help begins.
-const HELP: [Answered; 6] = [
+const HELP: [Answered; 7] = [
+    (
+        &["check", "--help"],
+        Printed::Between("help Checks a segment file", ""),
+    ),
     (&["--help"], WHOLE_HELP),
     (&["-h"], WHOLE_HELP),
     (&["help"], WHOLE_HELP),
@@ -229,6 +326,8 @@ fn are_answered(rt: &(impl Abort + AllocGlobal), answers: &[Answered]) {
 #[test]
 fn words_of_command_lines(rt: HostRuntime) {
     are_answered(&rt, &RUNS);
+    are_answered(&rt, &CHECKS);
+    are_answered(&rt, &NUMBERS);
     are_answered(&rt, &MISTAKES);
     are_answered(&rt, &HELP);
 }
@@ -247,25 +346,37 @@ impl Write for Unflushed {
     }
 }
 
-/// Runs the day of two files. A clause sees nothing of it.
+/// Runs the day of two files by so many workers. A clause sees nothing of it.
 fn run_day(
-    alloc: Global,
+    rt: &(impl Abort + AllocGlobal + Threads + Wait + Sync),
     segment: &mut impl Read,
     orders: &mut impl Read,
+    workers: u32,
     out: &mut impl Write,
 ) -> Result<(), DayFault> {
-    run(Storage::with_fixed_seed(alloc), segment, orders, out)
+    let storage = Storage::with_fixed_seed(rt.alloc());
+    let workers = Workers::new(workers).expect(rt, "a number of workers");
+    run(rt, storage, segment, orders, workers, out)
+}
+
+/// Checks a segment file. A clause sees nothing of it.
+fn check_file(
+    alloc: Global,
+    segment: &mut impl Read,
+    out: &mut impl Write,
+) -> Result<(), DayFault> {
+    check(Storage::with_fixed_seed(alloc), segment, out)
 }
 
 /// Compares the fault of the day of two files, which writes nothing.
 fn has_fault(
-    rt: &(impl Abort + AllocGlobal),
+    rt: &(impl Abort + AllocGlobal + Threads + Wait + Sync),
     segment: &mut impl Read,
     orders: &mut impl Read,
     fault: DayFault,
 ) {
     let mut out = Vec::new(rt.alloc());
-    let answer = run_day(rt.alloc(), segment, orders, &mut out);
+    let answer = run_day(rt, segment, orders, 1, &mut out);
     assert!(rt; answer == Err(fault) && out.is_empty());
 }
 
@@ -282,18 +393,29 @@ fn unopened_files_fail_in_turn(rt: HostRuntime) {
     has_fault(&rt, &mut SEGMENT.as_bytes(), &mut orders, fault);
 }
 
-/// Runs the day of two texts, and answers its statement.
-fn statement_of(rt: &(impl Abort + AllocGlobal), segment: &str, orders: &str) -> Vec<u8> {
+/// Runs the day of two texts by so many workers, and answers its statement.
+fn statement_of(
+    rt: &(impl Abort + AllocGlobal + Threads + Wait + Sync),
+    segment: &str,
+    orders: &str,
+    workers: u32,
+) -> Vec<u8> {
     let mut out = Vec::new(rt.alloc());
     let (mut segment, mut orders) = (segment.as_bytes(), orders.as_bytes());
-    run_day(rt.alloc(), &mut segment, &mut orders, &mut out).expect(rt, "a statement");
+    run_day(rt, &mut segment, &mut orders, workers, &mut out).expect(rt, "a statement");
     out
 }
 
 #[test]
 fn an_unflushed_statement_is_not_written(rt: HostRuntime) {
     let (mut segment, mut orders) = (SEGMENT.as_bytes(), HEADER.as_bytes());
-    assert!(rt; !statement_of(&rt, SEGMENT, HEADER).is_empty());
-    let answer = run_day(rt.alloc(), &mut segment, &mut orders, &mut Unflushed);
+    assert!(rt; !statement_of(&rt, SEGMENT, HEADER, 1).is_empty());
+    let answer = run_day(&rt, &mut segment, &mut orders, 1, &mut Unflushed);
+    assert!(rt; answer == Err(DayFault::WriteFailed));
+}
+
+#[test]
+fn an_unflushed_line_is_not_written(rt: HostRuntime) {
+    let answer = check_file(rt.alloc(), &mut SEGMENT.as_bytes(), &mut Unflushed);
     assert!(rt; answer == Err(DayFault::WriteFailed));
 }

@@ -1,8 +1,10 @@
 //! The ends of the program: what it prints on each stream, and its status.
 
 use super::runtime::{Call, Stream};
-use crate::files::fixtures::{BAD_WIDTHS, HEADER, SEGMENT};
+use crate::files::fixtures::{BAD_WIDTHS, HEADER, NO_SECURITY, SEGMENT};
 use std::process::{Abort, ExitCode};
+use std::sync::Wait;
+use std::thread::Threads;
 use xm_program::run_program;
 
 const STATEMENT: &str = "DAY 20260105
@@ -21,6 +23,7 @@ const FILES: &[(&str, &str)] = &[
     ("day.csv", HEADER),
     ("bad.csv", BAD_ROW),
     ("wide.toml", BAD_WIDTHS),
+    ("empty.toml", NO_SECURITY),
     (" spaced.toml\t", SEGMENT),
     ("\n spaced.csv ", HEADER),
 ];
@@ -59,8 +62,8 @@ pub struct End {
 }
 
 /// Compares how the program ends.
-fn is_end(rt: &(impl Abort + AllocGlobal), output: Stream, end: &End) {
-    let mut call = Call::new(rt.alloc(), end.words, FILES, output);
+fn is_end(rt: &(impl Abort + AllocGlobal + Threads + Wait + Sync), output: Stream, end: &End) {
+    let mut call = Call::new(rt, end.words, FILES, output);
     let status = run_program(&call);
     let is_told = end.printed.is(call.printed.get_mut().as_str())
         && end.complained.is(call.complained.get_mut().as_str());
@@ -71,7 +74,11 @@ fn is_end(rt: &(impl Abort + AllocGlobal), output: Stream, end: &End) {
     );
 }
 
-pub fn are_ends(rt: &(impl Abort + AllocGlobal), output: Stream, ends: &[End]) {
+pub fn are_ends(
+    rt: &(impl Abort + AllocGlobal + Threads + Wait + Sync),
+    output: Stream,
+    ends: &[End],
+) {
     for end in ends {
         is_end(rt, output, end);
     }
@@ -81,8 +88,23 @@ const UNREAD_SEGMENT: Printed = Printed::Text("xetra-day: segment: line 0: ReadF
 
 const UNREAD_ORDERS: Printed = Printed::Text("xetra-day: orders: line 0: ReadFailed\n");
 
-const STATEMENTS: [End; 2] = [
+const STATEMENTS: [End; 4] = [
     prints!(Printed::Text(STATEMENT), b"run", b"day.toml", b"day.csv"),
+    prints!(
+        Printed::Text(STATEMENT),
+        b"run",
+        b"day.toml",
+        b"day.csv",
+        b"--workers",
+        b"1"
+    ),
+    prints!(
+        Printed::Text(STATEMENT),
+        b"run",
+        b"--workers=64",
+        b"day.toml",
+        b"day.csv"
+    ),
     prints!(
         Printed::Text(STATEMENT),
         b"run",
@@ -91,7 +113,39 @@ const STATEMENTS: [End; 2] = [
     ),
 ];
 
-const FAULTS: [End; 6] = [
+const CHECKED: [End; 2] = [
+    prints!(
+        Printed::Text("OK 1 securities 2 members\n"),
+        b"check",
+        b"day.toml"
+    ),
+    prints!(
+        Printed::Text("OK 1 securities 2 members\n"),
+        b"check",
+        b" spaced.toml\t"
+    ),
+];
+
+const FAULTS: [End; 10] = [
+    complains!(1, UNREAD_SEGMENT, b"check", b"none.toml"),
+    complains!(
+        1,
+        Printed::Text("xetra-day: segment: line 0: Syntax\n"),
+        b"check",
+        b"day.csv"
+    ),
+    complains!(
+        1,
+        Printed::Text("xetra-day: open: BadWidths\n"),
+        b"check",
+        b"wide.toml"
+    ),
+    complains!(
+        1,
+        Printed::Text("xetra-day: open: NoSecurity\n"),
+        b"check",
+        b"empty.toml"
+    ),
     complains!(1, UNREAD_SEGMENT, b"run", b"day.toml ", b"day.csv"),
     complains!(1, UNREAD_ORDERS, b"run", b"day.toml", b" day.csv"),
     complains!(1, UNREAD_SEGMENT, b"run", b"none.toml", b"none.csv"),
@@ -112,7 +166,18 @@ const FAULTS: [End; 6] = [
     ),
 ];
 
-const MISTAKES: [End; 3] = [
+const MISTAKES: [End; 4] = [
+    complains!(
+        2,
+        Printed::Text(
+            "error: invalid value '65' for '--workers <N>': 65 is not in 1..=64\n\nFor more information, try '--help'.\n",
+        ),
+        b"run",
+        b"day.toml",
+        b"day.csv",
+        b"--workers",
+        b"65"
+    ),
     complains!(
         2,
         Printed::Text(
@@ -142,13 +207,15 @@ const MISTAKES: [End; 3] = [
 #[test]
 fn ends_of_runs(rt: HostRuntime) {
     are_ends(&rt, Stream::Kept, &STATEMENTS);
+    are_ends(&rt, Stream::Kept, &CHECKED);
     are_ends(&rt, Stream::Kept, &FAULTS);
     are_ends(&rt, Stream::Kept, &MISTAKES);
 }
 
 const UNWRITTEN: Printed = Printed::Text("xetra-day: write failed\n");
 
-const REFUSED: [End; 3] = [
+const REFUSED: [End; 4] = [
+    complains!(1, UNWRITTEN, b"check", b"day.toml"),
     complains!(1, UNWRITTEN, b"run", b"day.toml", b"day.csv"),
     complains!(1, UNWRITTEN, b"--help"),
     complains!(1, UNWRITTEN, b"--version"),
@@ -161,7 +228,7 @@ fn refused_output(rt: HostRuntime) {
 
 #[test]
 fn a_run_draws_its_seed(rt: HostRuntime) {
-    let mut call = Call::new(rt.alloc(), STATEMENTS[0].words, FILES, Stream::Kept);
+    let mut call = Call::new(&rt, STATEMENTS[0].words, FILES, Stream::Kept);
     assert!(rt; run_program(&call) == ExitCode::SUCCESS);
     assert!(rt; *call.draws.get_mut() == 2);
 }

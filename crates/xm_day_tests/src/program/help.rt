@@ -33,7 +33,7 @@ orders.csv
   uncross,,,*,,,,,,,,
   end,,,*,,,,,,,,
 
-Usage: xetra-day run <SEGMENT> <ORDERS>
+Usage: xetra-day run [OPTIONS] <SEGMENT> <ORDERS>
 
 Arguments:
   <SEGMENT>
@@ -43,20 +43,52 @@ Arguments:
           The order file (CSV): a header, then one command a row, in the order of the day
 
 Options:
+      --workers <N>
+          How many workers take the rows of members, side by side: 1 to 64
+          
+          One worker takes all rows in the order of the file. More take each member's rows in their order,
+          and the members side by side, so that two runs may differ where members compete. They are not
+          faster: a command is shorter than the hand-over of a lock.
+          
+          [default: 1]
+
   -h, --help
           Print help (see a summary with '-h')
 
 Exit status:
-  0  the statement was written
-  1  no statement: standard error has one line that names the fault
+  0  it is done: the statement or the line was written
+  1  it is not done: standard error has one line that names the fault
+  2  the command line is mistaken
+  3  the script xetra-day has no program to run: standard error says why
+";
+
+/// What `check --help` prints.
+const CHECK_HELP: &str = "Checks a segment file and writes how many securities and members it has.
+
+The line is `OK <securities> securities <members> members`. The first fault ends the check: of the
+segment file, of the opening of the segment, of the writing. docs/FORMATS.md tells of each.
+
+Usage: xetra-day check <SEGMENT>
+
+Arguments:
+  <SEGMENT>
+          The segment file (TOML): the date, the members and the securities
+
+Options:
+  -h, --help
+          Print help (see a summary with '-h')
+
+Exit status:
+  0  it is done: the statement or the line was written
+  1  it is not done: standard error has one line that names the fault
   2  the command line is mistaken
   3  the script xetra-day has no program to run: standard error says why
 ";
 
 /// How each help text ends.
 const STATUSES: &str = "Exit status:
-  0  the statement was written
-  1  no statement: standard error has one line that names the fault
+  0  it is done: the statement or the line was written
+  1  it is not done: standard error has one line that names the fault
   2  the command line is mistaken
   3  the script xetra-day has no program to run: standard error says why
 ";
@@ -65,7 +97,8 @@ const WHOLE_HELP: Printed = Printed::Between("Replays a trading day of a segment
 
 const SHORT_HELP: Printed = Printed::Between("Runs the day of two files", STATUSES);
 
-const HELP: [End; 8] = [
+const HELP: [End; 9] = [
+    prints!(Printed::Text(CHECK_HELP), b"check", b"--help"),
     prints!(Printed::Text(RUN_HELP), b"run", b"--help"),
     prints!(Printed::Text(RUN_HELP), b"help", b"run"),
     prints!(SHORT_HELP, b"run", b"-h"),
@@ -111,6 +144,6 @@ fn shown(rt: &(impl Abort + AllocGlobal), text: &str, title: &str, next: &str) -
 fn the_day_of_the_help_runs(rt: HostRuntime) {
     let segment = shown(&rt, RUN_HELP, "\nsegment.toml\n", "\n\norders.csv\n");
     let orders = shown(&rt, RUN_HELP, "\norders.csv\n", "\n\nUsage:");
-    let statement = statement_of(&rt, segment.as_str(), orders.as_str());
+    let statement = statement_of(&rt, segment.as_str(), orders.as_str(), 1);
     assert!(rt; statement.as_slice() == STATEMENT.as_bytes());
 }

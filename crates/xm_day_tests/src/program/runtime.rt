@@ -3,7 +3,6 @@
 ghost use Rattle.std.specs.Prelude.{IsErr};
 
 use std::alloc::Global;
-use std::cell::RefCell;
 use std::env::FillError;
 use std::fmt::Display;
 use std::fs::{Metadata, OpenFile, OpenOptions};
@@ -11,6 +10,8 @@ use std::io;
 use std::io::{Read, Seek, SeekFrom, Write};
 use std::random::RandomSource;
 use std::rt::{Env, Files};
+use std::sync::{Mutex, Wait};
+use std::thread::Threads;
 
 /// What becomes of what is printed on a stream.
 #[derive(Clone, Copy, Drop)]
@@ -19,46 +20,52 @@ pub enum Stream {
     Refused,
 }
 
-/// The command line and the files of a call of the program, and what it printed.
+/// The command line and the files of a call of the program, and what it printed. Threads are those of another runtime.
 #[derive(Drop)]
-pub struct Call<'a> {
+pub struct Call<'a, R> {
+    pub rt: &'a R,
     pub alloc: Global,
     pub words: &'a [&'a [u8]],
     pub files: &'a [(&'a str, &'a str)],
     pub output: Stream,
-    pub printed: RefCell<String>,
-    pub complained: RefCell<String>,
+    pub printed: Mutex<String>,
+    pub complained: Mutex<String>,
     /// How often random bytes were asked for.
-    pub draws: RefCell<u32>,
+    pub draws: Mutex<u32>,
 }
 
-impl<'a> Call<'a> {
+impl<'a, R: AllocGlobal> Call<'a, R> {
     pub fn new(
-        alloc: Global,
+        rt: &'a R,
         words: &'a [&'a [u8]],
         files: &'a [(&'a str, &'a str)],
         output: Stream,
-    ) -> Call<'a> {
+    ) -> Call<'a, R> {
         Call {
-            alloc,
+            rt,
+            alloc: rt.alloc(),
             words,
             files,
             output,
-            printed: RefCell::new(String::new(alloc)),
-            complained: RefCell::new(String::new(alloc)),
-            draws: RefCell::new(0),
-        }
-    }
-
-    fn keep(&self, kept: &RefCell<String>, text: &str) -> io::Result<()> {
-        match kept.try_borrow_mut() {
-            Ok(mut kept) => Ok(kept.push_str(text)?),
-            Err(_) => Err(io::Error::from(io::ErrorKind::ResourceBusy)),
+            printed: Mutex::new(String::new(rt.alloc())),
+            complained: Mutex::new(String::new(rt.alloc())),
+            draws: Mutex::new(0),
         }
     }
 }
 
-impl Alloc for Call<'_> {
+fn keep(kept: &Mutex<String>, text: &str) -> io::Result<()> {
+    match kept.try_lock() {
+        Some(mut kept) => Ok(kept.push_str(text)?),
+        None => Err(io::Error::from(io::ErrorKind::ResourceBusy)),
+    }
+}
+
+impl<R: Threads> Threads for Call<'_, R> {}
+
+impl<R: Wait> Wait for Call<'_, R> {}
+
+impl<R> Alloc for Call<'_, R> {
     type A = Global;
 
     fn alloc(&self) -> Global {
@@ -66,7 +73,7 @@ impl Alloc for Call<'_> {
     }
 }
 
-impl Env for Call<'_> {
+impl<R> Env for Call<'_, R> {
     fn arg(&self, i: usize, buf: &mut [u8]) -> Result<usize, FillError> {
         let Some(word) = self.words.get(i) else {
             return Err(FillError::NotPresent);
@@ -89,7 +96,7 @@ impl Env for Call<'_> {
     }
 }
 
-impl Print for Call<'_> {
+impl<R> Print for Call<'_, R> {
     fn print<D: Display + Drop>(&self, value: D) -> io::Result<()> {
         let text = format!(in self.alloc; "{value}")?;
         self.write_all(text.as_bytes())
@@ -102,35 +109,35 @@ impl Print for Call<'_> {
 
     fn write_all(&self, bytes: &[u8]) -> io::Result<()> {
         match (self.output, str::from_utf8(bytes)) {
-            (Stream::Kept, Ok(text)) => self.keep(&self.printed, text),
+            (Stream::Kept, Ok(text)) => keep(&self.printed, text),
             _ => Err(io::Error::from(io::ErrorKind::StorageFull)),
         }
     }
 }
 
 // Each random byte is 7.
-impl RandomSource for Call<'_> {
+impl<R> RandomSource for Call<'_, R> {
     fn fill_bytes(&self, buf: &mut [u8]) -> io::Result<()> {
         buf.fill(7);
-        match self.draws.try_borrow_mut() {
-            Ok(mut draws) => {
+        match self.draws.try_lock() {
+            Some(mut draws) => {
                 *draws = draws.saturating_add(1);
                 Ok(())
             }
-            Err(_) => Err(io::Error::from(io::ErrorKind::ResourceBusy)),
+            None => Err(io::Error::from(io::ErrorKind::ResourceBusy)),
         }
     }
 }
 
-impl Eprint for Call<'_> {
+impl<R> Eprint for Call<'_, R> {
     fn eprint<D: Display + Drop>(&self, value: D) -> io::Result<()> {
         let text = format!(in self.alloc; "{value}")?;
-        self.keep(&self.complained, text.as_str())
+        keep(&self.complained, text.as_str())
     }
 
     fn eprintln<D: Display + Drop>(&self, value: D) -> io::Result<()> {
         let text = format!(in self.alloc; "{value}\n")?;
-        self.keep(&self.complained, text.as_str())
+        keep(&self.complained, text.as_str())
     }
 }
 
@@ -186,7 +193,7 @@ impl OpenFile for Opened<'_> {
     }
 }
 
-impl<'a> Files for Call<'a> {
+impl<'a, R> Files for Call<'a, R> {
     type File = Opened<'a>;
 
     type Dir = Opened<'a>;
