@@ -110,7 +110,7 @@ impl<A: Allocator + Copy> Desk<A> {
     /// Takes a command into the journal and answers its reply. A refused one changes nothing.
     ///
     /// The refusal is that of `refusal_of`, or `OutOfMemory` where a growth was refused.
-    #[inline(never)]
+    #[inline(always)]
     pub fn apply(&mut self, command: &Command) -> Result<Reply, Refusal>
         ensures accepted { OnOk result (refusal_of (replay self.old) command.now ≡ None) }
         ensures journal { OnOk result (self.new ≡ record self.old { commands = self.old.commands ++ command.now ∷ [] }) }

@@ -102,6 +102,7 @@ impl<A: Allocator + Copy> Unsettled<A> {
     }
 
     /// What an accepted command does, before the stops that it reached are settled.
+    #[inline(always)]
     pub fn act(&mut self, accepted: &Accepted)
         requires ready { self.old.ready ≡ ready_for accepted.now.action }
         requires settled { self.old.pending ≡ [] }

@@ -1,18 +1,23 @@
 -- A command more in the ledgers of a security.
-use Rattle.std.proofs.Common.{◌≡◌, ◌+◌, List, [], ◌∷◌, ◌++◌, length, Ok, sym, ap, ◌∙◌}
+use Rattle.std.proofs.Common.{◌≡◌, ◌+◌, List, [], ◌∷◌, ◌++◌, length, None, Some, Result, Ok, Err, sym, ap, ◌∙◌}
+use Rattle.std.specs.Prelude.{◌≢◌, IfErr, IfOk, OnErr, OnOk}
 use Rattle.std.proofs.lemmas.List.{length-append}
 use Rattle.std.proofs.lemmas.List.Sums.{sum_by-append}
 use Rattle.xm_rules.proofs.Journals.{journal_of, replay-opening, replay-push, reply-parts}
+use Rattle.xm_rules.specs.Refusals.{refusal_of}
 use Rattle.xm_rules.specs.State.{opening}
 use Rattle.xm_rules.specs.Step.{Journal, new_trades, replay, reply, step}
 use Rattle.xm_rules.specs.Sums.{money_of, total_money, total_quantity}
 use Rattle.xm_rules.specs.declared.commands.Command.{Command}
 use Rattle.xm_rules.specs.declared.orders.Trade.{Trade}
+use Rattle.xm_rules.specs.declared.replies.Refusal.{Refusal}
+use Rattle.xm_rules.specs.declared.replies.Refusal.TheVariants.{OutOfMemory}
 use Rattle.xm_rules.specs.declared.replies.Reply.{Reply}
+use Rattle.xm_segment.specs.Answers.{IsAnswer}
 use Rattle.xm_segment.specs.Ledgers.{no_sums, ledger_sums, with_answer}
 
 -- the journal that takes the command has by so much more
-pub counts : (j k : Journal) (c : Command) (r : Reply) → k ≡ journal_of j.settings (j.commands ++ c ∷ []) → (replay k).trades ≡ (replay j).trades ++ new_trades (replay j) (replay k) → r ≡ reply (replay j) (replay k)
+counts : (j k : Journal) (c : Command) (r : Reply) → k ≡ journal_of j.settings (j.commands ++ c ∷ []) → (replay k).trades ≡ (replay j).trades ++ new_trades (replay j) (replay k) → r ≡ reply (replay j) (replay k)
     → with_answer (ledger_sums j) (Ok r) ≡ ledger_sums k
 counts j k c r is appended replied =
     let s = replay j in
@@ -25,8 +30,22 @@ counts j k c r is appended replied =
     λ i. record { accepted = commands i; quantity = quantity i; money = money i }
 
 -- the reply to the step of a journal
-pub replied : (j k : Journal) (c : Command) (r : Reply) → k ≡ journal_of j.settings (j.commands ++ c ∷ []) → r ≡ reply (replay j) (replay k) → r ≡ reply (replay j) (step (replay j) c)
+replied : (j k : Journal) (c : Command) (r : Reply) → k ≡ journal_of j.settings (j.commands ++ c ∷ []) → r ≡ reply (replay j) (replay k) → r ≡ reply (replay j) (step (replay j) c)
 replied j k c r is answered = answered ∙ ap (reply (replay j)) (ap replay is ∙ replay-push j c)
+
+-- what a desk answers, before which one journal stood and after which another, is the model's answer at the first
+pub answered : (j k : Journal) (c : Command) (answer : Result Reply Refusal) → OnOk answer (refusal_of (replay j) c ≡ None) → OnOk answer (k ≡ journal_of j.settings (j.commands ++ c ∷ []))
+    → IfOk answer (λ r. r ≡ reply (replay j) (replay k)) → IfErr answer (λ e. e ≢ OutOfMemory tt → refusal_of (replay j) c ≡ Some e) → (answer ≡ Err (OutOfMemory tt) → refusal_of (replay j) c ≡ None)
+    → IsAnswer (replay j) c answer
+answered j k c (Ok r) passes is gives refused memory = (passes, replied j k c r is gives)
+answered j k c (Err e) passes is gives refused memory = (refused, λ same. memory (ap Err same))
+
+-- and the second has what the first had, with the answer
+pub counted : (j k : Journal) (c : Command) (answer : Result Reply Refusal) → OnOk answer (k ≡ journal_of j.settings (j.commands ++ c ∷ []))
+    → OnOk answer ((replay k).trades ≡ (replay j).trades ++ new_trades (replay j) (replay k)) → IfOk answer (λ r. r ≡ reply (replay j) (replay k)) → OnErr answer (k ≡ j)
+    → ledger_sums k ≡ with_answer (ledger_sums j) answer
+counted j k c (Ok r) is appended gives kept = sym (counts j k c r is appended gives)
+counted j k c (Err e) is appended gives kept = ap ledger_sums kept
 
 -- nothing is counted of a journal without a command
 pub fresh-counts : (j : Journal) → j.commands ≡ [] → no_sums ≡ ledger_sums j

@@ -60,13 +60,11 @@ impl<S: Naming, const K: usize> Locked<S, K> {
         ensures shares { shares.new ≡ record shares.old { sums = with_answer shares.old.sums result } }
         ensures within { OnOk result (shares.new.sums.quantity ≤ MAX_TRADED_QUANTITY) }
     {
-        let _ = self.desk.journal(); // It is lawful.
-        let reply = match self.desk.apply(command) {
+        let reply = match take(&mut self.desk, command) {
             Ok(reply) => reply,
             Err(refusal) => return Err(refusal),
         };
         self.books.count(shares, &reply);
-        let _ = self.desk.totals(); // They are within the limits of a day.
         Ok(reply)
     }
 
@@ -93,4 +91,20 @@ impl<S: Naming, const K: usize> Locked<S, K> {
         let _ = desk.journal();
         desk
     }
+}
+
+/// Has a desk take a command, and answers its reply. It is one function for all lanes, since it is long.
+#[inline(never)]
+fn take(desk: &mut Desk<Global>, command: &Command) -> Result<Reply, Refusal>
+    ensures lawful { is_lawful desk.old ≡ true }
+    ensures answer { IsAnswer (replay desk.old) command.now result }
+    ensures accepted { OnOk result (desk.new ≡ record desk.old { commands = desk.old.commands ++ command.now ∷ [] }) }
+    ensures refused { OnErr result (desk.new ≡ desk.old) }
+    ensures counted { ledger_sums desk.new ≡ with_answer (ledger_sums desk.old) result }
+    ensures within { (ledger_sums desk.new).quantity ≤ MAX_TRADED_QUANTITY }
+{
+    let _ = desk.journal(); // It is lawful.
+    let answer = desk.apply(command);
+    let _ = desk.totals(); // They are within the limits of a day.
+    answer
 }

@@ -44,6 +44,7 @@ impl<A: Allocator + Copy> Unsettled<A> {
     }
 
     /// The order, or the stop, of this name is deleted.
+    #[inline(always)]
     pub fn cancel(&mut self, member: u32, reference: u32)
         requires { uses member reference self.old.state ≤ 1 }
         ensures { self.new ≡ record self.old { state = cancelled self.old.state member reference } }

@@ -90,6 +90,7 @@ impl<A: Allocator + Copy> Unsettled<A> {
     }
 
     /// The checks of an entry.
+    #[inline(always)]
     fn check_entry(&self, entry: &EntryFields) -> Result<Action, Refusal>
         ensures passed { OnOk result (first_failing (own_checks self.now.state (command_of entry.now)) ≡ None) }
         ensures action { IfOk result (λ action. action_of self.now.state (command_of entry.now) ≡ Some action) }
@@ -102,6 +103,7 @@ impl<A: Allocator + Copy> Unsettled<A> {
     }
 
     /// Why an entry is refused by its own checks.
+    #[inline(always)]
     fn refusal_of_entry(&self, entry: &EntryFields) -> Option<Refusal>
         ensures { result ≡ first_failing (own_checks self.now.state (command_of entry.now)) }
     {
@@ -159,6 +161,7 @@ impl<A: Allocator + Copy> Unsettled<A> {
     }
 
     /// The checks of the cancellation of one order or stop.
+    #[inline(always)]
     fn check_cancellation(&self, member: u32, reference: u32) -> Result<Action, Refusal>
         ensures passed { OnOk result (first_failing (own_checks self.now.state (Cancel member reference)) ≡ None) }
         ensures action { IfOk result (λ action. action_of self.now.state (Cancel member reference) ≡ Some action) }

@@ -16,6 +16,7 @@ use xm_rules::Stop;
 
 impl<A: Allocator + Copy> Unsettled<A> {
     /// Reserves all that an accepted command may need. The state is unchanged.
+    #[inline(always)]
     pub fn reserve(&mut self, accepted: &Accepted) -> Result<(), OutOfMemory>
         requires ready { self.old.ready ≡ Nothing }
         requires settled { self.old.pending ≡ [] }

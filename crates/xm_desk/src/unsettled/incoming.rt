@@ -22,6 +22,7 @@ use xm_rules::{Auction, CallStage, Condition, Order, Phase, Stop};
 
 impl<A: Allocator + Copy> Unsettled<A> {
     /// An order comes in, on its condition.
+    #[inline(always)]
     pub fn enter(&mut self, order: &Order, condition: Condition)
         requires can { CanComeIn self.old order.now }
         requires immediate { condition ≡ Ioc → is_continuous self.old.state.phase ≡ true }

@@ -105,6 +105,7 @@ impl<A: Allocator + Copy> Market<A> {
 
     /// Reserves all that an accepted command may need, so that its step can't fail. The state is
     /// unchanged.
+    #[inline(always)]
     pub fn reserve(&mut self, accepted: &Accepted) -> Result<(), OutOfMemory>
         requires ready { self.old.ready ≡ Nothing }
         requires accepted { IsAccepted self.old.state accepted.now }
@@ -115,6 +116,7 @@ impl<A: Allocator + Copy> Market<A> {
     }
 
     /// The step by an accepted command.
+    #[inline(always)]
     pub fn step(&mut self, accepted: &Accepted)
         requires ready { self.old.ready ≡ ready_for accepted.now.action }
         requires accepted { IsAccepted self.old.state accepted.now }
@@ -126,6 +128,7 @@ impl<A: Allocator + Copy> Market<A> {
 
     /// Records the trades from this one on, and answers the reply to the command that made them: their sums are by how much
     /// the totals grew.
+    #[inline(always)]
     pub fn record_from<B: Allocator>(
         &self,
         first_trade: usize,
@@ -227,6 +230,7 @@ impl<A: Allocator + Copy> Market<A> {
 
 impl<A: Allocator + Copy> Unsettled<A> {
     /// The step by an accepted command: what it does, settled and counted.
+    #[inline(always)]
     fn step(&mut self, accepted: &Accepted)
         requires ready { self.old.ready ≡ ready_for accepted.now.action }
         requires settled { self.old.pending ≡ [] }

@@ -14,6 +14,7 @@ use xm_rules::Stop;
 impl<A: Allocator + Copy> Unsettled<A> {
     /// The stops that are reached come in, one after the other, with those that they reach in turn, until none is pending. No
     /// growth is needed, and nothing can fail.
+    #[inline(always)]
     pub fn settle(&mut self)
         requires { CanSettle self.old }
         ensures settled { self.new ≡ record self.old { state = settle self.old.state self.old.pending; pending = []; ready = self.new.ready } }
