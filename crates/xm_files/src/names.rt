@@ -89,6 +89,7 @@ impl NameList {
     }
 
     /// The index of the name that has these bytes, or the number of names where none has them.
+    #[inline(always)]
     fn index_of(&self, bytes: &[u8]) -> u32
         ensures { result ≡ position_or_len (bytes_eq bytes.now) self.now }
     {

@@ -130,6 +130,7 @@ impl<A: Allocator + Copy> Unsettled<A> {
     }
 
     /// The checks of a change. The order is looked up before the numbers are checked.
+    #[inline(always)]
     fn check_change(
         &self,
         member: u32,
@@ -198,6 +199,7 @@ impl<A: Allocator + Copy> Unsettled<A> {
     }
 
     /// Whether the member has neither a live order nor a held stop with this reference.
+    #[inline(always)]
     fn is_unknown_order(&self, member: u32, reference: u32) -> bool
         ensures { result ≡ is_unknown_order self.now.state member reference }
     {

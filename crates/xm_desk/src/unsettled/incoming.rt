@@ -49,6 +49,7 @@ impl<A: Allocator + Copy> Unsettled<A> {
 
     /// An order comes in. In continuous trading a free one is executed, and its rest joins the book last; any other order
     /// joins last.
+    #[inline(always)]
     pub fn come(&mut self, order: &Order)
         requires { CanComeIn self.old order.now }
         ensures come { self.new ≡ record self.old { state = come self.old.state order.now; ready = Used } }
@@ -123,6 +124,7 @@ impl<A: Allocator + Copy> Unsettled<A> {
     }
 
     /// An order joins the book last, in the place that is kept for it.
+    #[inline(always)]
     fn join(&mut self, order: Order)
         requires { CanJoin self.old order }
         ensures joined { self.new ≡ record self.old { state = joined self.old.state order; ready = Used } }
