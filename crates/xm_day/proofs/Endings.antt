@@ -1,15 +1,11 @@
 -- How a run of a day ends.
-use Rattle.std.proofs.Common.{◌≡◌, refl, ℕ, ◌<◌, ◌≤◌, nat_lt, Bool, true, false, not, if◌then◌else◌, List, [], ◌++◌, length, Option, None, Some, Result, Ok, Err, IfSome, ap, sym, subst, ◌∙◌}
-use Rattle.std.specs.Bool.{OnFalse}
+use Rattle.std.proofs.Common.{◌≡◌, refl, ℕ, ◌≤◌, nat_lt, false, List, [], length, Option, None, Some, Result, Ok, Err, IfSome, sym, subst}
 use Rattle.std.specs.Result.{IsErrAnd}
-use Rattle.std.proofs.lemmas.Bool.{le-ltb, ltb-true}
-use Rattle.xm_desk.specs.declared.opening.OpenFault.{OpenFault}
-use Rattle.xm_day.proofs.Days.{lacks-more}
+use Rattle.std.proofs.lemmas.Bool.{le-ltb}
 use Rattle.xm_day.specs.Answers.{AreRowsOf, DesksEnd, HasTaken, InFileOrder, IsSegmentOf, OrdersEnd, RowsRun, WritesPart}
 use Rattle.xm_day.specs.Checks.{CheckEnds, OpeningEnds}
 use Rattle.xm_day.specs.declared.desks.OpenDay.{OpenDay}
 use Rattle.xm_files.specs.Batches.{RowsLeft, rows_from, text_left}
-use Rattle.xm_files.specs.FileFaults.{is_from_outside}
 use Rattle.xm_files.specs.Orders.{orders_of}
 use Rattle.xm_files.specs.declared.file_faults.FileFault.{FileFault}
 use Rattle.xm_day.specs.Day.{Day, LacksMemoryAt, opening_day}
@@ -32,14 +28,6 @@ OrdersEnd-of_writing days config names rows orders old new (Segment fault) read 
 OrdersEnd-of_writing days config names rows orders old new (Orders fault) read sound is failed = absurd is
 OrdersEnd-of_writing days config names rows orders old new (Open fault) read sound is failed = absurd is
 
--- what went wrong at some rows is so where more come after them
-pub taken-more : (config : SegmentConfig) (rows more : List Row) (fault : DayFault) → HasTaken config rows (Err fault) → HasTaken config (rows ++ more) (Err fault)
-taken-more config rows more (Open fault) has = has
-taken-more config rows more (OutOfMemory _) has = (has.0, lacks-more (opening_day config) rows more has.1)
-taken-more config rows more WriteFailed has = absurd has
-taken-more config rows more (Segment fault) has = absurd has
-taken-more config rows more (Orders fault) has = absurd has
-
 -- want of memory is told as such
 pub if_memory : (config : SegmentConfig) (rows : List Row) (result : Result OpenDay DayFault) → IsErrAnd result (λ fault. fault ≡ OutOfMemory tt) → segment_fault config ≡ None → LacksMemoryAt (opening_day config) rows → HasTaken config rows result
 if_memory config rows (Ok d) is sound lacks = absurd is
@@ -59,38 +47,12 @@ RowsRun-in_order config names file (Ok day) read = (read.0, read.1, taken-ends c
 RowsRun-in_order config names file (Err fault) read = read
 
 -- what the bytes of an order file give
-pub orders-read : (names : NameLists) (config : SegmentConfig) (file : Option (List ℕ)) (read : List ℕ) (left : RowsLeft) (rows : Result (List Row) FileFault) → IfSome file (λ bytes. read ≡ bytes) → length read ≤ 16777216
-    → left ≡ text_left read 1 → rows_from names config left [] ≡ rows → IfSome file (λ bytes. orders_of names config bytes ≡ rows)
-orders-read names config None read left rows is short begun gives = tt
-orders-read names config (Some bytes) read left rows is short begun gives =
+pub orders-read : (names : NameLists) (config : SegmentConfig) (file : Option (List ℕ)) (read : List ℕ) (rows : Result (List Row) FileFault) → IfSome file (λ bytes. read ≡ bytes) → length read ≤ 16777216
+    → rows_from names config (text_left read 1) [] ≡ rows → IfSome file (λ bytes. orders_of names config bytes ≡ rows)
+orders-read names config None read rows is short gives = tt
+orders-read names config (Some bytes) read rows is short gives =
     let within : nat_lt 16777216 (length read) ≡ false = le-ltb 16777216 (length read) short in
-    subst (λ (bs : List ℕ). orders_of names config bs ≡ rows) is (rw within (ap (λ (l : RowsLeft). rows_from names config l []) (sym begun) ∙ gives))
-
-if-inside : {A B : Type 0} (outside : Bool) → OnFalse outside A → (A → B) → OnFalse outside B
-if-inside true a f = tt
-if-inside false a f = f a
-
--- the rows of a file weren't read
-pub unread-ends : (days : SegmentConfig → List Row → Day → Type 0) (config : SegmentConfig) (names : NameLists) (orders old new : Option (List ℕ)) (left : RowsLeft) (fault : FileFault) → ((rows : Result (List Row) FileFault) → rows_from names config left [] ≡ rows → IfSome orders (λ bytes. orders_of names config bytes ≡ rows))
-    → RowsRun (DesksEnd days) config names left (Err fault) → OrdersEnd days config names orders old new (Err (Orders fault))
-unread-ends days config names orders old new left fault gives read = record { of_bytes = if-inside (is_from_outside fault.cause) read.0 (gives (Err fault)); from_outside = read.1 }
-
--- they were read, and couldn't be taken
-pub untaken-ends : (days : SegmentConfig → List Row → Day → Type 0) (config : SegmentConfig) (names : NameLists) (orders old new : Option (List ℕ)) (left : RowsLeft) (fault : DayFault) → ((rows : Result (List Row) FileFault) → rows_from names config left [] ≡ rows → IfSome orders (λ bytes. orders_of names config bytes ≡ rows))
-    → RowsRun (DesksEnd days) config names left (Ok (Err fault)) → OrdersEnd days config names orders old new (Err fault)
-untaken-ends days config names orders old new left (Open fault) gives read = (read.0, gives (Ok read.0) read.1, read.2)
-untaken-ends days config names orders old new left (OutOfMemory _) gives read = (read.0, gives (Ok read.0) read.1, read.2)
-untaken-ends days config names orders old new left WriteFailed gives read = absurd read.2
-untaken-ends days config names orders old new left (Segment fault) gives read = absurd read.2
-untaken-ends days config names orders old new left (Orders fault) gives read = absurd read.2
-
-some-if : (some : Bool) (n : ℕ) (fault : OpenFault) (rest : Option OpenFault) → nat_lt 0 n ≡ some → (if not some then Some fault else rest) ≡ None → 0 < n
-some-if true n fault rest test none = ltb-true 0 n test
-some-if false n fault rest test none = cc
-
--- a segment without a fault has a security
-pub some-security : (config : SegmentConfig) → segment_fault config ≡ None → 0 < length config.securities
-some-security config none = some-if (nat_lt 0 (length config.securities)) (length config.securities) _ _ refl none
+    subst (λ (bs : List ℕ). orders_of names config bs ≡ rows) is (rw within gives)
 
 -- a segment file was read, and its segment checked
 pub CheckEnds-read : (segment old new : Option (List ℕ)) (config : SegmentConfig) (names : NameLists) (result : Result (Unit {0}) DayFault) → IsSegmentOf segment config names → OpeningEnds config old new result

@@ -13,7 +13,7 @@ use std::alloc::Global;
 use std::io;
 use std::sync::Wait;
 use std::thread::Threads;
-use xm_files::{RowReader, SegmentNames, read_orders, read_segment};
+use xm_files::{SegmentNames, read_orders, read_segment};
 use xm_names::Storage;
 use xm_segment::{Gate, SegmentConfig};
 
@@ -39,8 +39,7 @@ pub fn run_orders<R: io::Read, W: io::Write>(
         Ok(bytes) => bytes,
         Err(fault) => return Err(DayFault::Orders(fault)),
     };
-    let mut file = RowReader::of(bytes.as_slice());
-    let day = match run_rows(storage, config, names, &mut file) {
+    let day = match run_rows(storage, config, names, bytes) {
         Ok(day) => day?,
         Err(fault) => return Err(DayFault::Orders(fault)),
     };
@@ -122,8 +121,7 @@ fn run_shared_orders<T: Threads + Wait + Sync, G: Gate + Sync, R: io::Read, W: i
         Ok(bytes) => bytes,
         Err(fault) => return Err(DayFault::Orders(fault)),
     };
-    let mut file = RowReader::of(bytes.as_slice());
-    let day = match run_shared(rt, gate, workers, storage, config, names, &mut file) {
+    let day = match run_shared(rt, gate, workers, storage, config, names, bytes) {
         Ok(day) => day?,
         Err(fault) => return Err(DayFault::Orders(fault)),
     };

@@ -1,6 +1,8 @@
 //! The rows of an order file, run in their order.
-ghost use Rattle.std.specs.Prelude.{[]};
+ghost use Rattle.std.specs.Prelude.{◌≤◌, [], length};
 ghost use Rattle.xm_day.specs.Answers.{DesksEnd, HasTaken, InFileOrder, RowsRun};
+ghost use Rattle.xm_files.specs.Batches.{text_left};
+ghost use Rattle.xm_files.specs.declared.bytes.TheConstants.{MAX_BYTES};
 
 use crate::desks::{OpenDay, open_day, take_more};
 use crate::faults::DayFault;
@@ -12,18 +14,20 @@ use xm_segment::SegmentConfig;
 /// How many rows are read before they are taken, so that they are still in a near cache.
 const BATCH: Part = Part::Rows(512);
 
-/// Reads the rows of an order file, batch by batch, and has the desks of a segment take them. The fault of the file is answered,
-/// if it has one, and else what came of its rows.
+/// Reads the rows of an order file of these bytes, batch by batch, and has the desks of a segment take them. The fault of the
+/// file is answered, if it has one, and else what came of its rows.
 pub(crate) fn run_rows(
     storage: Storage<Global>,
     config: &SegmentConfig,
     names: &SegmentNames,
-    file: &mut RowReader<'_>,
+    bytes: Vec<u8>,
 ) -> Result<Result<OpenDay, DayFault>, FileFault>
-    ensures { RowsRun (DesksEnd InFileOrder) config.now names.now file.old result }
+    requires { length bytes.items ≤ MAX_BYTES }
+    ensures { RowsRun (DesksEnd InFileOrder) config.now names.now (text_left bytes.items 1) result }
 {
+    let mut file = RowReader::of(bytes.as_slice());
     let opened = open_day(storage, config);
-    take_file(storage.alloc, opened, config, names, file)
+    take_file(storage.alloc, opened, config, names, &mut file)
 }
 
 /// Reads the rows of an order file, and has them taken. A fault of the file comes before any other: where the segment can't be

@@ -2,7 +2,9 @@
 ghost use Rattle.std.specs.Prelude.{◌≡◌, ◌≢◌, ◌+◌, ◌≤◌, ◌++◌, All, List, [], IfOk, length};
 ghost use Rattle.xm_day.specs.Answers.{DesksEnd, RowsRun};
 ghost use Rattle.xm_day.specs.Workers.{AreJournals, HasShared, IsShared, accepted_by, commands_in, taken_by, taken_in};
+ghost use Rattle.xm_files.specs.Batches.{text_left};
 ghost use Rattle.xm_files.specs.Orders.{max_rows};
+ghost use Rattle.xm_files.specs.declared.bytes.TheConstants.{MAX_BYTES};
 ghost use Rattle.xm_segment.specs.Gathering.{AreGathered, all_sums};
 ghost use Rattle.xm_segment.specs.Ledgers.{accepted_in};
 ghost use Rattle.xm_segment.specs.Names.{NamesSegment};
@@ -26,8 +28,8 @@ use xm_memory::OutOfMemory;
 use xm_names::Storage;
 use xm_segment::{Blanks, Gate, GatherFault, Naming, Row, Seat, Segment, SegmentConfig};
 
-/// Reads the rows of an order file, round by round, and has so many workers take them, on a segment that the ledgers made here
-/// give a name. The fault of the file is answered, if it has one, and else what came of its rows.
+/// Reads the rows of an order file of these bytes, round by round, and has so many workers take them, on a segment that the
+/// ledgers made here give a name. The fault of the file is answered, if it has one, and else what came of its rows.
 pub(crate) fn run_shared<T: Threads + Wait + Sync, G: Gate + Sync>(
     rt: &T,
     gate: &G,
@@ -35,14 +37,15 @@ pub(crate) fn run_shared<T: Threads + Wait + Sync, G: Gate + Sync>(
     storage: Storage<Global>,
     config: &SegmentConfig,
     names: &SegmentNames,
-    file: &mut RowReader<'_>,
+    bytes: Vec<u8>,
 ) -> Result<Result<OpenDay, DayFault>, FileFault>
     requires some { 1 ≤ workers }
     requires few { workers ≤ MAX_WORKERS }
-    ensures { RowsRun (DesksEnd IsShared) config.now names.now file.old result }
+    requires short { length bytes.items ≤ MAX_BYTES }
+    ensures { RowsRun (DesksEnd IsShared) config.now names.now (text_left bytes.items 1) result }
 {
     let blanks = Blanks::new(workers);
-    run_named::<Brand, T, G>(rt, gate, workers, blanks, storage, config, names, file)
+    run_named::<Brand, T, G>(rt, gate, workers, blanks, storage, config, names, bytes)
 }
 
 /// Runs the rows on the segment that has this name.
@@ -54,15 +57,17 @@ fn run_named<S: Naming + Send + Sync, T: Threads + Wait + Sync, G: Gate + Sync>(
     storage: Storage<Global>,
     config: &SegmentConfig,
     names: &SegmentNames,
-    file: &mut RowReader<'_>,
+    bytes: Vec<u8>,
 ) -> Result<Result<OpenDay, DayFault>, FileFault>
     requires named { NamesSegment S.settings S.ledgers S.workers config.now workers blanks }
     requires some { 1 ≤ workers }
     requires few { workers ≤ MAX_WORKERS }
-    ensures { RowsRun (DesksEnd IsShared) config.now names.now file.old result }
+    requires short { length bytes.items ≤ MAX_BYTES }
+    ensures { RowsRun (DesksEnd IsShared) config.now names.now (text_left bytes.items 1) result }
 {
+    let mut file = RowReader::of(bytes.as_slice());
     let opened = SharedDay::<S>::open(workers, blanks, storage, config);
-    match take_file(rt, gate, storage.alloc, opened, config, names, file) {
+    match take_file(rt, gate, storage.alloc, opened, config, names, &mut file) {
         Ok(day) => Ok(closed(storage.alloc, day)),
         Err(fault) => Err(fault),
     }

@@ -1,5 +1,13 @@
+use Rattle.std.proofs.Common.{◌∙◌, List, ℕ, ap, subst}
 use Rattle.xm_day.proofs.Endings.{RowsRun-in_order}
+use Rattle.xm_day.specs.Answers.{DesksEnd, InFileOrder, RowsRun}
+use Rattle.xm_files.specs.Batches.{RowsLeft, text_left}
 use Rattle.xm_day.proofs.runs.run_rows.Goals as goal
 
 pub returns : goal.returns
-returns c = RowsRun-in_order c.args.config.now c.args.names.now c.args.file.now c.take_file.result c.take_file.ensures
+returns c =
+    let config = c.args.config.now in
+    let names = c.args.names.now in
+    let text = c.of-file.ensures ∙ ap (λ (text : List ℕ). text_left text 1) c.as_slice.ensures.value in
+    subst (λ (left : RowsLeft). RowsRun (DesksEnd InFileOrder) config names left c.take_file.result) text
+    (RowsRun-in_order config names c.of-file.result c.take_file.result c.take_file.ensures)

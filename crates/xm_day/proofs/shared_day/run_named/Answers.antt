@@ -1,6 +1,10 @@
+use Rattle.std.proofs.Common.{◌∙◌, List, [], ℕ, ap, sym}
 use Rattle.xm_day.proofs.shared_day.run_named.Goals as goal
+use Rattle.xm_files.specs.Batches.{RowsLeft, rows_from, text_left}
 
 pub returns-in-Ok : goal.returns-in-Ok
 returns-in-Ok g c =
+    let config = c.args.config.now in
     let ran = c.in-Ok.ensures in
-    (ran.0, ran.1, c.closed.ensures c.args.config.now ran.0 ran.2)
+    let text = c.of-file.ensures ∙ ap (λ (text : List ℕ). text_left text 1) c.as_slice.ensures.value in
+    (ran.0, ap (λ (left : RowsLeft). rows_from c.args.names.now config left []) (sym text) ∙ ran.1, c.closed.ensures config ran.0 ran.2)
