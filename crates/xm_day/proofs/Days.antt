@@ -74,17 +74,7 @@ rows-lack begun desks rows i row a r within so_far accepts =
       accepts = subst At so_far accepts;
     }
 
--- memory that is wanting at one of some rows is so where more come after them
-pub lacks-more : (d : TheDay) (rows more : List Row) → LacksMemoryAt d rows → LacksMemoryAt d (rows ++ more)
-lacks-more d rows more lacks = record {
-  before = lacks.before;
-  row = lacks.row;
-  more = lacks.more ++ more;
-  rows_are = sym (append_assoc lacks.before (lacks.row ∷ lacks.more) more) ∙ ap (λ (xs : List Row). xs ++ more) lacks.rows_are;
-  accepts = lacks.accepts;
-}
-
--- and where others were taken before them
+-- memory that is wanting at some rows is so where others were taken before them
 pub lacks-later : (d : TheDay) (taken rows : List Row) → LacksMemoryAt (after_rows d taken) rows → LacksMemoryAt d (taken ++ rows)
 lacks-later d taken rows lacks =
     let At : TheDay → Type 0 = λ later. Accepts later lacks.row in

@@ -1,5 +1,5 @@
 -- What a day that workers share keeps from its opening to its end.
-use Rattle.std.proofs.Common.{◌≡◌, ℕ, suc, ◌+◌, ◌≤◌, ◌++◌, false, List, [], ◌∷◌, length, nat_lt, None, Result, Ok, Err, refl, sym, ap, ◌∙◌, subst, arith}
+use Rattle.std.proofs.Common.{◌≡◌, ℕ, suc, ◌+◌, ◌≤◌, false, List, [], ◌∷◌, length, nat_lt, None, Result, Ok, Err, refl, sym, ap, ◌∙◌, subst, arith}
 use Rattle.std.specs.Prelude.{All}
 use Rattle.std.proofs.lemmas.Bool.Decides.{nat_tests}
 use Rattle.std.proofs.lemmas.List.{length-map}
@@ -9,7 +9,7 @@ use Rattle.xm_day.specs.Answers.{DesksEnd}
 use Rattle.xm_day.specs.Workers.{AreJournals, HasShared, IsShared, commands_in, taken_by}
 use Rattle.xm_day.specs.declared.desks.OpenDay.{OpenDay}
 use Rattle.xm_day.specs.declared.faults.DayFault.{DayFault}
-use Rattle.xm_day.specs.declared.faults.DayFault.TheVariants.{Segment, Orders, Open, OutOfMemory, WriteFailed}
+use Rattle.xm_day.specs.declared.faults.DayFault.TheVariants.{OutOfMemory}
 use Rattle.xm_day.specs.declared.report.DayReport.{DayReport}
 use Rattle.xm_rules.specs.Step.{Journal}
 use Rattle.xm_rules.specs.declared.settings.DeskSettings.{DeskSettings}
@@ -25,30 +25,10 @@ opening-is config workers few =
     let within : nat_lt max_workers workers ≡ false = grind (arith, nat_tests) in
     rw within refl
 
--- what went wrong stays so, whatever rows come after it
-pub shared-wrong : (settings : List DeskSettings) (config : SegmentConfig) (taken rows : List Row) (fault : DayFault) → HasShared settings config taken (Err fault) → HasShared settings config (taken ++ rows) (Err fault)
-shared-wrong settings config taken rows (Open fault) has = has
-shared-wrong settings config taken rows (OutOfMemory _) has = has
-shared-wrong settings config taken rows WriteFailed has = absurd has
-shared-wrong settings config taken rows (Segment fault) has = absurd has
-shared-wrong settings config taken rows (Orders fault) has = absurd has
-
--- so the day has no desks
-pub wrong-ends : (settings : List DeskSettings) (config : SegmentConfig) (rows : List Row) (fault : DayFault) → HasShared settings config rows (Err fault) → DesksEnd IsShared config rows (Err fault)
-wrong-ends settings config rows (Open fault) has = has
-wrong-ends settings config rows (OutOfMemory _) has = has
-wrong-ends settings config rows WriteFailed has = absurd has
-wrong-ends settings config rows (Segment fault) has = absurd has
-wrong-ends settings config rows (Orders fault) has = absurd has
-
 -- it is want of memory
 pub shared-if_memory : (settings : List DeskSettings) (config : SegmentConfig) (rows : List Row) (result : Result (List DayReport) DayFault) → IsErrAnd result (λ fault. fault ≡ OutOfMemory tt) → segment_fault config ≡ None → HasShared settings config rows result
 shared-if_memory settings config rows (Ok reports) is sound = absurd is
 shared-if_memory settings config rows (Err fault) is sound = subst (λ (f : DayFault). HasShared settings config rows (Err f)) (sym is) sound
-
-pub ends-if_memory : (config : SegmentConfig) (rows : List Row) (result : Result OpenDay DayFault) → IsErrAnd result (λ fault. fault ≡ OutOfMemory tt) → segment_fault config ≡ None → DesksEnd IsShared config rows result
-ends-if_memory config rows (Ok day) is sound = absurd is
-ends-if_memory config rows (Err fault) is sound = subst (λ (f : DayFault). DesksEnd IsShared config rows (Err f)) (sym is) sound
 
 -- nothing is counted in the seats of a segment as it opens
 pub seats-nothing : (workers : ℕ) (seats : List SeatView) → AreSeats workers seats → All (λ (seat : SeatView). accepted_in seat.sums ≡ 0) seats

@@ -12,7 +12,7 @@ use Rattle.xm_segment.proofs.Lanes.{accepted-raises, quantity-raises, refused-co
 use Rattle.xm_rules.specs.declared.totals.TheConstants.{MAX_TRADED_QUANTITY}
 use Rattle.xm_segment.specs.Answers.{IsAnswered}
 use Rattle.xm_segment.specs.Ledgers.{FitLanes, accepted_in, quantity_in}
-use Rattle.xm_segment.specs.Reports.{HasRoomIn, no_report, raised_at, refusal_place, report_from, with_answer_in}
+use Rattle.xm_segment.specs.Reports.{HasRoomIn, no_report, refusal_place, report_from, with_answer_in}
 use Rattle.xm_segment.specs.Seats.{SeatView, WereAnswered, all_answered, seat_after, lacks_memory}
 use Rattle.xm_segment.specs.declared.rows.Row.{Row}
 use Rattle.xm_segment.specs.declared.working.WorkerReport.{WorkerReport}

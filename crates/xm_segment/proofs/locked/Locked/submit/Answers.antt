@@ -1,7 +1,6 @@
-use Rattle.std.proofs.Common.{◌≡◌, ◌∙◌, Err, Ok, Some, ap, arith, subst, sym}
-use Rattle.xm_rules.specs.Step.{Journal, replay}
+use Rattle.std.proofs.Common.{◌∙◌, Ok, Some, ap, arith, sym}
+use Rattle.xm_rules.specs.Step.{Journal}
 use Rattle.xm_segment.proofs.locked.Locked.submit.Goals as goal
-use Rattle.xm_segment.specs.Answers.{IsAnswer}
 use Rattle.xm_segment.specs.Ledgers.{Sums, with_answer}
 
 pub invariant_of-self-2 : goal.invariant_of-self-2
