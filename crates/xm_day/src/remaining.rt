@@ -4,7 +4,7 @@ ghost use Rattle.std.specs.List.{flat_map};
 ghost use Rattle.xm_day.specs.Statement.{date_text, limit_text, order_line, stop_line, validity_text};
 ghost use Rattle.xm_ticks.specs.Writing.{price_text};
 
-use crate::texts::{push_money, push_number, push_party, push_price, push_text};
+use crate::texts::{push_money, push_number, push_party, push_price, push_space, push_text};
 use crate::words::{restriction_word, side_word};
 use itoa::Buffer;
 use std::alloc::Allocator;
@@ -39,15 +39,15 @@ fn push_order<A: Allocator>(
 {
     push_text(text, "ORDER ")?;
     push_party(text, names, order.member, order.reference)?;
-    push_text(text, " ")?;
+    push_space(text)?;
     push_text(text, side_word(order.side))?;
-    push_text(text, " ")?;
+    push_space(text)?;
     push_limit(text, order.kind, tick)?;
-    push_text(text, " ")?;
+    push_space(text)?;
     push_number(text, u64::from(order.rest))?;
-    push_text(text, " ")?;
+    push_space(text)?;
     push_validity(text, order.validity)?;
-    push_text(text, " ")?;
+    push_space(text)?;
     push_text(text, restriction_word(order.restriction))?;
     push_text(text, "\n")
 }
@@ -78,15 +78,15 @@ fn push_stop<A: Allocator>(
 {
     push_text(text, "STOP ")?;
     push_party(text, names, stop.member, stop.reference)?;
-    push_text(text, " ")?;
+    push_space(text)?;
     push_text(text, side_word(stop.side))?;
-    push_text(text, " ")?;
+    push_space(text)?;
     push_trigger(text, stop.trigger, tick)?;
-    push_text(text, " ")?;
+    push_space(text)?;
     push_limit(text, stop.becomes, tick)?;
-    push_text(text, " ")?;
+    push_space(text)?;
     push_number(text, u64::from(stop.quantity))?;
-    push_text(text, " ")?;
+    push_space(text)?;
     push_validity(text, stop.validity)?;
     push_text(text, "\n")
 }

@@ -9,7 +9,7 @@ ghost use Rattle.xm_ticks.specs.Writing.{AppendsPrefix};
 use crate::faults::DayFault;
 use crate::remaining::{push_date, push_orders, push_stops};
 use crate::report::DayReport;
-use crate::texts::{push_number, push_price, push_text, security_name};
+use crate::texts::{push_number, push_price, push_space, push_text, security_name};
 use crate::traded::{push_members, push_nets, push_total, push_trades};
 use crate::words::phase_word;
 use std::alloc::Allocator;
@@ -19,6 +19,9 @@ use xm_files::SegmentNames;
 use xm_memory::OutOfMemory;
 use xm_rules::Phase;
 use xm_ticks::{Price, TickSize, write_whole};
+
+/// A line of a trade seldom has more bytes.
+const BYTES_OF_A_TRADE: usize = 64;
 
 /// Writes the statement of the desks of a segment, which are in index order.
 ///
@@ -58,12 +61,21 @@ fn statement_text<A: Allocator, B: Allocator + Copy>(
     requires names { length names.now.securities ≡ length desks.now }
     ensures { IfOk result (λ text. text.items ≡ statement names.now (map replay desks.now) report.now.accepted report.now.refused) }
 {
-    let mut text = Vec::new(alloc);
+    let mut text = Vec::with_capacity(alloc, room_for_trades(desks))?;
     push_day(&mut text, desks[0].settings().today)?;
     push_securities(&mut text, desks, names)?;
     push_members(&mut text, desks, names)?;
     push_rows(&mut text, report)?;
     Ok(text)
+}
+
+/// How many bytes the lines of all trades seldom have more than. A text that is told of them needn't be copied as it grows.
+fn room_for_trades<B: Allocator + Copy>(desks: &[Desk<B>]) -> usize {
+    let mut trades = 0usize;
+    for desk in desks {
+        trades = trades.saturating_add(desk.trades().len());
+    }
+    trades.saturating_mul(BYTES_OF_A_TRADE)
 }
 
 /// The date.
@@ -81,7 +93,7 @@ fn push_rows<A: Allocator>(text: &mut Vec<u8, A>, report: &DayReport) -> Result<
 {
     push_text(text, "ROWS ")?;
     push_number(text, report.accepted)?;
-    push_text(text, " ")?;
+    push_space(text)?;
     push_number(text, report.refused)?;
     push_text(text, "\n")
 }
@@ -147,7 +159,7 @@ fn push_security_line<A: Allocator>(
 {
     push_text(text, "SECURITY ")?;
     push_text(text, name)?;
-    push_text(text, " ")?;
+    push_space(text)?;
     push_text(text, phase_word(phase))?;
     push_text(text, "\n")
 }
@@ -163,7 +175,7 @@ fn push_references<A: Allocator>(
 {
     push_text(text, "REFERENCES ")?;
     push_price(text, first, tick)?;
-    push_text(text, " ")?;
+    push_space(text)?;
     push_price(text, second, tick)?;
     push_text(text, "\n")
 }

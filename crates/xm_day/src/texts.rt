@@ -1,5 +1,5 @@
 //! The pieces that the lines of the statement are put together from.
-ghost use Rattle.std.specs.Prelude.{◌≡◌, ◌++◌, Ok, OnOk};
+ghost use Rattle.std.specs.Prelude.{◌≡◌, ◌++◌, Ok, OnOk, codes};
 ghost use Rattle.std.specs.Fmt.{decimal};
 ghost use Rattle.xm_day.specs.Statement.{name_at, party_text};
 ghost use Rattle.xm_ticks.specs.Writing.{money_text, price_text};
@@ -54,6 +54,7 @@ pub(crate) fn written(answer: io::Result<()>) -> Result<(), OutOfMemory>
 }
 
 /// A member's name and the reference that it gave an order.
+#[inline(always)]
 pub(crate) fn push_party<A: Allocator>(
     text: &mut Vec<u8, A>,
     names: &SegmentNames,
@@ -63,8 +64,16 @@ pub(crate) fn push_party<A: Allocator>(
     ensures { OnOk result (text.new.items ≡ text.old.items ++ party_text names.now member reference) }
 {
     push_text(text, member_name(names, member))?;
-    push_text(text, " ")?;
+    push_space(text)?;
     push_number(text, u64::from(reference))
+}
+
+/// A space.
+pub(crate) fn push_space<A: Allocator>(text: &mut Vec<u8, A>) -> Result<(), OutOfMemory>
+    ensures { OnOk result (text.new.items ≡ text.old.items ++ codes " ") }
+{
+    text.push(b' ')?;
+    Ok(())
 }
 
 /// Adds a text as it is, which a statement's many short pieces take less time for than for a format.

@@ -7,7 +7,7 @@ ghost use Rattle.xm_rules.specs.Sums.{total_money, total_quantity};
 
 use crate::sums::{cash_in, total_cash};
 use crate::texts::{
-    member_name, push_money, push_number, push_party, push_price, push_text, written,
+    member_name, push_money, push_number, push_party, push_price, push_space, push_text, written,
 };
 use crate::words::trade_word;
 use std::alloc::Allocator;
@@ -44,15 +44,15 @@ fn push_trade<A: Allocator>(
 {
     push_text(text, "TRADE ")?;
     push_number(text, trade.sweep)?;
-    push_text(text, " ")?;
+    push_space(text)?;
     push_text(text, trade_word(trade.kind))?;
-    push_text(text, " ")?;
+    push_space(text)?;
     push_price(text, trade.price, tick)?;
-    push_text(text, " ")?;
+    push_space(text)?;
     push_number(text, u64::from(trade.quantity))?;
-    push_text(text, " ")?;
+    push_space(text)?;
     push_party(text, names, trade.buyer, trade.buy_ref)?;
-    push_text(text, " ")?;
+    push_space(text)?;
     push_party(text, names, trade.seller, trade.sell_ref)?;
     push_text(text, "\n")
 }
@@ -113,7 +113,7 @@ pub(crate) fn push_total<A: Allocator, B: Allocator + Copy>(
     let value = i128::from(totals.money) * i128::from(desk.settings().tick.get());
     push_text(text, "TOTAL ")?;
     push_number(text, totals.quantity)?;
-    push_text(text, " ")?;
+    push_space(text)?;
     push_money(text, value)?;
     push_text(text, "\n")
 }
@@ -157,7 +157,7 @@ fn push_cash<A: Allocator>(
 {
     push_text(text, "MEMBER ")?;
     push_text(text, name)?;
-    push_text(text, " ")?;
+    push_space(text)?;
     push_money(text, amount)?;
     push_text(text, "\n")
 }
