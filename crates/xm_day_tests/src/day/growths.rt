@@ -1,6 +1,7 @@
 //! A statement whose growths are refused.
 use super::CASCADE_STATEMENT;
-use crate::files::fixtures::{CASCADE, SEGMENT};
+use super::workers::ORDERS_STATEMENT;
+use crate::files::fixtures::{CASCADE, ORDERS, SEGMENT};
 use std::alloc::Global;
 use std::process::Abort;
 use xm_day::{DayFault, DayReport, statement};
@@ -27,9 +28,15 @@ fn take(desk: &mut Desk<Global>, rows: &[Row]) -> DayReport {
 
 /// Compares what was written of a statement with one request for memory refused, or with none: all of it, or nothing for
 /// want of memory.
-fn is_whole_or_nothing(rt: &impl Abort, answer: Result<(), DayFault>, refused: bool, out: &[u8]) {
+fn is_whole_or_nothing(
+    rt: &impl Abort,
+    answer: Result<(), DayFault>,
+    refused: bool,
+    out: &[u8],
+    text: &str,
+) {
     match answer {
-        Ok(()) => assert!(rt; out == CASCADE_STATEMENT.as_bytes()),
+        Ok(()) => assert!(rt; out == text.as_bytes()),
         Err(fault) => {
             assert!(rt; refused && matches!(fault, DayFault::OutOfMemory(_)));
             assert!(rt; out.is_empty());
@@ -43,26 +50,29 @@ fn is_refused(
     desks: &[Desk<Global>],
     names: &SegmentNames,
     report: &DayReport,
+    text: &str,
     nth: u64,
 ) -> bool {
     let refusing = Refusing::new(rt.alloc(), nth);
     let mut out = Vec::new(rt.alloc());
     assert!(rt; desks.len() == 1 && names.securities() == 1);
     let answer = statement(&refusing, desks, names, report, &mut out);
-    is_whole_or_nothing(rt, answer, refusing.has_refused(), out.as_slice());
+    is_whole_or_nothing(rt, answer, refusing.has_refused(), out.as_slice(), text);
     refusing.has_refused()
 }
 
-/// Refuses each request of a statement in turn, of which there are more than five.
+/// Refuses each request of a statement in turn, of which there are at least so many.
 fn refuse_each(
     rt: &(impl Abort + AllocGlobal),
     desks: &[Desk<Global>],
     names: &SegmentNames,
     report: &DayReport,
+    text: &str,
+    least: u64,
 ) {
     for nth in 1..u64::MAX {
-        if !is_refused(rt, desks, names, report, nth) {
-            assert!(rt; nth > 5);
+        if !is_refused(rt, desks, names, report, text, nth) {
+            assert!(rt; nth > least);
             return;
         }
     }
@@ -85,15 +95,24 @@ fn worked(
     (desk, report)
 }
 
-/// Compares what is written of the statement of the day of two texts, with each request for memory refused in turn.
-fn is_refused_in_turn(rt: &(impl Abort + AllocGlobal), segment: &str, orders: &str) {
+/// Compares what is written of the statement of the day of two texts, with each request for memory refused in turn, of which
+/// there are at least so many.
+fn is_refused_in_turn(
+    rt: &(impl Abort + AllocGlobal),
+    segment: &str,
+    orders: &str,
+    text: &str,
+    least: u64,
+) {
     let (config, names) = read_segment(rt.alloc(), &mut segment.as_bytes()).expect(rt, "a segment");
     let rows = read_rows(rt.alloc(), &mut orders.as_bytes(), &names, &config).expect(rt, "rows");
     let (desk, report) = worked(rt, &config, rows.as_slice());
-    refuse_each(rt, &[desk], &names, &report);
+    refuse_each(rt, &[desk], &names, &report, text, least);
 }
 
 #[test]
 fn refused_growths_of_a_statement(rt: HostRuntime) {
-    is_refused_in_turn(&rt, SEGMENT, CASCADE);
+    // The text is told of its trades, and grows behind them; without trades it grows from nothing.
+    is_refused_in_turn(&rt, SEGMENT, CASCADE, CASCADE_STATEMENT, 2);
+    is_refused_in_turn(&rt, SEGMENT, ORDERS, ORDERS_STATEMENT, 6);
 }

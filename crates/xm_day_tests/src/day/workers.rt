@@ -104,7 +104,7 @@ ROWS 27 1
 ";
 
 /// The statement of the day of `ORDERS`.
-const ORDERS_STATEMENT: &str = "DAY 20260105
+pub(super) const ORDERS_STATEMENT: &str = "DAY 20260105
 SECURITY XYZ opening-call
 REFERENCES 10.0000 10.0000
 ORDER BBB 1 sell 10.1000 5 day free
