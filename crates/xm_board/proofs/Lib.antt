@@ -1,0 +1,4 @@
+pub mod Gathering
+pub mod Prefixes
+pub mod Quotes
+pub mod Steps

@@ -1,0 +1,87 @@
+-- The quote of a published journal, and its words.
+use Rattle.std.proofs.Common.{◌≡◌, ℕ, ◌+◌, ◌<◌, ◌≤◌, ◌^◌, refl, ap, ◌∙◌, subst, arith, Option, Some, None, SomeIff, map}
+use Rattle.std.specs.Option.{ForSome}
+use Rattle.std.proofs.lemmas.List.{length-map}
+use Rattle.xm_board.specs.Journals.{IsLawful, grown, long, opening_of, quote_of, unnumbered}
+use Rattle.xm_board.specs.Published.{IsPublished}
+use Rattle.xm_board.specs.Words.{HasPricesInRange, IsPrice, phase_at, phase_word, price_word}
+use Rattle.xm_board.specs.declared.journal.Entry.{Entry}
+use Rattle.xm_board.specs.declared.journal.NumberedJournal.{NumberedJournal}
+use Rattle.xm_rules.proofs.Accepted.{accepted-below}
+use Rattle.xm_rules.proofs.Journals.{is_lawful-opening, replay_from-accepted, step-accepted}
+use Rattle.xm_rules.proofs.Kept.{step-settings}
+use Rattle.xm_rules.proofs.Replays.{lawful-has}
+use Rattle.xm_rules.specs.Refusals.{refusal_of}
+use Rattle.xm_rules.specs.State.{State, opening}
+use Rattle.xm_rules.specs.Step.{replay, step}
+use Rattle.xm_rules.specs.declared.commands.Command.{Command}
+use Rattle.xm_rules.specs.declared.phases.Auction.TheVariants.{Opening, Intraday, Closing, Interruption}
+use Rattle.xm_rules.specs.declared.phases.CallStage.TheVariants.{Ordinary, Interrupted, Extended}
+use Rattle.xm_rules.specs.declared.phases.Phase.{Phase}
+use Rattle.xm_rules.specs.declared.phases.Phase.TheVariants.{PreTrading, Call, Continuous, PostTrading, Ended}
+use Rattle.xm_rules.specs.declared.replies.Quote.{Quote}
+use Rattle.xm_rules.specs.declared.settings.DeskSettings.{DeskSettings}
+use Rattle.xm_rules.specs.declared.settings.TheConstants.{PHASE_COMMANDS_MORE}
+use Rattle.xm_ticks.specs.declared.numbers.TheConstants.{MAX_JOURNAL_LIMIT, MAX_PRICE}
+
+accepted_is : (j : NumberedJournal) → (replay (unnumbered j)).accepted ≡ long j
+unfolding replay
+accepted_is j =
+    omega (arith, replay_from-accepted (opening j.settings) (map (λ (e : Entry). e.command) j.entries), length-map j.entries (λ (e : Entry). e.command))
+
+pub version_is : (j : NumberedJournal) → (quote_of j).version ≡ long j
+unfolding quote_of
+version_is j = accepted_is j
+
+-- a lawful journal has no more commands than its limit and those that it takes of the phases
+abbrev HasRoom : DeskSettings → State → Type 0
+HasRoom settings s = (s.settings ≡ settings) × (s.accepted ≤ s.settings.limit + PHASE_COMMANDS_MORE)
+
+room_kept : (settings : DeskSettings) (s : State) (c : Command) → refusal_of s c ≡ None → HasRoom settings s → HasRoom settings (step s c)
+room_kept settings s c h r =
+    let limit = ap (λ (d : DeskSettings). d.limit) (step-settings s c) in (step-settings s c ∙ r.0, omega (arith, accepted-below s c h, step-accepted s c, limit))
+
+pub lawful_long : (j : NumberedJournal) → IsPublished j → long j < 2 ^ 32
+lawful_long j p =
+    let room = lawful-has (HasRoom j.settings) (room_kept j.settings) (unnumbered j) p.lawful (refl, omega arith) in
+    let limit : (replay (unnumbered j)).settings.limit ≡ j.settings.limit = ap (λ (d : DeskSettings). d.limit) room.0 in
+    omega (arith, room.1, limit, p.limit, accepted_is j)
+
+pub lawful_opening : (settings : DeskSettings) → IsLawful (opening_of settings)
+lawful_opening settings = is_lawful-opening settings
+
+-- the ranges of the settings and of a quote that was given make a lawful journal one that is published
+pub published_opening : (settings : DeskSettings) (q : Quote) → settings.limit ≤ MAX_JOURNAL_LIMIT → q ≡ quote_of (opening_of settings) → HasPricesInRange q → IsPublished (opening_of settings)
+published_opening settings q limit is prices = record { lawful = lawful_opening settings; limit = limit; prices = subst HasPricesInRange is prices }
+
+pub published_grown : (j : NumberedJournal) (e : Entry) (q : Quote) → IsPublished j → IsLawful (grown j e) → q ≡ quote_of (grown j e) → HasPricesInRange q → IsPublished (grown j e)
+published_grown j e q p lawful is prices = record { lawful = lawful; limit = p.limit; prices = subst HasPricesInRange is prices }
+
+pub phase_back : (p : Phase) → phase_at (phase_word p) ≡ p
+phase_back PreTrading = refl
+phase_back (Call Opening Ordinary) = refl
+phase_back (Call Opening Interrupted) = refl
+phase_back (Call Opening Extended) = refl
+phase_back (Call Intraday Ordinary) = refl
+phase_back (Call Intraday Interrupted) = refl
+phase_back (Call Intraday Extended) = refl
+phase_back (Call Closing Ordinary) = refl
+phase_back (Call Closing Interrupted) = refl
+phase_back (Call Closing Extended) = refl
+phase_back (Call Interruption Ordinary) = refl
+phase_back (Call Interruption Interrupted) = refl
+phase_back (Call Interruption Extended) = refl
+phase_back Continuous = refl
+phase_back PostTrading = refl
+phase_back Ended = refl
+
+pub price_small : (q : Option ℕ) → ForSome q IsPrice → price_word q ≤ MAX_PRICE
+price_small None h = omega arith
+price_small (Some p) h = (h p refl).1
+
+-- the price of its word
+pub price_back : (r : Option ℕ) (ticks : ℕ) (q : Option ℕ) → SomeIff r ((1 ≤ ticks) × (ticks ≤ MAX_PRICE)) ticks → ForSome q IsPrice → ticks ≡ price_word q → r ≡ q
+price_back None ticks None h given e = refl
+price_back None ticks (Some p) h given e = let a = (given p refl).0 in let b = (given p refl).1 in absurd (h (omega arith, omega arith))
+price_back (Some x) ticks None h given e = let a = h.0.0 in absurd (omega arith)
+price_back (Some x) ticks (Some p) h given e = ap (λ (n : ℕ). Some n) (h.1 ∙ e)

@@ -1,0 +1,4 @@
+pub mod Journals
+pub mod Published
+pub mod Rule
+pub mod Words
