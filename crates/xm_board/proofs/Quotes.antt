@@ -2,7 +2,7 @@
 use Rattle.std.proofs.Common.{◌≡◌, ℕ, ◌+◌, ◌<◌, ◌≤◌, ◌^◌, refl, ap, ◌∙◌, subst, arith, Option, Some, None, SomeIff, map}
 use Rattle.std.specs.Option.{ForSome}
 use Rattle.std.proofs.lemmas.List.{length-map}
-use Rattle.xm_board.specs.Journals.{IsLawful, grown, long, opening_of, quote_of, unnumbered}
+use Rattle.xm_board.specs.Journals.{IsLawful, grown, version_of, opening_of, quote_of, unnumbered}
 use Rattle.xm_board.specs.Published.{IsPublished}
 use Rattle.xm_board.specs.Words.{HasPricesInRange, IsPrice, phase_at, phase_word, price_word}
 use Rattle.xm_board.specs.declared.journal.Entry.{Entry}
@@ -24,14 +24,14 @@ use Rattle.xm_rules.specs.declared.settings.DeskSettings.{DeskSettings}
 use Rattle.xm_rules.specs.declared.settings.TheConstants.{PHASE_COMMANDS_MORE}
 use Rattle.xm_ticks.specs.declared.numbers.TheConstants.{MAX_JOURNAL_LIMIT, MAX_PRICE}
 
-accepted_is : (j : NumberedJournal) → (replay (unnumbered j)).accepted ≡ long j
+accepted_is : (j : NumberedJournal) → (replay (unnumbered j)).accepted ≡ version_of j
 unfolding replay
 accepted_is j =
     omega (arith, replay_from-accepted (opening j.settings) (map (λ (e : Entry). e.command) j.entries), length-map j.entries (λ (e : Entry). e.command))
 
-pub version_is : (j : NumberedJournal) → (quote_of j).version ≡ long j
+pub quote-version : (j : NumberedJournal) → (quote_of j).version ≡ version_of j
 unfolding quote_of
-version_is j = accepted_is j
+quote-version j = accepted_is j
 
 -- a lawful journal has no more commands than its limit and those that it takes of the phases
 abbrev HasRoom : DeskSettings → State → Type 0
@@ -41,8 +41,8 @@ room_kept : (settings : DeskSettings) (s : State) (c : Command) → refusal_of s
 room_kept settings s c h r =
     let limit = ap (λ (d : DeskSettings). d.limit) (step-settings s c) in (step-settings s c ∙ r.0, omega (arith, accepted-below s c h, step-accepted s c, limit))
 
-pub lawful_long : (j : NumberedJournal) → IsPublished j → long j < 2 ^ 32
-lawful_long j p =
+pub version_small : (j : NumberedJournal) → IsPublished j → version_of j < 2 ^ 32
+version_small j p =
     let room = lawful-has (HasRoom j.settings) (room_kept j.settings) (unnumbered j) p.lawful (refl, omega arith) in
     let limit : (replay (unnumbered j)).settings.limit ≡ j.settings.limit = ap (λ (d : DeskSettings). d.limit) room.0 in
     omega (arith, room.1, limit, p.limit, accepted_is j)

@@ -3,7 +3,7 @@ use Rattle.std.specs.Prelude.{◌≡◌, ℕ, ◌+◌, ◌-◌, ◌<◌, ◌≤�
 use mathlib.Core.List.{IsPrefix}
 use Rattle.xm_board.specs.declared.journal.Entry.{Entry}
 use Rattle.xm_board.specs.declared.journal.NumberedJournal.{NumberedJournal}
-use Rattle.xm_board.specs.declared.board.Known.{Known}
+use Rattle.xm_board.specs.declared.watch.Known.{Known}
 use Rattle.xm_rules.specs.Quote.{quote}
 use Rattle.xm_rules.specs.Step.{Journal, is_lawful, replay}
 use Rattle.xm_rules.specs.declared.commands.Command.{Command}
@@ -37,26 +37,37 @@ abbrev pub Begins : NumberedJournal → NumberedJournal → Type 0
 Begins j k = (j.settings ≡ k.settings) × IsPrefix j.entries k.entries
 
 -- the number of entries, which is the version of the journal
-abbrev pub long : NumberedJournal → ℕ
-long j = length j.entries
+abbrev pub version_of : NumberedJournal → ℕ
+version_of j = length j.entries
 
 -- own entries, each with its version: the versions rise from `from` on, and each entry stands at its version in what was seen, with the number
 abbrev pub Own : ℕ → List Entry → ℕ → List (ℕ × Entry) → Type 0
 Own number seen from [] = from ≤ length seen
 Own number seen from (x ∷ xs) = (from < x.0) × (slice_get seen (x.0 - 1) ≡ Some x.1) × (x.1.number ≡ number) × Own number seen x.0 xs
 
--- the version and the entry of the last one
-abbrev pub last_own : List Entry → ℕ → List (ℕ × Entry)
-last_own [] n = []
-last_own (e ∷ []) n = (n + 1, e) ∷ []
-last_own (e ∷ f ∷ es) n = last_own (f ∷ es) (n + 1)
+-- the version and the entry of the last one, where the first has the version after `n`
+abbrev pub last_own_in : List Entry → ℕ → List (ℕ × Entry)
+last_own_in [] n = []
+last_own_in (e ∷ []) n = (n + 1, e) ∷ []
+last_own_in (e ∷ f ∷ es) n = last_own_in (f ∷ es) (n + 1)
 
 -- the number of the watch that the last entry is for
-abbrev pub last_number : List Entry → ℕ
-last_number [] = 0
-last_number (e ∷ []) = e.number
-last_number (e ∷ f ∷ es) = last_number (f ∷ es)
+abbrev pub last_number_in : List Entry → ℕ
+last_number_in [] = 0
+last_number_in (e ∷ []) = e.number
+last_number_in (e ∷ f ∷ es) = last_number_in (f ∷ es)
+
+-- the last entry of a journal with its version, if it has one
+abbrev pub last_own : NumberedJournal → List (ℕ × Entry)
+last_own j = last_own_in j.entries 0
+
+abbrev pub last_number : NumberedJournal → ℕ
+last_number j = last_number_in j.entries
 
 -- what a watch knows: its number, the journal that it has seen, and its own entries with their versions
 abbrev pub known : ℕ → NumberedJournal → List (ℕ × Entry) → Known
-known number seen mine = record { number = number; seen = seen; mine = mine }
+known number seen own_entries = record { number = number; seen = seen; own_entries = own_entries }
+
+-- its own entries stand in what it has seen, with its number
+abbrev pub HasOwnEntries : Known → Type 0
+HasOwnEntries w = Own w.number w.seen.entries 0 w.own_entries

@@ -1,4 +1,5 @@
 pub mod Journals
+pub mod Opened
 pub mod Published
 pub mod Rule
 pub mod Words

@@ -1,68 +1,35 @@
 //! The board, its pen and its watches.
 ghost use Rattle.std.specs.Prelude.{◌≡◌, ◌+◌, ◌*◌, ◌<◌, ◌^◌, ◌++◌, ℕ, [], ◌∷◌, true, length, slice_index, slice_get, Some, IfOk, if◌then◌else◌};
-ghost use Rattle.xm_board.specs.Journals.{opening_of, entry_of, grown, known, quote_of, Begins, IsLawful, Own, long, last_number, last_own};
+ghost use Rattle.xm_board.specs.Journals.{opening_of, entry_of, grown, known, quote_of, Begins, IsLawful, Own, version_of, last_number, last_own};
 ghost use Rattle.xm_board.specs.Published.{words_of, IsPublished};
 ghost use Rattle.xm_board.specs.Rule.{Gathered, asking, with_next_number, opening_pen, shared_seen, shared_as, with_seen, with_stage};
 ghost use Rattle.xm_board.specs.declared.seats.Role.TheVariants.{Watch as watch_role, Pen as pen_role};
 ghost use Rattle.xm_board.specs.declared.seats.Stage.TheVariants.{Idle, Reading};
 
-use crate::journal::{Entry, NumberedJournal};
+use crate::journal::Entry;
+use crate::naming::BoardNaming;
+use crate::opened::{BoardSeat, Opened, QuoteTable};
+use crate::pen::Pen;
 use crate::rule::{
-    AskSeen, BeginWrite, BoardRule, CheckVersion, CompareSeen, EndWrite, MakeWatch, ReadVersion,
-    ReadWord, ShareLast, ShareSeen, TakeSeen, WriteWord,
+    AskSeen, BeginWrite, CompareSeen, EndWrite, MakeWatch, ReadWord, ShareLast, ShareSeen,
+    TakeSeen, WriteWord,
 };
-use crate::seats::View;
-use crate::words::{opening_words, quote_from, words_from};
-use atomic_table::{Seat, Table};
-use crossbeam_utils::Backoff;
+use crate::watch::Watch;
+use crate::words::words_from;
 use std::alloc::Allocator;
-use std::collections::LinkedList;
-use std::marker::{Brand, Model, PhantomData};
+use std::marker::{Model, PhantomData};
 use xm_memory::OutOfMemory;
-use xm_rules::{Command, DeskSettings, Quote};
-
-const ATTEMPTS: u32 = 32;
-
-/// Which board it is. Each call of a program picks it.
-pub trait Naming {
-    ghost use Rattle.atomic_table.specs.Seated.{TableId};
-
-    ghost table: { TableId };
-}
-
-impl Naming for Brand {
-    ghost use Rattle.xm_board.specs.Rule.{no_table};
-
-    ghost table = { no_table };
-}
-
-type QuoteTable<A> = Table<Entry, View, DeskSettings, BoardRule, A>;
-
-type BoardSeat = Seat<Entry, View>;
-
-/// A board that has no name yet.
-#[derive(Drop)]
-pub struct Opened<A: Allocator> {
-    pub table: QuoteTable<A>,
-    seat: BoardSeat,
-    pub settings: DeskSettings,
-    quote: Quote,
-    ghost wide: { table.shared.table_id.words ≡ 8 },
-    ghost same: { seat.table_id ≡ table.shared.table_id },
-    ghost fresh: { seat.me.0 ≡ opening_pen settings },
-    ghost quoted: { quote ≡ quote_of (opening_of settings) },
-    ghost published: { IsPublished (opening_of settings) },
-}
+use xm_rules::{Command, Quote};
 
 /// The cell of the quote. All threads share it.
 #[derive(Drop)]
-pub struct Board<N: Naming, A: Allocator> {
-    table: QuoteTable<A>,
+pub struct Board<N: BoardNaming, A: Allocator> {
+    pub(crate) table: QuoteTable<A>,
     of: PhantomData<N>,
 }
 
 // A model, and no ghost field: a struct above may hold a `Board<M>` where `M` is `Naming` by a generic impl.
-impl<N: Naming, A: Allocator> Model for Board<N, A> {
+impl<N: BoardNaming, A: Allocator> Model for Board<N, A> {
     ghost use Rattle.std.specs.Prelude.{◌≡◌};
 
     ghost Value = { Unit {0} };
@@ -72,88 +39,14 @@ impl<N: Naming, A: Allocator> Model for Board<N, A> {
     ghost invariant = { λ b. (b.table.shared.table_id ≡ N.table) × (b.table.shared.table_id.words ≡ 8) };
 }
 
-/// The one writer. A contract sees it as the journal that it has published.
-#[derive(Drop)]
-pub struct Pen<N: Naming> {
-    seat: BoardSeat,
-    last: Quote,
-    of: PhantomData<N>,
-}
-
-impl<N: Naming> Model for Pen<N> {
-    ghost use Rattle.std.specs.Prelude.{◌≡◌};
-    ghost use Rattle.xm_board.specs.declared.journal.NumberedJournal.{NumberedJournal};
-
-    ghost Value = { NumberedJournal };
-
-    ghost use Rattle.xm_board.specs.Journals.{quote_of};
-    ghost use Rattle.xm_board.specs.Published.{IsPublished};
-    ghost use Rattle.xm_board.specs.declared.seats.Role.TheVariants.{Pen as pen_role};
-    ghost use Rattle.xm_board.specs.declared.seats.Stage.TheVariants.{Idle};
-
-    ghost view = { λ p. p.seat.me.0.seen };
-
-    ghost invariant = { λ p. (p.seat.table_id ≡ N.table) × (p.seat.me.0.role ≡ pen_role) × (p.seat.me.0.stage ≡ Idle) × (p.last ≡ quote_of p.seat.me.0.seen) × IsPublished p.seat.me.0.seen };
-}
-
-/// What a watch knows. No value of it is made.
-pub struct Known {
-    pub number: u32,
-    pub seen: NumberedJournal,
-    pub mine: LinkedList<(u64, Entry)>,
-}
-
-/// A reader, with its own entries.
-#[derive(Drop)]
-pub struct Watch<N: Naming> {
-    seat: BoardSeat,
-    last: Quote,
-    number: u32,
-    of: PhantomData<N>,
-}
-
-impl<N: Naming> Model for Watch<N> {
-    ghost use Rattle.std.specs.Prelude.{◌≡◌};
-    ghost use Rattle.xm_board.specs.declared.board.Known.{Known};
-
-    ghost Value = { Known };
-
-    ghost use Rattle.xm_board.specs.Journals.{quote_of, Own};
-    ghost use Rattle.xm_board.specs.Published.{IsPublished};
-    ghost use Rattle.xm_board.specs.declared.seats.Role.TheVariants.{Watch as watch_role};
-
-    ghost view = { λ w. record { number = w.number; seen = w.seat.me.0.seen; mine = w.seat.me.0.mine } };
-
-    ghost invariant = { λ w. (w.seat.table_id ≡ N.table) × (w.seat.me.0.role ≡ watch_role) × (w.seat.me.0.number ≡ w.number) × (w.last ≡ quote_of w.seat.me.0.seen) × IsPublished w.seat.me.0.seen × Own w.number w.seat.me.0.seen.entries 0 w.seat.me.0.mine };
-}
-
-impl<A: Allocator> Opened<A> {
-    /// A board for these settings, with the quote of their opening state.
-    pub fn new(alloc: A, settings: &DeskSettings, quote: &Quote) -> Result<Opened<A>, OutOfMemory>
-        requires { quote.now ≡ quote_of (opening_of settings.now) }
-        ensures { IfOk result (λ o. o.settings ≡ settings.now) }
-    {
-        // The limit of a journal is in its range.
-        let _ = settings.limit.get();
-        let words = opening_words(quote);
-        let (table, seat) = Table::of_words(alloc, &words, settings)?;
-        Ok(Opened {
-            table,
-            seat,
-            settings: *settings,
-            quote: *quote,
-        })
-    }
-}
-
-impl<N: Naming, A: Allocator> Board<N, A> {
+impl<N: BoardNaming, A: Allocator> Board<N, A> {
     /// The board under its name, with its pen and its watches.
     pub fn open(
         alloc: A,
         opened: Opened<A>,
         watches: u32,
     ) -> Result<(Board<N, A>, Pen<N>, Vec<Watch<N>, A>), OutOfMemory>
-        requires { opened.table.shared.table_id ≡ N.table }
+        requires { opened.table ≡ N.table }
         ensures pen { IfOk result (λ o. o.1 ≡ opening_of opened.settings) }
         ensures count { IfOk result (λ o. length o.2.items ≡ watches) }
         ensures watches { IfOk result (λ o. (k : ℕ) (w : _) → slice_get o.2.items k ≡ Some w → w ≡ known k (opening_of opened.settings) []) }
@@ -162,7 +55,6 @@ impl<N: Naming, A: Allocator> Board<N, A> {
         let Opened {
             table,
             mut seat,
-            settings: _,
             quote,
         } = opened;
         let board = Board {
@@ -225,10 +117,10 @@ impl<N: Naming, A: Allocator> Board<N, A> {
 
     /// The watch has then seen all that the pen has published. With `own` the pen's last entry joins its own.
     pub fn tell(&self, pen: &mut Pen<N>, watch: &mut Watch<N>, own: bool)
-        requires { own ≡ true → (long watch.old.seen < long pen.old) × (last_number pen.old.entries ≡ watch.old.number) }
+        requires { own ≡ true → (version_of watch.old.seen < version_of pen.old) × (last_number pen.old ≡ watch.old.number) }
         ensures pen { pen.new ≡ pen.old }
         ensures before { Begins watch.old.seen pen.old }
-        ensures watch { watch.new ≡ known watch.old.number pen.old (watch.old.mine ++ (if own then last_own pen.old.entries 0 else [])) }
+        ensures watch { watch.new ≡ known watch.old.number pen.old (watch.old.own_entries ++ (if own then last_own pen.old else [])) }
     {
         self.compare(&mut pen.seat, &mut watch.seat);
         let told = self.share(&mut pen.seat, own);
@@ -239,7 +131,7 @@ impl<N: Naming, A: Allocator> Board<N, A> {
     }
 
     // The words after the version, which are those of one journal where the version is still the same.
-    fn gather(&self, seat: &mut BoardSeat) -> [u64; 7]
+    pub(crate) fn read_words(&self, seat: &mut BoardSeat) -> [u64; 7]
         requires seat { (seat.old.table_id ≡ N.table) × (seat.old.me.0.role ≡ watch_role) }
         requires reads { (first : _) × (last : _) × (seat.old.me.0.stage ≡ Reading first last) }
         ensures same { (seat.new.table_id ≡ seat.old.table_id) × (seat.new.me.0.role ≡ watch_role) }
@@ -254,20 +146,20 @@ impl<N: Naming, A: Allocator> Board<N, A> {
     }
 
     // Writes the words of the journal with one entry more.
-    fn write(&self, seat: &mut BoardSeat, version: u64, entry: &Entry, words: &[u64; 7])
+    fn write(&self, seat: &mut BoardSeat, sequence: u64, entry: &Entry, words: &[u64; 7])
         requires seat { (seat.old.table_id ≡ N.table) × (seat.old.me.0.role ≡ pen_role) × (seat.old.me.0.stage ≡ Idle) }
-        requires version { (version ≡ 2 * long seat.old.me.0.seen) × (version < 2 ^ 63) }
+        requires sequence { (sequence ≡ 2 * version_of seat.old.me.0.seen) × (sequence < 2 ^ 63) }
         requires published { IsPublished (grown seat.old.me.0.seen entry.now) }
         requires words { words.now ≡ words_of (grown seat.old.me.0.seen entry.now) }
         ensures same { seat.new.table_id ≡ seat.old.table_id }
-        ensures grown { seat.new.me.0 ≡ with_seen seat.old.me.0 (grown seat.old.me.0.seen entry.now) seat.old.me.0.mine }
+        ensures grown { seat.new.me.0 ≡ with_seen seat.old.me.0 (grown seat.old.me.0.seen entry.now) seat.old.me.0.own_entries }
     {
         let shared = &self.table.shared;
-        shared.compare_exchange_with::<BeginWrite>(seat, 0, version, version + 1, entry);
+        shared.compare_exchange_with::<BeginWrite>(seat, 0, sequence, sequence + 1, entry);
         for i in 0..7 {
             shared.store::<WriteWord>(seat, i + 1, words[i]);
         }
-        shared.store::<EndWrite>(seat, 0, version + 2);
+        shared.store::<EndWrite>(seat, 0, sequence + 2);
     }
 
     /// Adds an entry to the pen's journal. It takes no lock.
@@ -281,54 +173,8 @@ impl<N: Naming, A: Allocator> Board<N, A> {
             command: *command,
         };
         let words = words_from(quote);
-        let version = pen.last.version * 2;
-        self.write(&mut pen.seat, version, &entry, &words);
+        let sequence = pen.last.version * 2;
+        self.write(&mut pen.seat, sequence, &entry, &words);
         pen.last = *quote;
-    }
-}
-
-impl<N: Naming> Watch<N> {
-    /// Its place among the watches.
-    pub fn number(&self) -> u32
-        ensures number { result ≡ self.now.number }
-        ensures lawful { IsLawful self.now.seen }
-        ensures own { Own self.now.number self.now.seen.entries 0 self.now.mine }
-    {
-        self.number
-    }
-
-    // Whether no writer came between.
-    fn attempt<A: Allocator>(&mut self, board: &Board<N, A>) -> bool
-        ensures later { Begins self.old.seen self.new.seen }
-        ensures own { (self.new.mine ≡ self.old.mine) × (self.new.number ≡ self.old.number) }
-    {
-        let shared = &board.table.shared;
-        let version = shared.load::<ReadVersion>(&mut self.seat, 0);
-        if version % 2 != 0 {
-            return false;
-        }
-        let words = board.gather(&mut self.seat);
-        if shared.load::<CheckVersion>(&mut self.seat, 0) != version {
-            return false;
-        }
-        self.last = quote_from(&words);
-        true
-    }
-
-    /// The quote of a journal that begins with all that was seen. It takes no lock. Where a writer came between each time, it is the last one seen.
-    pub fn read<A: Allocator>(&mut self, board: &Board<N, A>) -> Quote
-        ensures quote { result ≡ quote_of self.new.seen }
-        ensures lawful { IsLawful self.new.seen }
-        ensures later { Begins self.old.seen self.new.seen }
-        ensures own { (self.new.mine ≡ self.old.mine) × (self.new.number ≡ self.old.number) }
-    {
-        let backoff = Backoff::new();
-        for _ in 0..ATTEMPTS {
-            if self.attempt(board) {
-                break;
-            }
-            backoff.spin();
-        }
-        self.last
     }
 }

@@ -1,13 +1,19 @@
-//! The quote cell of one security: one pen writes it, and watches read it without a lock.
+//! The quote of one security, which one pen writes and watches read without a lock.
 #![tactic(auto)]
 
 mod board;
 mod journal;
+mod naming;
+mod opened;
+mod pen;
 mod rule;
 mod seats;
+mod watch;
 mod words;
 
-pub use board::{Board, Known, Naming, Opened, Pen, Watch};
+pub use board::Board;
 pub use journal::{Entry, NumberedJournal};
-pub use rule::BoardRule;
-pub use seats::{Role, Stage, View};
+pub use naming::BoardNaming;
+pub use opened::Opened;
+pub use pen::Pen;
+pub use watch::{Known, Watch};

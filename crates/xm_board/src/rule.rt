@@ -15,12 +15,12 @@ impl TableRule<Entry, View, DeskSettings> for BoardRule {
     ghost first = { opening_pen };
 }
 
-pub(crate) struct ReadVersion;
+pub(crate) struct ReadSequence;
 
-impl Play<Entry, View> for ReadVersion {
-    ghost use Rattle.xm_board.specs.Rule.{ReadsVersion};
+impl Play<Entry, View> for ReadSequence {
+    ghost use Rattle.xm_board.specs.Rule.{ReadsSequence};
 
-    ghost then = { ReadsVersion };
+    ghost then = { ReadsSequence };
 }
 
 pub(crate) struct ReadWord;
@@ -32,13 +32,13 @@ impl Play<Entry, View> for ReadWord {
     ghost then = { ReadsWord words_of };
 }
 
-pub(crate) struct CheckVersion;
+pub(crate) struct CheckSequence;
 
-impl Play<Entry, View> for CheckVersion {
+impl Play<Entry, View> for CheckSequence {
     ghost use Rattle.xm_board.specs.Published.{IsPublished};
-    ghost use Rattle.xm_board.specs.Rule.{ChecksVersion};
+    ghost use Rattle.xm_board.specs.Rule.{ChecksSequence};
 
-    ghost then = { ChecksVersion IsPublished };
+    ghost then = { ChecksSequence IsPublished };
 }
 
 pub(crate) struct BeginWrite;

@@ -25,7 +25,7 @@ pub struct View {
     /// Of a watch. The pen has the number of the next watch.
     pub number: u64,
     pub seen: NumberedJournal,
-    pub mine: LinkedList<(u64, Entry)>,
+    pub own_entries: LinkedList<(u64, Entry)>,
     /// What the pen is asked about.
     pub asked: NumberedJournal,
     pub stage: Stage,

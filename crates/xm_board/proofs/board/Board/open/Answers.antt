@@ -4,6 +4,7 @@ use Rattle.xm_board.specs.Rule.{with_next_number}
 use Rattle.xm_board.specs.Journals.{opening_of}
 use Rattle.xm_board.specs.Journals.{known}
 use Rattle.xm_board.proofs.Prefixes.{get_push}
+use Rattle.xm_board.specs.Opened.{Unnamed}
 use Rattle.xm_board.specs.Published.{IsPublished}
 use Rattle.xm_board.specs.declared.seats.View.{View}
 use Rattle.xm_board.proofs.board.Board.open.Goals as goal
@@ -24,9 +25,12 @@ loop-number-preserved g c =
     )
 
 pub make_watch-requires-clause-published : goal.make_watch-requires-clause-published
-make_watch-requires-clause-published g c = subst (λ (v : View). IsPublished v.seen) (sym c.loop-number.invariant.1) c.args.opened.published
+make_watch-requires-clause-published g c =
+    let published = subst (λ (o : Unnamed). IsPublished (opening_of o.settings)) c.opened.view_is c.opened.invariant.4 in
+    subst (λ (v : View). IsPublished v.seen) (sym c.loop-number.invariant.1) published
 
 pub invariant_of-pen : goal.invariant_of-pen
 invariant_of-pen g c =
     let i = c.loop-number.invariant in
-    (i.0, ap (λ (v : View). v.role) i.1, ap (λ (v : View). v.stage) i.1, search rules, subst (λ (v : View). IsPublished v.seen) (sym i.1) c.args.opened.published)
+    let published = subst (λ (o : Unnamed). IsPublished (opening_of o.settings)) c.opened.view_is c.opened.invariant.4 in
+    (i.0, ap (λ (v : View). v.role) i.1, ap (λ (v : View). v.stage) i.1, search rules, subst (λ (v : View). IsPublished v.seen) (sym i.1) published)

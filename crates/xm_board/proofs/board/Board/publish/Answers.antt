@@ -1,25 +1,25 @@
 use Rattle.std.proofs.Common.{◌≡◌, ◌<◌, ◌^◌, ◌∙◌, ap, sym, subst, arith}
-use Rattle.xm_board.specs.Journals.{IsLawful, entry_of, grown, long, quote_of}
+use Rattle.xm_board.specs.Journals.{IsLawful, entry_of, grown, version_of, quote_of}
 use Rattle.xm_board.specs.declared.journal.Entry.{Entry}
 use Rattle.xm_board.specs.declared.journal.NumberedJournal.{NumberedJournal}
 use Rattle.xm_rules.specs.declared.replies.Quote.{Quote}
-use Rattle.xm_board.proofs.Quotes.{version_is, lawful_long, published_grown}
+use Rattle.xm_board.proofs.Quotes.{quote-version, version_small, published_grown}
 use Rattle.xm_board.proofs.board.Board.publish.Goals as goal
 
-pub overflow_mul-version : goal.overflow_mul-version
-overflow_mul-version g c =
+pub overflow_mul-sequence : goal.overflow_mul-sequence
+overflow_mul-sequence g c =
     let i = c.pen.invariant in
     let seen = c.pen.inside.seat.me.0.seen in
-    let v : c.pen.inside.last.version ≡ long seen = ap (λ (q : Quote). q.version) i.3 ∙ version_is seen in
-    let l : long seen < 2 ^ 32 = lawful_long seen i.4 in
+    let v : c.pen.inside.last.version ≡ version_of seen = ap (λ (q : Quote). q.version) i.3 ∙ quote-version seen in
+    let l : version_of seen < 2 ^ 32 = version_small seen i.4 in
     omega arith
 
-pub write-requires-clause-version : goal.write-requires-clause-version
-write-requires-clause-version g c =
+pub write-requires-clause-sequence : goal.write-requires-clause-sequence
+write-requires-clause-sequence g c =
     let i = c.pen.invariant in
     let seen = c.pen.inside.seat.me.0.seen in
-    let v : c.pen.inside.last.version ≡ long seen = ap (λ (q : Quote). q.version) i.3 ∙ version_is seen in
-    let l : long seen < 2 ^ 32 = lawful_long seen i.4 in
+    let v : c.pen.inside.last.version ≡ version_of seen = ap (λ (q : Quote). q.version) i.3 ∙ quote-version seen in
+    let l : version_of seen < 2 ^ 32 = version_small seen i.4 in
     (omega arith, omega arith)
 
 pub write-requires-clause-published : goal.write-requires-clause-published

@@ -1,10 +1,10 @@
 use Rattle.std.proofs.Common.{rules, ◌≡◌, ◌<◌, ℕ, ◌++◌, true, ◌∙◌, ap, sym, subst}
 use Rattle.xm_board.specs.Journals.{quote_of}
 use Rattle.xm_board.specs.Published.{IsPublished, words_of}
-use Rattle.xm_board.specs.Journals.{Own, long, last_number}
+use Rattle.xm_board.specs.Journals.{Own, version_of, last_number_in}
 use Rattle.xm_board.specs.Rule.{taking, shared_as}
 use Rattle.xm_board.specs.declared.journal.NumberedJournal.{NumberedJournal}
-use Rattle.xm_board.specs.declared.board.Known.{Known}
+use Rattle.xm_board.specs.declared.watch.Known.{Known}
 use Rattle.xm_board.specs.declared.seats.View.{View}
 use Rattle.xm_board.proofs.Steps.{takes_seen}
 use Rattle.xm_board.proofs.Prefixes.{told}
@@ -19,10 +19,10 @@ join_seat-requires g c =
     let i = c.watch.invariant in
     let s = c.share-told.ensures.shared in
     let w = c.compare.ensures.watch.1 in
-    let asked : own ≡ true → (long watch.seen < long pen.seen) × (last_number pen.seen.entries ≡ c.watch.inside.number) = subst (λ (z : Known × NumberedJournal). own ≡ true → (long z.0.seen < long z.1) × (last_number z.1.entries ≡ z.0.number)) (λ i. (sym c.watch.view_is i, sym c.pen.view_is i)) c.requires in
+    let asked : own ≡ true → (version_of watch.seen < version_of pen.seen) × (last_number_in pen.seen.entries ≡ c.watch.inside.number) = subst (λ (z : Known × NumberedJournal). own ≡ true → (version_of z.0.seen < version_of z.1) × (last_number_in z.1.entries ≡ z.0.number)) (λ i. (sym c.watch.view_is i, sym c.pen.view_is i)) c.requires in
     let t = told own c.watch.inside.number pen watch e (ap (λ m. m.0) s.1 ∙ ap (shared_as own) c.compare.ensures.pen.1) c.compare.ensures.begins asked i.5 in
-    let mine : Own c.compare.new.watch.me.0.number e.seen.entries 0 (c.compare.new.watch.me.0.mine ++ e.mine) = subst (λ (v : View). Own v.number e.seen.entries 0 (v.mine ++ e.mine)) (sym w) (subst (λ (n : ℕ). Own n e.seen.entries 0 (watch.mine ++ e.mine)) (sym i.2) t.3) in
-    (search rules, search rules, ap (λ m. m.1) s.1, search rules, takes_seen IsPublished words_of 7 _ _ _ _ (ap (λ (v : View). v.role) w ∙ i.1) t.0 mine)
+    let own_entries : Own c.compare.new.watch.me.0.number e.seen.entries 0 (c.compare.new.watch.me.0.own_entries ++ e.own_entries) = subst (λ (v : View). Own v.number e.seen.entries 0 (v.own_entries ++ e.own_entries)) (sym w) (subst (λ (n : ℕ). Own n e.seen.entries 0 (watch.own_entries ++ e.own_entries)) (sym i.2) t.3) in
+    (search rules, search rules, ap (λ m. m.1) s.1, search rules, takes_seen IsPublished words_of 7 _ _ _ _ (ap (λ (v : View). v.role) w ∙ i.1) t.0 own_entries)
 
 pub invariant_of-watch : goal.invariant_of-watch
 invariant_of-watch g c =
@@ -34,7 +34,7 @@ invariant_of-watch g c =
     let p = c.pen.invariant in
     let s = c.share-told.ensures.shared in
     let j = c.join_seat.ensures in
-    let asked : own ≡ true → (long watch.seen < long pen.seen) × (last_number pen.seen.entries ≡ c.watch.inside.number) = subst (λ (z : Known × NumberedJournal). own ≡ true → (long z.0.seen < long z.1) × (last_number z.1.entries ≡ z.0.number)) (λ i. (sym c.watch.view_is i, sym c.pen.view_is i)) c.requires in
+    let asked : own ≡ true → (version_of watch.seen < version_of pen.seen) × (last_number_in pen.seen.entries ≡ c.watch.inside.number) = subst (λ (z : Known × NumberedJournal). own ≡ true → (version_of z.0.seen < version_of z.1) × (last_number_in z.1.entries ≡ z.0.number)) (λ i. (sym c.watch.view_is i, sym c.pen.view_is i)) c.requires in
     let t = told own c.watch.inside.number pen watch e (ap (λ m. m.0) s.1 ∙ ap (shared_as own) c.compare.ensures.pen.1) c.compare.ensures.begins asked i.5 in
     let now : c.join_seat.new.seat.me.0 ≡ taking watch e = ap (λ m. m.0) j.2 ∙ ap (λ (v : View). taking v e) c.compare.ensures.watch.1 in
     let seen : c.join_seat.new.seat.me.0.seen ≡ pen.seen = ap (λ (v : View). v.seen) now ∙ t.1 in (
@@ -43,5 +43,5 @@ invariant_of-watch g c =
       ap (λ (v : View). v.number) now ∙ i.2,
       p.3 ∙ ap quote_of (sym seen),
       subst IsPublished (sym seen) p.4,
-      subst (λ (v : View). Own c.watch.inside.number v.seen.entries 0 v.mine) (sym now) t.3,
+      subst (λ (v : View). Own c.watch.inside.number v.seen.entries 0 v.own_entries) (sym now) t.3,
     )

@@ -4,13 +4,13 @@ use Rattle.xm_board.specs.Published.{IsPublished, words_of}
 use Rattle.xm_board.specs.declared.seats.View.{View}
 use Rattle.xm_board.specs.declared.seats.Stage.TheVariants.{Writing}
 use Rattle.xm_board.proofs.Steps.{begins_write, writes_word, ends_write}
-use Rattle.xm_board.proofs.Gathering.{begins_grown, long-grown}
+use Rattle.xm_board.proofs.Gathering.{begins_grown, version-grown}
 use Rattle.xm_board.proofs.board.Board.write.Goals as goal
 
 pub compare_exchange_with-requires : goal.compare_exchange_with-requires
 compare_exchange_with-requires g c =
     let s = c.requires.seat in
-    (search rules, search rules, begins_write IsPublished words_of 7 _ _ _ _ _ c.args.entry.now s.1 s.2 c.requires.version.0 refl (begins_grown c.args.seat.now.me.0.seen c.args.entry.now) (long-grown c.args.seat.now.me.0.seen c.args.entry.now) c.requires.published)
+    (search rules, search rules, begins_write IsPublished words_of 7 _ _ _ _ _ c.args.entry.now s.1 s.2 c.requires.sequence.0 refl (begins_grown c.args.seat.now.me.0.seen c.args.entry.now) (version-grown c.args.seat.now.me.0.seen c.args.entry.now) c.requires.published)
 
 pub store-requires : goal.store-requires
 store-requires g c =

@@ -4,7 +4,7 @@ use Rattle.xm_board.specs.Rule.{Gathered}
 use Rattle.xm_board.specs.declared.seats.View.{View}
 use Rattle.xm_board.proofs.Steps.{reads_word}
 use Rattle.xm_board.proofs.Gathering.{gathers_none, gathers_one}
-use Rattle.xm_board.proofs.board.Board.gather.Goals as goal
+use Rattle.xm_board.proofs.board.Board.read_words.Goals as goal
 
 pub loop-i-init : goal.loop-i-init
 loop-i-init g c = (search rules, search rules, search rules, search (rules, gathers_none))

@@ -1,6 +1,0 @@
-use Rattle.std.proofs.Common.{◌≡◌}
-use Rattle.xm_board.specs.Journals.{Begins}
-use Rattle.xm_board.proofs.board.Watch.read.Given as goal
-
-abbrev pub invariant-loop : goal.invariant-loop
-invariant-loop g l = Begins l.initial.self.seen l.self.seen × (l.self.mine ≡ l.initial.self.mine) × (l.self.number ≡ l.initial.self.number)
