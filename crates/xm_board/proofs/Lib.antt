@@ -1,4 +1,4 @@
-pub mod Gathering
+pub mod Reading
 pub mod Prefixes
 pub mod Quotes
 pub mod Steps

@@ -1,4 +1,4 @@
--- The rule of the board's words, and what each step tells.
+-- The rule of the board's words, which holds at every moment, and what each step tells.
 -- Word 0 is the sequence: twice the version of the pen's journal, and 1 more while the pen writes the words of the next one. It never goes down.
 use Rattle.std.specs.Prelude.{◌≡◌, ◌≢◌, ℕ, ◌+◌, ◌-◌, ◌*◌, ◌%◌, ◌<◌, ◌≤◌, ◌++◌, List, [], ◌∷◌, length, slice_index, Bool, if◌then◌else◌}
 use mathlib.Core.Option.{Option, none, some}
@@ -39,7 +39,10 @@ module _ (Lawful : NumberedJournal → Type 0) (words : NumberedJournal → List
       × ((i : ℕ) → i < k → slice_index ws (i + 1) ≡ slice_index (words next) i)
       × ((i : ℕ) → k ≤ i → i < n → slice_index ws (i + 1) ≡ slice_index (words j) i)
 
+-- What holds at every moment. One seat is the pen's, whose journal is published. The words are the sequence and those of the quote of that
+-- journal, or, while the pen writes, some of the next one's; each other seat has seen a beginning of the journal.
 pub record Kept (Lawful : NumberedJournal → Type 0) (words : NumberedJournal → List ℕ) (n : ℕ) (s : State Entry View) : Type 0 where
+  -- the pen's seat and its view
   pub pen : ℕ
   pub held : View
   pub there : get_elem? s.views pen ≡ some held
@@ -50,7 +53,7 @@ pub record Kept (Lawful : NumberedJournal → Type 0) (words : NumberedJournal �
   pub laid : Laid Lawful words n s.words held.seen held.stage
   pub others : (j : ℕ) (d : View) → j ≢ pen → get_elem? s.views j ≡ some d → Knows Lawful words n held.seen (slice_index s.words 0) d
 
--- views
+-- what the pen knows at the opening
 abbrev pub opening_pen : DeskSettings → View
 opening_pen s = record { role = Pen; number = 0; seen = opening_of s; own_entries = []; asked = opening_of s; stage = Idle }
 
@@ -103,13 +106,13 @@ with_seen d j m = record { role = d.role; number = d.number; seen = j; own_entri
 abbrev pub ReadsSequence : Step Entry → Sat → ℕ → Sat → Type 0
 ReadsSequence st m r m' = (stage : Stage) × (m'.0 ≡ with_stage m.0 stage) × (r % 2 ≡ 0 → (first : NumberedJournal) × (stage ≡ Reading first r) × (r ≡ 2 * version_of first))
 
--- a watch has read a word, which is right if nothing was written since the sequence was read
+-- a watch has read a word, which is that of the journal read first if the sequence is still no greater
 abbrev pub ReadsWord : (NumberedJournal → List ℕ) → Step Entry → Sat → ℕ → Sat → Type 0
 ReadsWord words st m r m' =
     (first : NumberedJournal) (last : ℕ) → m.0.stage ≡ Reading first last
     → (now : ℕ) × (m'.0 ≡ with_stage m.0 (Reading first now)) × (now ≤ 2 * version_of first → (last ≤ 2 * version_of first) × (r ≡ slice_index (words first) (st.word - 1)))
 
--- a watch has read the sequence again
+-- a watch has read the sequence again: where it is still that of the journal read first, the watch has seen that journal
 abbrev pub ChecksSequence : (NumberedJournal → Type 0) → Step Entry → Sat → ℕ → Sat → Type 0
 ChecksSequence Lawful st m r m' =
     (first : NumberedJournal) (last : ℕ) → m.0.stage ≡ Reading first last
@@ -127,6 +130,7 @@ next_of j e = record { settings = j.settings; entries = j.entries ++ said_list e
 abbrev pub BeginsWrite : Step Entry → Sat → ℕ → Sat → Type 0
 BeginsWrite st m r m' = m'.0 ≡ with_stage m.0 (Writing (next_of m.0.seen st.said) 0)
 
+-- the pen has written a word more
 abbrev pub WritesWord : Step Entry → Sat → ℕ → Sat → Type 0
 WritesWord st m r m' = (next : NumberedJournal) (k : ℕ) → m.0.stage ≡ Writing next k → m'.0 ≡ with_stage m.0 (Writing next (k + 1))
 
@@ -134,12 +138,12 @@ WritesWord st m r m' = (next : NumberedJournal) (k : ℕ) → m.0.stage ≡ Writ
 abbrev pub EndsWrite : Step Entry → Sat → ℕ → Sat → Type 0
 EndsWrite st m r m' = (next : NumberedJournal) (k : ℕ) → m.0.stage ≡ Writing next k → m'.0 ≡ with_seen m.0 next m.0.own_entries
 
--- the pen compares_seen what it was asked with its journal
+-- the pen finds that what it was asked about is a beginning of its journal
 abbrev pub ComparesSeen : Step Entry → Sat → ℕ → Sat → Type 0
 ComparesSeen st m r m' = (m'.0 ≡ m.0) × Begins m.0.asked m.0.seen
 
--- the words read so far are right, if nothing was written since the sequence was read
-abbrev pub Gathered : (NumberedJournal → List ℕ) → ℕ → List ℕ → View → View → Type 0
-Gathered words count bits v w =
+-- the words read so far are those of the journal read first, if the sequence is still no greater
+abbrev pub AreReadWords : (NumberedJournal → List ℕ) → ℕ → List ℕ → View → View → Type 0
+AreReadWords words count bits v w =
     (first : NumberedJournal) (last : ℕ) → v.stage ≡ Reading first last
     → (now : ℕ) × (w ≡ with_stage v (Reading first now)) × (now ≤ 2 * version_of first → (last ≤ 2 * version_of first) × ((i : ℕ) → i < count → slice_index bits i ≡ slice_index (words first) i))

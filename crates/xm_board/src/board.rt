@@ -1,9 +1,9 @@
-//! The board, its pen and its watches.
-ghost use Rattle.std.specs.Prelude.{◌≡◌, ◌+◌, ◌*◌, ◌<◌, ◌^◌, ◌++◌, ℕ, [], ◌∷◌, true, length, slice_index, slice_get, Some, IfOk, if◌then◌else◌};
-ghost use Rattle.xm_board.specs.Journals.{opening_of, entry_of, grown, known, quote_of, Begins, IsLawful, Own, version_of, last_number, last_own};
-ghost use Rattle.xm_board.specs.Published.{words_of, IsPublished};
-ghost use Rattle.xm_board.specs.Rule.{Gathered, asking, with_next_number, opening_pen, shared_seen, shared_as, with_seen, with_stage};
-ghost use Rattle.xm_board.specs.declared.seats.Role.TheVariants.{Watch as watch_role, Pen as pen_role};
+//! The board: how it is opened, written, and told of.
+ghost use Rattle.std.specs.Prelude.{◌≡◌, ◌*◌, ◌<◌, ◌^◌, ◌++◌, ℕ, [], true, length, slice_get, Some, IfOk, if◌then◌else◌};
+ghost use Rattle.xm_board.specs.Journals.{Begins, IsLawful, entry_of, grown, known, last_number, last_own, opening_of, quote_of, version_of};
+ghost use Rattle.xm_board.specs.Published.{IsPublished, words_of};
+ghost use Rattle.xm_board.specs.Rule.{AreReadWords, asking, shared_as, shared_seen, with_next_number, with_seen};
+ghost use Rattle.xm_board.specs.declared.seats.Role.TheVariants.{Pen as pen_role, Watch as watch_role};
 ghost use Rattle.xm_board.specs.declared.seats.Stage.TheVariants.{Idle, Reading};
 
 use crate::journal::Entry;
@@ -21,14 +21,14 @@ use std::marker::{Model, PhantomData};
 use xm_memory::OutOfMemory;
 use xm_rules::{Command, Quote};
 
-/// The cell of the quote. All threads share it.
+/// The quote of one security, in words that all threads share.
 #[derive(Drop)]
 pub struct Board<N: BoardNaming, A: Allocator> {
     pub(crate) table: QuoteTable<A>,
     of: PhantomData<N>,
 }
 
-// A model, and no ghost field: a struct above may hold a `Board<M>` where `M` is `Naming` by a generic impl.
+// A model, and no ghost field: a struct above may then hold a board whose name it gives by a generic `impl`.
 impl<N: BoardNaming, A: Allocator> Model for Board<N, A> {
     ghost use Rattle.std.specs.Prelude.{◌≡◌};
 
@@ -40,13 +40,14 @@ impl<N: BoardNaming, A: Allocator> Model for Board<N, A> {
 }
 
 impl<N: BoardNaming, A: Allocator> Board<N, A> {
-    /// The board under its name, with its pen and its watches.
+    /// The board under its name, with its one pen and as many watches as asked, each with its place in the list as its number.
+    /// Nothing is published, seen or own. It fails where the memory of the list is refused.
     pub fn open(
         alloc: A,
         opened: Opened<A>,
         watches: u32,
     ) -> Result<(Board<N, A>, Pen<N>, Vec<Watch<N>, A>), OutOfMemory>
-        requires { opened.table ≡ N.table }
+        requires named { opened.table ≡ N.table }
         ensures pen { IfOk result (λ o. o.1 ≡ opening_of opened.settings) }
         ensures count { IfOk result (λ o. length o.2.items ≡ watches) }
         ensures watches { IfOk result (λ o. (k : ℕ) (w : _) → slice_get o.2.items k ≡ Some w → w ≡ known k (opening_of opened.settings) []) }
@@ -72,7 +73,7 @@ impl<N: BoardNaming, A: Allocator> Board<N, A> {
         Ok((board, pen, row))
     }
 
-    // The pen makes the next watch.
+    /// The next watch. It has seen what the pen has.
     fn make_watch(&self, seat: &mut BoardSeat, number: u32, quote: &Quote) -> Watch<N>
         requires seat { (seat.old.table_id ≡ N.table) × (seat.old.me.0.role ≡ pen_role) × (seat.old.me.0.number ≡ number) }
         requires quote { quote.now ≡ quote_of seat.old.me.0.seen }
@@ -89,7 +90,7 @@ impl<N: BoardNaming, A: Allocator> Board<N, A> {
         }
     }
 
-    // What the pen has seen, for a watch.
+    /// What the pen has seen, to be joined to what a watch has; with `own` also its last entry.
     fn share(&self, seat: &mut BoardSeat, own: bool) -> BoardSeat
         requires { (seat.old.table_id ≡ N.table) × (seat.old.me.0.role ≡ pen_role) }
         ensures same { (seat.new.table_id ≡ seat.old.table_id) × (seat.new.id ≡ seat.old.id) × (seat.new.me.0 ≡ seat.old.me.0) }
@@ -102,7 +103,7 @@ impl<N: BoardNaming, A: Allocator> Board<N, A> {
         }
     }
 
-    // The pen finds that the watch has seen a beginning of its journal.
+    /// Finds that the watch has seen a beginning of the pen's journal. The pen is asked, and looks at the sequence once.
     fn compare(&self, pen: &mut BoardSeat, watch: &mut BoardSeat)
         requires pen { (pen.old.table_id ≡ N.table) × (pen.old.me.0.role ≡ pen_role) }
         requires watch { (watch.old.table_id ≡ N.table) × (watch.old.me.0.role ≡ watch_role) }
@@ -115,9 +116,10 @@ impl<N: BoardNaming, A: Allocator> Board<N, A> {
         self.table.shared.load::<CompareSeen>(pen, 0);
     }
 
-    /// The watch has then seen all that the pen has published. With `own` the pen's last entry joins its own.
+    /// Tells a watch of all that the pen has published. With `own` the last entry joins the watch's own entries: it is for that
+    /// watch, which had not seen it. It takes no lock and no memory.
     pub fn tell(&self, pen: &mut Pen<N>, watch: &mut Watch<N>, own: bool)
-        requires { own ≡ true → (version_of watch.old.seen < version_of pen.old) × (last_number pen.old ≡ watch.old.number) }
+        requires own { own ≡ true → (version_of watch.old.seen < version_of pen.old) × (last_number pen.old ≡ watch.old.number) }
         ensures pen { pen.new ≡ pen.old }
         ensures before { Begins watch.old.seen pen.old }
         ensures watch { watch.new ≡ known watch.old.number pen.old (watch.old.own_entries ++ (if own then last_own pen.old else [])) }
@@ -130,13 +132,13 @@ impl<N: BoardNaming, A: Allocator> Board<N, A> {
         watch.last = pen.last;
     }
 
-    // The words after the version, which are those of one journal where the version is still the same.
+    /// The words of the quote as they are read, which are those of one journal where the sequence hasn't changed since.
     pub(crate) fn read_words(&self, seat: &mut BoardSeat) -> [u64; 7]
         requires seat { (seat.old.table_id ≡ N.table) × (seat.old.me.0.role ≡ watch_role) }
         requires reads { (first : _) × (last : _) × (seat.old.me.0.stage ≡ Reading first last) }
         ensures same { (seat.new.table_id ≡ seat.old.table_id) × (seat.new.me.0.role ≡ watch_role) }
         ensures count { length result ≡ 7 }
-        ensures words { Gathered words_of 7 result seat.old.me.0 seat.new.me.0 }
+        ensures words { AreReadWords words_of 7 result seat.old.me.0 seat.new.me.0 }
     {
         let mut words = [0u64; 7];
         for i in 0..7 {
@@ -145,7 +147,7 @@ impl<N: BoardNaming, A: Allocator> Board<N, A> {
         words
     }
 
-    // Writes the words of the journal with one entry more.
+    /// Writes the words of the journal with one entry more. The sequence is odd while they are written.
     fn write(&self, seat: &mut BoardSeat, sequence: u64, entry: &Entry, words: &[u64; 7])
         requires seat { (seat.old.table_id ≡ N.table) × (seat.old.me.0.role ≡ pen_role) × (seat.old.me.0.stage ≡ Idle) }
         requires sequence { (sequence ≡ 2 * version_of seat.old.me.0.seen) × (sequence < 2 ^ 63) }
@@ -162,7 +164,8 @@ impl<N: BoardNaming, A: Allocator> Board<N, A> {
         shared.store::<EndWrite>(seat, 0, sequence + 2);
     }
 
-    /// Adds an entry to the pen's journal. It takes no lock.
+    /// Publishes a command that keeps the journal lawful, with the number of the watch that it is for, and the quote of the state
+    /// after it. It takes no lock and no memory.
     pub fn publish(&self, pen: &mut Pen<N>, number: u32, command: &Command, quote: &Quote)
         requires lawful { IsLawful (grown pen.old (entry_of number command.now)) }
         requires quote { quote.now ≡ quote_of (grown pen.old (entry_of number command.now)) }

@@ -1,9 +1,10 @@
-//! The rule of the board's table, and its steps.
+//! The rule of the board's words, and the steps of the pen and the watches.
 use crate::journal::Entry;
 use crate::seats::View;
 use atomic_table::{Join, Play, Split, TableRule};
 use xm_rules::DeskSettings;
 
+/// The words are those of the quote of the journal that the pen has published, at every moment at which it doesn't write.
 pub struct BoardRule;
 
 impl TableRule<Entry, View, DeskSettings> for BoardRule {
@@ -15,6 +16,7 @@ impl TableRule<Entry, View, DeskSettings> for BoardRule {
     ghost first = { opening_pen };
 }
 
+/// A watch reads the sequence.
 pub(crate) struct ReadSequence;
 
 impl Play<Entry, View> for ReadSequence {
@@ -23,6 +25,7 @@ impl Play<Entry, View> for ReadSequence {
     ghost then = { ReadsSequence };
 }
 
+/// A watch reads a word of the quote.
 pub(crate) struct ReadWord;
 
 impl Play<Entry, View> for ReadWord {
@@ -32,6 +35,7 @@ impl Play<Entry, View> for ReadWord {
     ghost then = { ReadsWord words_of };
 }
 
+/// A watch reads the sequence again.
 pub(crate) struct CheckSequence;
 
 impl Play<Entry, View> for CheckSequence {
@@ -41,6 +45,7 @@ impl Play<Entry, View> for CheckSequence {
     ghost then = { ChecksSequence IsPublished };
 }
 
+/// The pen makes the sequence odd.
 pub(crate) struct BeginWrite;
 
 impl Play<Entry, View> for BeginWrite {
@@ -49,6 +54,7 @@ impl Play<Entry, View> for BeginWrite {
     ghost then = { BeginsWrite };
 }
 
+/// The pen writes a word of the quote.
 pub(crate) struct WriteWord;
 
 impl Play<Entry, View> for WriteWord {
@@ -57,6 +63,7 @@ impl Play<Entry, View> for WriteWord {
     ghost then = { WritesWord };
 }
 
+/// The pen makes the sequence even.
 pub(crate) struct EndWrite;
 
 impl Play<Entry, View> for EndWrite {
@@ -65,6 +72,7 @@ impl Play<Entry, View> for EndWrite {
     ghost then = { EndsWrite };
 }
 
+/// The pen compares what it was asked about with its journal.
 pub(crate) struct CompareSeen;
 
 impl Play<Entry, View> for CompareSeen {
@@ -117,7 +125,7 @@ impl Join<View> for AskSeen {
     ghost spent = { spent_of };
 }
 
-/// A watch takes in what the pen shows.
+/// A watch takes in what the pen shares.
 pub(crate) struct TakeSeen;
 
 impl Join<View> for TakeSeen {

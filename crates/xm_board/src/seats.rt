@@ -1,32 +1,36 @@
-//! What each seat at a board's table knows. Only clauses speak of it.
+//! What the pen and each watch know, as the rule of the board's words has it. Only clauses speak of it: no value of it is made.
 use crate::journal::{Entry, NumberedJournal};
 use std::collections::LinkedList;
 
-/// What a seat is about to do.
+/// What the pen or a watch is doing.
 pub enum Stage {
     Idle,
-    /// A watch that reads: the journal at the version that it read first, and the last version known.
+    /// A watch reads: the journal at the sequence that it read first, and the last sequence known.
     Reading(NumberedJournal, u64),
-    /// A pen that writes: the journal with one entry more, and how many of its words are written.
+    /// The pen writes: the journal with one entry more, and how many of its words are written.
     Writing(NumberedJournal, u64),
 }
 
+/// Whose a view is.
 pub enum Role {
+    /// The one writer.
     Pen,
-    /// A watch, or what is shared_seen to one.
+    /// A watch, or what is shared with one.
     Watch,
-    /// It was joined to another.
+    /// What was joined to another, and is of no more use.
     Spent,
 }
 
-/// What a seat knows. No value of it is made.
+/// What the pen or a watch knows.
 pub struct View {
     pub role: Role,
-    /// Of a watch. The pen has the number of the next watch.
+    /// The number of a watch; the pen has that of the next one.
     pub number: u64,
+    /// The journal that a watch has seen, and that the pen has published.
     pub seen: NumberedJournal,
+    /// The own entries of a watch, with their versions.
     pub own_entries: LinkedList<(u64, Entry)>,
-    /// What the pen is asked about.
+    /// What a watch had seen of which the pen was asked last.
     pub asked: NumberedJournal,
     pub stage: Stage,
 }

@@ -8,7 +8,7 @@ use Rattle.xm_board.specs.declared.seats.View.{View}
 use Rattle.xm_board.specs.declared.seats.Stage.TheVariants.{Reading}
 use Rattle.xm_board.specs.Journals.{grown}
 use Rattle.xm_board.specs.Journals.{Begins, version_of}
-use Rattle.xm_board.specs.Rule.{with_stage, Gathered}
+use Rattle.xm_board.specs.Rule.{with_stage, AreReadWords}
 
 pub begins_grown : (j : NumberedJournal) (e : Entry) → Begins j (grown j e)
 begins_grown j e = (refl, (e ∷ [], refl))
@@ -16,13 +16,13 @@ begins_grown j e = (refl, (e ∷ [], refl))
 pub version-grown : (j : NumberedJournal) (e : Entry) → version_of (grown j e) ≡ version_of j + 1
 version-grown j e = length-append j.entries (e ∷ [])
 
-pub gathers_none : (words : NumberedJournal → List ℕ) (bits : List ℕ) (v : View) → Gathered words 0 bits v v
-gathers_none words bits v first last e = (last, ap (with_stage v) e, λ l. (l, λ i none. absurd (omega arith)))
+pub reads_none : (words : NumberedJournal → List ℕ) (bits : List ℕ) (v : View) → AreReadWords words 0 bits v v
+reads_none words bits v first last e = (last, ap (with_stage v) e, λ l. (l, λ i none. absurd (omega arith)))
 
-pub gathers_one : (words : NumberedJournal → List ℕ) (bits : List ℕ) (i r : ℕ) (a b c : View) → i < length bits → Gathered words i bits a b
+pub reads_one : (words : NumberedJournal → List ℕ) (bits : List ℕ) (i r : ℕ) (a b c : View) → i < length bits → AreReadWords words i bits a b
     → ((first : NumberedJournal) (last : ℕ) → b.stage ≡ Reading first last → (now : ℕ) × (c ≡ with_stage b (Reading first now)) × (now ≤ 2 * version_of first → (last ≤ 2 * version_of first) × (r ≡ get_or (words first) ((i + 1) - 1) 0)))
-    → Gathered words (i + 1) (set bits i r) a c
-gathers_one words bits i r a b c inside f g first last e =
+    → AreReadWords words (i + 1) (set bits i r) a c
+reads_one words bits i r a b c inside f g first last e =
     let p = f first last e in
     let q = g first p.0 (ap (λ (v : View). v.stage) p.1) in (
       q.0,
