@@ -1,4 +1,5 @@
-pub mod Reading
+pub mod Crosses
 pub mod Prefixes
 pub mod Quotes
+pub mod Reading
 pub mod Steps
