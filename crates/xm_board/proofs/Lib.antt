@@ -1,5 +1,7 @@
 pub mod Crosses
+pub mod OwnEntries
 pub mod Prefixes
-pub mod Quotes
-pub mod Reading
-pub mod Steps
+pub mod Publishing
+mod Quotes
+mod Reading
+mod Steps

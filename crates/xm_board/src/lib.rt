@@ -3,6 +3,7 @@
 
 mod board;
 mod journal;
+pub mod laws;
 mod naming;
 mod opened;
 mod pen;
