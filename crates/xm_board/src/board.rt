@@ -5,6 +5,7 @@ ghost use Rattle.xm_board.specs.Published.{IsPublished, words_of};
 ghost use Rattle.xm_board.specs.Rule.{AreReadWords, asking, shared_as, shared_seen, with_next_number, with_seen};
 ghost use Rattle.xm_board.specs.declared.seats.Role.TheVariants.{Pen as pen_role, Watch as watch_role};
 ghost use Rattle.xm_board.specs.declared.seats.Stage.TheVariants.{Idle, Reading};
+ghost use Rattle.xm_board.specs.declared.words.TheConstants.{QUOTE_WORDS};
 
 use crate::journal::Entry;
 use crate::naming::BoardNaming;
@@ -15,7 +16,7 @@ use crate::rule::{
     TakeSeen, WriteWord,
 };
 use crate::watch::Watch;
-use crate::words::words_from;
+use crate::words::{QUOTE_WORDS, words_from};
 use std::alloc::Allocator;
 use std::marker::{Model, PhantomData};
 use xm_memory::OutOfMemory;
@@ -30,13 +31,14 @@ pub struct Board<N: BoardNaming, A: Allocator> {
 
 // A model, and no ghost field: a struct above may then hold a board whose name it gives by a generic `impl`.
 impl<N: BoardNaming, A: Allocator> Model for Board<N, A> {
-    ghost use Rattle.std.specs.Prelude.{◌≡◌};
+    ghost use Rattle.std.specs.Prelude.{◌≡◌, ◌+◌};
+    ghost use Rattle.xm_board.specs.declared.words.TheConstants.{QUOTE_WORDS};
 
     ghost Value = { Unit {0} };
 
     ghost view = { λ _. tt };
 
-    ghost invariant = { λ b. (b.table.shared.table_id ≡ N.table) × (b.table.shared.table_id.words ≡ 8) };
+    ghost invariant = { λ b. (b.table.shared.table_id ≡ N.table) × (b.table.shared.table_id.words ≡ QUOTE_WORDS + 1) };
 }
 
 impl<N: BoardNaming, A: Allocator> Board<N, A> {
@@ -133,22 +135,22 @@ impl<N: BoardNaming, A: Allocator> Board<N, A> {
     }
 
     /// The words of the quote as they are read, which are those of one journal where the sequence hasn't changed since.
-    pub(crate) fn read_words(&self, seat: &mut BoardSeat) -> [u64; 7]
+    pub(crate) fn read_words(&self, seat: &mut BoardSeat) -> [u64; QUOTE_WORDS]
         requires seat { (seat.old.table_id ≡ N.table) × (seat.old.me.0.role ≡ watch_role) }
         requires reads { (first : _) × (last : _) × (seat.old.me.0.stage ≡ Reading first last) }
         ensures same { (seat.new.table_id ≡ seat.old.table_id) × (seat.new.me.0.role ≡ watch_role) }
-        ensures count { length result ≡ 7 }
-        ensures words { AreReadWords words_of 7 result seat.old.me.0 seat.new.me.0 }
+        ensures count { length result ≡ QUOTE_WORDS }
+        ensures words { AreReadWords words_of QUOTE_WORDS result seat.old.me.0 seat.new.me.0 }
     {
-        let mut words = [0u64; 7];
-        for i in 0..7 {
+        let mut words = [0u64; QUOTE_WORDS];
+        for i in 0..QUOTE_WORDS {
             words[i] = self.table.shared.load::<ReadWord>(seat, i + 1);
         }
         words
     }
 
     /// Writes the words of the journal with one entry more. The sequence is odd while they are written.
-    fn write(&self, seat: &mut BoardSeat, sequence: u64, entry: &Entry, words: &[u64; 7])
+    fn write(&self, seat: &mut BoardSeat, sequence: u64, entry: &Entry, words: &[u64; QUOTE_WORDS])
         requires seat { (seat.old.table_id ≡ N.table) × (seat.old.me.0.role ≡ pen_role) × (seat.old.me.0.stage ≡ Idle) }
         requires sequence { (sequence ≡ 2 * version_of seat.old.me.0.seen) × (sequence < 2 ^ 63) }
         requires published { IsPublished (grown seat.old.me.0.seen entry.now) }
@@ -158,7 +160,7 @@ impl<N: BoardNaming, A: Allocator> Board<N, A> {
     {
         let shared = &self.table.shared;
         shared.compare_exchange_with::<BeginWrite>(seat, 0, sequence, sequence + 1, entry);
-        for i in 0..7 {
+        for i in 0..QUOTE_WORDS {
             shared.store::<WriteWord>(seat, i + 1, words[i]);
         }
         shared.store::<EndWrite>(seat, 0, sequence + 2);

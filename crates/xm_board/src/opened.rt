@@ -27,17 +27,18 @@ pub struct Opened<A: Allocator> {
 }
 
 impl<A: Allocator> Model for Opened<A> {
-    ghost use Rattle.std.specs.Prelude.{◌≡◌};
+    ghost use Rattle.std.specs.Prelude.{◌≡◌, ◌+◌};
     ghost use Rattle.xm_board.specs.Journals.{opening_of, quote_of};
     ghost use Rattle.xm_board.specs.Opened.{Unnamed};
     ghost use Rattle.xm_board.specs.Published.{IsPublished};
     ghost use Rattle.xm_board.specs.Rule.{opening_pen};
+    ghost use Rattle.xm_board.specs.declared.words.TheConstants.{QUOTE_WORDS};
 
     ghost Value = { Unnamed };
 
     ghost view = { λ o. record { table = o.table.shared.table_id; settings = o.table.shared.key } };
 
-    ghost invariant = { λ o. (o.table.shared.table_id.words ≡ 8) × (o.seat.table_id ≡ o.table.shared.table_id) × (o.seat.me.0 ≡ opening_pen o.table.shared.key) × (o.quote ≡ quote_of (opening_of o.table.shared.key)) × IsPublished (opening_of o.table.shared.key) };
+    ghost invariant = { λ o. (o.table.shared.table_id.words ≡ QUOTE_WORDS + 1) × (o.seat.table_id ≡ o.table.shared.table_id) × (o.seat.me.0 ≡ opening_pen o.table.shared.key) × (o.quote ≡ quote_of (opening_of o.table.shared.key)) × IsPublished (opening_of o.table.shared.key) };
 }
 
 impl<A: Allocator> Opened<A> {

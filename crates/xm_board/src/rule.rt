@@ -10,8 +10,9 @@ pub struct BoardRule;
 impl TableRule<Entry, View, DeskSettings> for BoardRule {
     ghost use Rattle.xm_board.specs.Published.{IsPublished, words_of};
     ghost use Rattle.xm_board.specs.Rule.{Kept, opening_pen};
+    ghost use Rattle.xm_board.specs.declared.words.TheConstants.{QUOTE_WORDS};
 
-    ghost holds = { λ _. Kept IsPublished words_of 7 };
+    ghost holds = { λ _. Kept IsPublished words_of QUOTE_WORDS };
 
     ghost first = { opening_pen };
 }

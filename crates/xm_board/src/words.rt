@@ -8,8 +8,11 @@ ghost use Rattle.xm_ticks.specs.declared.numbers.TheConstants.{MAX_PRICE};
 use xm_rules::{Auction, CallStage, Phase, Quote};
 use xm_ticks::Price;
 
-/// The seven words of a quote.
-pub(crate) fn words_from(quote: &Quote) -> [u64; 7]
+/// How many words a quote has.
+pub(crate) const QUOTE_WORDS: usize = 7;
+
+/// The words of a quote.
+pub(crate) fn words_from(quote: &Quote) -> [u64; QUOTE_WORDS]
     ensures words { result ≡ quote_words quote.now }
     ensures prices { HasPricesInRange quote.now }
 {
@@ -25,7 +28,7 @@ pub(crate) fn words_from(quote: &Quote) -> [u64; 7]
 }
 
 /// The words of a board's table: the version of no entry, and those of the quote.
-pub(crate) fn opening_words(quote: &Quote) -> [u64; 8]
+pub(crate) fn opening_words(quote: &Quote) -> [u64; QUOTE_WORDS + 1]
     ensures words { result ≡ 0 ∷ quote_words quote.now }
     ensures prices { HasPricesInRange quote.now }
 {
@@ -110,7 +113,7 @@ fn reference_from(word: u64) -> Price
 }
 
 /// The quote of its words.
-pub(crate) fn quote_from(words: &[u64; 7]) -> Quote
+pub(crate) fn quote_from(words: &[u64; QUOTE_WORDS]) -> Quote
     requires { (q : Quote) × HasPricesInRange q × (words.now ≡ quote_words q) }
     ensures { (q : Quote) → HasPricesInRange q → words.now ≡ quote_words q → result ≡ q }
 {
