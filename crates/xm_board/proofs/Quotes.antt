@@ -4,7 +4,7 @@ use Rattle.std.specs.Option.{ForSome}
 use Rattle.std.proofs.lemmas.List.{length-map}
 use Rattle.xm_board.specs.Journals.{IsLawful, grown, version_of, opening_of, quote_of, unnumbered}
 use Rattle.xm_board.specs.Published.{IsPublished}
-use Rattle.xm_board.specs.Words.{HasPricesInRange, IsPrice, phase_at, phase_word, price_word}
+use Rattle.xm_board.specs.Words.{HasPricesInRange, IsPrice, phase_at, phase_number, price_word}
 use Rattle.xm_board.specs.declared.journal.Entry.{Entry}
 use Rattle.xm_board.specs.declared.journal.NumberedJournal.{NumberedJournal}
 use Rattle.xm_rules.proofs.Accepted.{accepted-below}
@@ -57,7 +57,7 @@ published_opening settings q limit is prices = record { lawful = lawful_opening 
 pub published_grown : (j : NumberedJournal) (e : Entry) (q : Quote) → IsPublished j → IsLawful (grown j e) → q ≡ quote_of (grown j e) → HasPricesInRange q → IsPublished (grown j e)
 published_grown j e q p lawful is prices = record { lawful = lawful; limit = p.limit; prices = subst HasPricesInRange is prices }
 
-pub phase_back : (p : Phase) → phase_at (phase_word p) ≡ p
+pub phase_back : (p : Phase) → phase_at (phase_number p) ≡ p
 phase_back PreTrading = refl
 phase_back (Call Opening Ordinary) = refl
 phase_back (Call Opening Interrupted) = refl

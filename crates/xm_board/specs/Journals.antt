@@ -65,8 +65,8 @@ abbrev pub last_number : NumberedJournal → ℕ
 last_number j = last_number_in j.entries
 
 -- what a watch knows: its number, the journal that it has seen, and its own entries with their versions
-abbrev pub known : ℕ → NumberedJournal → List (ℕ × Entry) → Known
-known number seen own_entries = record { number = number; seen = seen; own_entries = own_entries }
+abbrev pub known_by : ℕ → NumberedJournal → List (ℕ × Entry) → Known
+known_by number seen own_entries = record { number = number; seen = seen; own_entries = own_entries }
 
 -- its own entries stand in what it has seen, with its number
 abbrev pub HasOwnEntries : Known → Type 0

@@ -123,12 +123,12 @@ abbrev pub said_list : Option Entry → List Entry
 said_list none = []
 said_list (some e) = e ∷ []
 
-abbrev pub next_of : NumberedJournal → Option Entry → NumberedJournal
-next_of j e = record { settings = j.settings; entries = j.entries ++ said_list e }
+abbrev pub with_entry : NumberedJournal → Option Entry → NumberedJournal
+with_entry j e = record { settings = j.settings; entries = j.entries ++ said_list e }
 
 -- the pen begins to write the words of the journal with one entry more
 abbrev pub BeginsWrite : Step Entry → Sat → ℕ → Sat → Type 0
-BeginsWrite st m r m' = m'.0 ≡ with_stage m.0 (Writing (next_of m.0.seen st.said) 0)
+BeginsWrite st m r m' = m'.0 ≡ with_stage m.0 (Writing (with_entry m.0.seen st.said) 0)
 
 -- the pen has written a word more
 abbrev pub WritesWord : Step Entry → Sat → ℕ → Sat → Type 0

@@ -10,23 +10,23 @@ use Rattle.xm_ticks.specs.declared.numbers.TheConstants.{MAX_PRICE}
 
 -- phases are numbered in the order of the day, each call stage by itself; the last is the ordinary call after an interruption, which never
 -- occurs
-abbrev pub phase_word : Phase → ℕ
-phase_word PreTrading = 0
-phase_word (Call Opening Ordinary) = 1
-phase_word (Call Opening Interrupted) = 2
-phase_word (Call Opening Extended) = 3
-phase_word (Call Intraday Ordinary) = 4
-phase_word (Call Intraday Interrupted) = 5
-phase_word (Call Intraday Extended) = 6
-phase_word (Call Closing Ordinary) = 7
-phase_word (Call Closing Interrupted) = 8
-phase_word (Call Closing Extended) = 9
-phase_word (Call Interruption Interrupted) = 10
-phase_word (Call Interruption Extended) = 11
-phase_word Continuous = 12
-phase_word PostTrading = 13
-phase_word Ended = 14
-phase_word (Call Interruption Ordinary) = 15
+abbrev pub phase_number : Phase → ℕ
+phase_number PreTrading = 0
+phase_number (Call Opening Ordinary) = 1
+phase_number (Call Opening Interrupted) = 2
+phase_number (Call Opening Extended) = 3
+phase_number (Call Intraday Ordinary) = 4
+phase_number (Call Intraday Interrupted) = 5
+phase_number (Call Intraday Extended) = 6
+phase_number (Call Closing Ordinary) = 7
+phase_number (Call Closing Interrupted) = 8
+phase_number (Call Closing Extended) = 9
+phase_number (Call Interruption Interrupted) = 10
+phase_number (Call Interruption Extended) = 11
+phase_number Continuous = 12
+phase_number PostTrading = 13
+phase_number Ended = 14
+phase_number (Call Interruption Ordinary) = 15
 
 -- a missing limit is 0
 abbrev pub price_word : Option ℕ → ℕ
@@ -34,7 +34,7 @@ price_word None = 0
 price_word (Some price) = price
 
 abbrev pub quote_words : Quote → List ℕ
-quote_words q = q.version ∷ phase_word q.phase ∷ price_word q.best_buy ∷ price_word q.best_sell ∷ q.ref1 ∷ q.ref2 ∷ q.quantity ∷ []
+quote_words q = q.version ∷ phase_number q.phase ∷ price_word q.best_buy ∷ price_word q.best_sell ∷ q.ref1 ∷ q.ref2 ∷ q.quantity ∷ []
 
 abbrev pub IsPrice : ℕ → Type 0
 IsPrice price = (1 ≤ price) × (price ≤ MAX_PRICE)

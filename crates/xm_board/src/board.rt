@@ -1,6 +1,6 @@
 //! The board: how it is opened, written, and told of.
 ghost use Rattle.std.specs.Prelude.{◌≡◌, ◌*◌, ◌<◌, ◌^◌, ◌++◌, ℕ, [], true, length, slice_get, Some, IfOk, if◌then◌else◌};
-ghost use Rattle.xm_board.specs.Journals.{Begins, IsLawful, entry_of, grown, known, last_number, last_own, opening_of, quote_of, version_of};
+ghost use Rattle.xm_board.specs.Journals.{Begins, IsLawful, entry_of, grown, known_by, last_number, last_own, opening_of, quote_of, version_of};
 ghost use Rattle.xm_board.specs.Published.{IsPublished, words_of};
 ghost use Rattle.xm_board.specs.Rule.{AreReadWords, asking, shared_as, shared_seen, with_next_number, with_seen};
 ghost use Rattle.xm_board.specs.declared.seats.Role.TheVariants.{Pen as pen_role, Watch as watch_role};
@@ -52,7 +52,7 @@ impl<N: BoardNaming, A: Allocator> Board<N, A> {
         requires named { opened.table ≡ N.table }
         ensures pen { IfOk result (λ o. o.1 ≡ opening_of opened.settings) }
         ensures count { IfOk result (λ o. length o.2.items ≡ watches) }
-        ensures watches { IfOk result (λ o. (k : ℕ) (w : _) → slice_get o.2.items k ≡ Some w → w ≡ known k (opening_of opened.settings) []) }
+        ensures watches { IfOk result (λ o. (k : ℕ) (w : _) → slice_get o.2.items k ≡ Some w → w ≡ known_by k (opening_of opened.settings) []) }
     {
         let mut row = Vec::with_capacity(alloc, watches as usize)?;
         let Opened {
@@ -81,7 +81,7 @@ impl<N: BoardNaming, A: Allocator> Board<N, A> {
         requires quote { quote.now ≡ quote_of seat.old.me.0.seen }
         requires published { IsPublished seat.old.me.0.seen }
         ensures seat { (seat.new.table_id ≡ seat.old.table_id) × (seat.new.me.0 ≡ with_next_number seat.old.me.0) }
-        ensures watch { result ≡ known number seat.old.me.0.seen [] }
+        ensures watch { result ≡ known_by number seat.old.me.0.seen [] }
     {
         let seat = self.table.shared.split_seat::<MakeWatch>(seat);
         Watch {
@@ -124,7 +124,7 @@ impl<N: BoardNaming, A: Allocator> Board<N, A> {
         requires own { own ≡ true → (version_of watch.old.seen < version_of pen.old) × (last_number pen.old ≡ watch.old.number) }
         ensures pen { pen.new ≡ pen.old }
         ensures before { Begins watch.old.seen pen.old }
-        ensures watch { watch.new ≡ known watch.old.number pen.old (watch.old.own_entries ++ (if own then last_own pen.old else [])) }
+        ensures watch { watch.new ≡ known_by watch.old.number pen.old (watch.old.own_entries ++ (if own then last_own pen.old else [])) }
     {
         self.compare(&mut pen.seat, &mut watch.seat);
         let told = self.share(&mut pen.seat, own);

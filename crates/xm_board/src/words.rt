@@ -1,7 +1,7 @@
 //! The words of a quote, and the quote of its words.
 ghost use Rattle.std.specs.Option.{ForSome};
 ghost use Rattle.std.specs.Prelude.{◌≡◌, ◌≤◌, ℕ, Option, ◌∷◌};
-ghost use Rattle.xm_board.specs.Words.{HasPricesInRange, IsPrice, phase_at, phase_word, price_word, quote_words};
+ghost use Rattle.xm_board.specs.Words.{HasPricesInRange, IsPrice, phase_at, phase_number, price_word, quote_words};
 ghost use Rattle.xm_rules.specs.declared.replies.Quote.{Quote};
 ghost use Rattle.xm_ticks.specs.declared.numbers.TheConstants.{MAX_PRICE};
 
@@ -18,7 +18,7 @@ pub(crate) fn words_from(quote: &Quote) -> [u64; QUOTE_WORDS]
 {
     [
         quote.version,
-        phase_word(quote.phase),
+        phase_number(quote.phase),
         price_word(quote.best_buy),
         price_word(quote.best_sell),
         u64::from(quote.ref1.get()),
@@ -37,8 +37,8 @@ pub(crate) fn opening_words(quote: &Quote) -> [u64; QUOTE_WORDS + 1]
 }
 
 /// The number of a phase, each call stage by itself.
-fn phase_word(phase: Phase) -> u64
-    ensures { result ≡ phase_word phase }
+fn phase_number(phase: Phase) -> u64
+    ensures { result ≡ phase_number phase }
 {
     match phase {
         Phase::PreTrading => 0,

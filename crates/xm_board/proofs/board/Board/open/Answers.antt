@@ -2,7 +2,7 @@ use Rattle.std.proofs.Common.{rules, ◌≡◌, ℕ, [], ◌∷◌, length, ◌�
 use Rattle.std.specs.Prelude.{slice_get}
 use Rattle.xm_board.specs.Rule.{with_next_number}
 use Rattle.xm_board.specs.Journals.{opening_of}
-use Rattle.xm_board.specs.Journals.{known}
+use Rattle.xm_board.specs.Journals.{known_by}
 use Rattle.xm_board.proofs.Prefixes.{get_push}
 use Rattle.xm_board.specs.Opened.{Unnamed}
 use Rattle.xm_board.specs.Published.{IsPublished}
@@ -14,13 +14,13 @@ loop-number-preserved g c =
     let i = c.loop-number.invariant in
     let d = c.make_watch.ensures in
     let items = c.push_reserved.ensures.items in
-    let is : c.make_watch.result ≡ known c.loop-number.number (opening_of c.args.opened.settings) [] = d.watch ∙ ap (λ (v : View). known c.loop-number.number v.seen []) i.1 in (
+    let is : c.make_watch.result ≡ known_by c.loop-number.number (opening_of c.args.opened.settings) [] = d.watch ∙ ap (λ (v : View). known_by c.loop-number.number v.seen []) i.1 in (
       d.seat.0 ∙ i.0,
       d.seat.1 ∙ ap with_next_number i.1,
       search rules,
       search rules,
       ap length items ∙ length-append c.loop-number.row.items (c.make_watch.result ∷ []) ∙ ap (λ (n : ℕ). n + 1) i.4,
-      λ k w at. ⊎_elim (i.5 k w) (λ t. sym t.1 ∙ is ∙ ap (λ (n : ℕ). known n (opening_of c.args.opened.settings) []) (sym (t.0 ∙ i.4)))
+      λ k w at. ⊎_elim (i.5 k w) (λ t. sym t.1 ∙ is ∙ ap (λ (n : ℕ). known_by n (opening_of c.args.opened.settings) []) (sym (t.0 ∙ i.4)))
           (get_push c.loop-number.row.items c.make_watch.result k w (ap (λ l. slice_get l k) (sym items) ∙ at)),
     )
 
