@@ -7,7 +7,7 @@ use Rattle.xm_board.specs.declared.journal.Entry.{Entry}
 use Rattle.xm_board.specs.declared.journal.NumberedJournal.{NumberedJournal}
 use Rattle.xm_board.specs.declared.seats.View.{View}
 use Rattle.xm_board.specs.declared.seats.Role.TheVariants.{Watch}
-use Rattle.xm_board.specs.Journals.{Begins, version_of, Own, last_own_in, last_number_in}
+use Rattle.xm_board.specs.Journals.{grown, Begins, version_of, Own, last_own_in, last_number_in}
 use Rattle.xm_board.specs.Rule.{shared_as}
 
 -- each list begins with itself
@@ -51,6 +51,13 @@ begins-version i j p = prefix_length i.entries j.entries p.1
 pub begins_whole : (i j : NumberedJournal) → Begins i j → version_of j ≤ version_of i → i ≡ j
 begins_whole i j p le =
     let s = p.0 in let e = prefix_whole i.entries j.entries p.1 le in λ k. record { settings = s k; entries = e k }
+
+-- a journal begins the one with an entry more
+pub begins_grown : (j : NumberedJournal) (e : Entry) → Begins j (grown j e)
+begins_grown j e = (refl, (e ∷ [], refl))
+
+pub version-grown : (j : NumberedJournal) (e : Entry) → version_of (grown j e) ≡ version_of j + 1
+version-grown j e = length-append j.entries (e ∷ [])
 
 -- own entries stand in what is seen later
 pub own_later : (number : ℕ) (xs ys : List Entry) (from : ℕ) (own_entries : List (ℕ × Entry)) → IsPrefix xs ys → Own number xs from own_entries → Own number ys from own_entries

@@ -1,20 +1,12 @@
 -- What the loops over the words know.
-use Rattle.std.proofs.Common.{◌≡◌, ℕ, suc, ◌+◌, ◌-◌, ◌*◌, ◌<◌, ◌≤◌, List, [], ◌∷◌, length, get_or, set, refl, ap, ◌∙◌, arith, get_or-set_same, get_or-set_other, length-append}
+use Rattle.std.proofs.Common.{◌≡◌, ℕ, suc, ◌+◌, ◌-◌, ◌*◌, ◌<◌, ◌≤◌, List, [], ◌∷◌, length, get_or, set, refl, ap, ◌∙◌, arith, get_or-set_same, get_or-set_other}
 use mathlib.Core.Logic.{dite}
 use native.Mathlib.Decide.{ℕ_discrete}
-use Rattle.xm_board.specs.declared.journal.Entry.{Entry}
 use Rattle.xm_board.specs.declared.journal.NumberedJournal.{NumberedJournal}
 use Rattle.xm_board.specs.declared.seats.View.{View}
 use Rattle.xm_board.specs.declared.seats.Stage.TheVariants.{Reading}
-use Rattle.xm_board.specs.Journals.{grown}
-use Rattle.xm_board.specs.Journals.{Begins, version_of}
+use Rattle.xm_board.specs.Journals.{version_of}
 use Rattle.xm_board.specs.Rule.{with_stage, AreReadWords}
-
-pub begins_grown : (j : NumberedJournal) (e : Entry) → Begins j (grown j e)
-begins_grown j e = (refl, (e ∷ [], refl))
-
-pub version-grown : (j : NumberedJournal) (e : Entry) → version_of (grown j e) ≡ version_of j + 1
-version-grown j e = length-append j.entries (e ∷ [])
 
 pub reads_none : (words : NumberedJournal → List ℕ) (bits : List ℕ) (v : View) → AreReadWords words 0 bits v v
 reads_none words bits v first last e = (last, ap (with_stage v) e, λ l. (l, λ i none. absurd (omega arith)))

@@ -4,7 +4,7 @@ use Rattle.xm_board.specs.Published.{IsPublished, words_of}
 use Rattle.xm_board.specs.declared.seats.View.{View}
 use Rattle.xm_board.specs.declared.seats.Stage.TheVariants.{Writing}
 use Rattle.xm_board.proofs.Steps.{begins_write, writes_word, ends_write}
-use Rattle.xm_board.proofs.Reading.{begins_grown, version-grown}
+use Rattle.xm_board.proofs.Prefixes.{begins_grown, version-grown}
 use Rattle.xm_board.proofs.board.Board.write.Goals as goal
 
 pub compare_exchange_with-requires : goal.compare_exchange_with-requires
