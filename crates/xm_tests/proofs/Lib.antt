@@ -1,1 +1,2 @@
-mod Keys
+pub mod Keys
+pub mod Starting

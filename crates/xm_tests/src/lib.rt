@@ -5,6 +5,8 @@
 #[cfg(test)]
 mod auction;
 #[cfg(test)]
+mod board;
+#[cfg(test)]
 mod book;
 #[cfg(test)]
 mod ladders;
