@@ -1,10 +1,9 @@
 -- The quote of a published journal, and its words.
-use Rattle.std.proofs.Common.{◌≡◌, ℕ, ◌+◌, ◌<◌, ◌≤◌, ◌^◌, refl, ap, ◌∙◌, subst, arith, Option, Some, None, SomeIff, map}
-use Rattle.std.specs.Option.{ForSome}
+use Rattle.std.proofs.Common.{◌≡◌, ◌+◌, ◌<◌, ◌≤◌, ◌^◌, refl, ap, ◌∙◌, subst, arith, None, map}
 use Rattle.std.proofs.lemmas.List.{length-map}
 use Rattle.xm_board.specs.Journals.{IsLawful, grown, version_of, opening_of, quote_of, unnumbered}
 use Rattle.xm_board.specs.Published.{IsPublished}
-use Rattle.xm_board.specs.Words.{HasPricesInRange, IsPrice, phase_at, phase_number, price_word}
+use Rattle.xm_board.specs.Words.{HasPricesInRange, phase_at, phase_number}
 use Rattle.xm_board.specs.declared.journal.Entry.{Entry}
 use Rattle.xm_board.specs.declared.journal.NumberedJournal.{NumberedJournal}
 use Rattle.xm_rules.proofs.Accepted.{accepted-below}
@@ -22,7 +21,7 @@ use Rattle.xm_rules.specs.declared.phases.Phase.TheVariants.{PreTrading, Call, C
 use Rattle.xm_rules.specs.declared.replies.Quote.{Quote}
 use Rattle.xm_rules.specs.declared.settings.DeskSettings.{DeskSettings}
 use Rattle.xm_rules.specs.declared.settings.TheConstants.{PHASE_COMMANDS_MORE}
-use Rattle.xm_ticks.specs.declared.numbers.TheConstants.{MAX_JOURNAL_LIMIT, MAX_PRICE}
+use Rattle.xm_ticks.specs.declared.numbers.TheConstants.{MAX_JOURNAL_LIMIT}
 
 accepted_is : (j : NumberedJournal) → (replay (unnumbered j)).accepted ≡ version_of j
 unfolding replay
@@ -74,14 +73,3 @@ phase_back (Call Interruption Extended) = refl
 phase_back Continuous = refl
 phase_back PostTrading = refl
 phase_back Ended = refl
-
-pub price_small : (q : Option ℕ) → ForSome q IsPrice → price_word q ≤ MAX_PRICE
-price_small None h = omega arith
-price_small (Some p) h = (h p refl).1
-
--- the price of its word
-pub price_back : (r : Option ℕ) (ticks : ℕ) (q : Option ℕ) → SomeIff r ((1 ≤ ticks) × (ticks ≤ MAX_PRICE)) ticks → ForSome q IsPrice → ticks ≡ price_word q → r ≡ q
-price_back None ticks None h given e = refl
-price_back None ticks (Some p) h given e = let a = (given p refl).0 in let b = (given p refl).1 in absurd (h (omega arith, omega arith))
-price_back (Some x) ticks None h given e = let a = h.0.0 in absurd (omega arith)
-price_back (Some x) ticks (Some p) h given e = ap (λ (n : ℕ). Some n) (h.1 ∙ e)

@@ -81,7 +81,7 @@ impl<N: BoardNaming> Watch<N> {
     }
 
     /// The quote of a lawful journal that begins with all that was seen, which is then seen. It takes no lock and no memory.
-    /// Where the pen wrote during each of `ATTEMPTS` attempts, it is the quote of what was seen before.
+    /// Where the pen wrote during each of 32 attempts, it is the quote of what was seen before.
     pub fn read<A: Allocator>(&mut self, board: &Board<N, A>) -> Quote
         ensures quote { result ≡ quote_of self.new.seen }
         ensures lawful { IsLawful self.new.seen }
