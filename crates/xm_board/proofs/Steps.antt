@@ -1,9 +1,9 @@
 -- Each step keeps the rule of the board.
-use Rattle.std.proofs.Common.{◌≡◌, ℕ, zero, suc, ◌+◌, ◌-◌, ◌*◌, ◌%◌, ◌<◌, ◌≤◌, eqb, ◌≢◌, List, [], ◌∷◌, ◌++◌, length, get_or, set, sym, refl, ap, ◌∙◌, subst, ⊎_elim, arith, le_refl, length-set, get_or-set_other, get_or-set_same, eq-eqb, add-one, zero-le}
+use Rattle.std.proofs.Common.{◌≡◌, ℕ, zero, suc, ◌+◌, ◌-◌, ◌*◌, ◌%◌, ◌<◌, ◌≤◌, eqb, ◌≢◌, List, [], ◌∷◌, ◌++◌, length, get_or, set, sym, refl, ap, ◌∙◌, subst, ⊎_elim, arith, le_refl, length-set, get_or-set_other, get_or-set_same, eq-eqb, add-one, zero-le, length-append}
 use mathlib.Core.Logic.{dite}
 use mathlib.Core.Option.{none, some, some-injective, some-ne-none}
 use native.Mathlib.Decide.{ℕ_discrete}
-use lib.ListN.{get_elem?}
+use lib.ListN.{get_elem?, get_or-append}
 use lib.Seq.{set-get_or}
 use prog.Atomic.{either}
 use Rattle.atomic_table.specs.Table.{State, Me, step, keeps, stepped, opening, Allows, Splits, Joins}
@@ -98,7 +98,7 @@ module _ (Lawful : NumberedJournal → Type 0) (words : NumberedJournal → List
   inside (x ∷ xs) (suc i) a e = let l = inside xs i a e in omega arith
 
   -- the pen has a new view, and the words are new
-  pen_view : (s : St) (r : Rule s) (ws : List ℕ) (w : View) → w.role ≡ Pen → length ws ≡ n + 1 → Begins r.held.seen w.seen → Lawful w.seen → Begins w.asked w.seen
+  pen_view : (s : St) (r : Rule s) (ws : List ℕ) (w : View) → w.role ≡ Pen → n + 1 ≤ length ws → Begins r.held.seen w.seen → Lawful w.seen → Begins w.asked w.seen
       → Laid Lawful words n ws w.seen w.stage → sequence s ≤ get_or ws 0 0 → Rule record { words = ws; homes = s.homes; views = set s.views r.pen w }
   pen_view s r ws w is wide more right asked laid le = record {
     pen = r.pen;
@@ -219,7 +219,7 @@ module _ (Lawful : NumberedJournal → Type 0) (words : NumberedJournal → List
   pen_has : (s : St) (r : Rule s) (id : ℕ) (d : View) → get_elem? s.views id ≡ some d → d.role ≡ Pen → Lawful d.seen × Begins d.asked d.seen × Laid Lawful words n s.words d.seen d.stage
   pen_has s r id d at is = subst (λ (x : View). Lawful x.seen × Begins x.asked x.seen × Laid Lawful words n s.words x.seen x.stage) (sym (pens s r id d at is).1) (r.right, r.asked, r.laid)
 
-  pen_step : (s : St) (r : Rule s) (id : ℕ) (d : View) → get_elem? s.views id ≡ some d → d.role ≡ Pen → (ws : List ℕ) (w : View) → w.role ≡ Pen → length ws ≡ n + 1 → Begins d.seen w.seen → Lawful w.seen → Begins w.asked w.seen
+  pen_step : (s : St) (r : Rule s) (id : ℕ) (d : View) → get_elem? s.views id ≡ some d → d.role ≡ Pen → (ws : List ℕ) (w : View) → w.role ≡ Pen → n + 1 ≤ length ws → Begins d.seen w.seen → Lawful w.seen → Begins w.asked w.seen
       → Laid Lawful words n ws w.seen w.stage → sequence s ≤ get_or ws 0 0 → Rule record { words = ws; homes = s.homes; views = set s.views id w }
   pen_step s r id d at is ws w role wide more right asked laid le =
       let p = pens s r id d at is in
@@ -241,7 +241,7 @@ module _ (Lawful : NumberedJournal → Type 0) (words : NumberedJournal → List
         keeps,
         tt,
         subst (λ b. Rule (stepped s 0 (either b new x) id me.1 w keeps)) (sym (eq-eqb x old hit))
-            (pen_step s r id me.0 at is (set s.words 0 new) w is (length-set s.words 0 new ∙ wide) (begins_self j) has.0 has.1
+            (pen_step s r id me.0 at is (set s.words 0 new) w is (omega (arith, length-set s.words 0 new, wide)) (begins_self j) has.0 has.1
             (omega arith, more, longer, right, (λ i l. absurd (omega arith)), λ i _ l. get_or-set_other s.words 0 (i + 1) new 0 (λ q. omega arith) ∙ laid.1 i l) (omega arith)),
         refl,
       )
@@ -257,7 +257,7 @@ module _ (Lawful : NumberedJournal → Type 0) (words : NumberedJournal → List
         w,
         keeps,
         tt,
-        pen_step s r id me.0 at is (set s.words (k + 1) b) w is (length-set s.words (k + 1) b ∙ wide) (begins_self j) has.0 has.1 (
+        pen_step s r id me.0 at is (set s.words (k + 1) b) w is (omega (arith, length-set s.words (k + 1) b, wide)) (begins_self j) has.0 has.1 (
           still ∙ laid.0,
           laid.1,
           laid.2,
@@ -283,7 +283,7 @@ module _ (Lawful : NumberedJournal → Type 0) (words : NumberedJournal → List
         w,
         keeps,
         tt,
-        pen_step s r id me.0 at is (set s.words 0 v) w is (length-set s.words 0 v ∙ wide) laid.1 laid.3 (begins_trans me.0.asked j next has.1 laid.1)
+        pen_step s r id me.0 at is (set s.words 0 v) w is (omega (arith, length-set s.words 0 v, wide)) laid.1 laid.3 (begins_trans me.0.asked j next has.1 laid.1)
             (omega arith, λ i l. get_or-set_other s.words 0 (i + 1) v 0 (λ q. omega arith) ∙ laid.4 i l) (omega arith),
         λ next' k' stage'. let e = same_writing next next' n k' (sym stage ∙ stage') in ap (λ (q : NumberedJournal). with_seen me.0 q me.0.own_entries) e.0,
       )
@@ -346,15 +346,16 @@ module _ (Lawful : NumberedJournal → Type 0) (words : NumberedJournal → List
   only_pen w zero d off at = off refl
   only_pen w (suc j) d off at = some-ne-none d (sym at)
 
-  pub begins : (settings : DeskSettings) (ws : List ℕ) → ws ≡ 0 ∷ words (opening_of settings) → length (words (opening_of settings)) ≡ n → Lawful (opening_of settings) → Rule (opening ws [] (opening_pen settings))
-  begins settings ws is wide right = subst (λ (l : List ℕ). Rule (opening l [] (opening_pen settings))) (sym is) record {
+  pub begins : (settings : DeskSettings) (ws unused : List ℕ) → ws ≡ 0 ∷ (words (opening_of settings) ++ unused) → length (words (opening_of settings)) ≡ n → Lawful (opening_of settings)
+      → Rule (opening ws [] (opening_pen settings))
+  begins settings ws unused is wide right = subst (λ (l : List ℕ). Rule (opening l [] (opening_pen settings))) (sym is) record {
     pen = 0;
     held = opening_pen settings;
     there = refl;
     writes = refl;
-    wide = omega arith;
+    wide = omega (arith, wide, length-append (words (opening_of settings)) unused);
     right = right;
     asked = begins_self (opening_of settings);
-    laid = (refl, λ i l. ap (λ (z : ℕ). get_or (0 ∷ words (opening_of settings)) z 0) (add-one i));
+    laid = (refl, λ i l. ap (λ (z : ℕ). get_or (0 ∷ (words (opening_of settings) ++ unused)) z 0) (add-one i) ∙ get_or-append (words (opening_of settings)) unused 0 i (omega arith));
     others = λ j d off at. absurd (only_pen (opening_pen settings) j d off at);
   }

@@ -47,7 +47,8 @@ pub record Kept (Lawful : NumberedJournal → Type 0) (words : NumberedJournal �
   pub held : View
   pub there : get_elem? s.views pen ≡ some held
   pub writes : held.role ≡ Pen
-  pub wide : length s.words ≡ n + 1
+  -- the words behind them are not used
+  pub wide : n + 1 ≤ length s.words
   pub right : Lawful held.seen
   pub asked : Begins held.asked held.seen
   pub laid : Laid Lawful words n s.words held.seen held.stage

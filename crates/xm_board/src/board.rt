@@ -31,14 +31,14 @@ pub struct Board<N: BoardNaming, A: Allocator> {
 
 // A model, and no ghost field: a struct above may then hold a board whose name it gives by a generic `impl`.
 impl<N: BoardNaming, A: Allocator> Model for Board<N, A> {
-    ghost use Rattle.std.specs.Prelude.{◌≡◌, ◌+◌};
+    ghost use Rattle.std.specs.Prelude.{◌≡◌, ◌+◌, ◌≤◌};
     ghost use Rattle.xm_board.specs.declared.words.TheConstants.{QUOTE_WORDS};
 
     ghost Value = { Unit {0} };
 
     ghost view = { λ _. tt };
 
-    ghost invariant = { λ b. (b.table.shared.table_id ≡ N.table) × (b.table.shared.table_id.words ≡ QUOTE_WORDS + 1) };
+    ghost invariant = { λ b. (b.table.shared.table_id ≡ N.table) × (QUOTE_WORDS + 1 ≤ b.table.shared.table_id.words) };
 }
 
 impl<N: BoardNaming, A: Allocator> Board<N, A> {

@@ -12,7 +12,7 @@ use std::marker::Model;
 use xm_memory::OutOfMemory;
 use xm_rules::{DeskSettings, Quote};
 
-/// The words of a board: the sequence, and the seven of the quote.
+/// The words of a board: the sequence, the seven of the quote, and unused ones.
 pub(crate) type QuoteTable<A> = Table<Entry, View, DeskSettings, BoardRule, A>;
 
 /// What the pen and each watch have at the table.
@@ -27,7 +27,7 @@ pub struct Opened<A: Allocator> {
 }
 
 impl<A: Allocator> Model for Opened<A> {
-    ghost use Rattle.std.specs.Prelude.{◌≡◌, ◌+◌};
+    ghost use Rattle.std.specs.Prelude.{◌≡◌, ◌+◌, ◌≤◌};
     ghost use Rattle.xm_board.specs.Journals.{opening_of, quote_of};
     ghost use Rattle.xm_board.specs.Opened.{Unnamed};
     ghost use Rattle.xm_board.specs.Published.{IsPublished};
@@ -38,7 +38,7 @@ impl<A: Allocator> Model for Opened<A> {
 
     ghost view = { λ o. record { table = o.table.shared.table_id; settings = o.table.shared.key } };
 
-    ghost invariant = { λ o. (o.table.shared.table_id.words ≡ QUOTE_WORDS + 1) × (o.seat.table_id ≡ o.table.shared.table_id) × (o.seat.me.0 ≡ opening_pen o.table.shared.key) × (o.quote ≡ quote_of (opening_of o.table.shared.key)) × IsPublished (opening_of o.table.shared.key) };
+    ghost invariant = { λ o. (QUOTE_WORDS + 1 ≤ o.table.shared.table_id.words) × (o.seat.table_id ≡ o.table.shared.table_id) × (o.seat.me.0 ≡ opening_pen o.table.shared.key) × (o.quote ≡ quote_of (opening_of o.table.shared.key)) × IsPublished (opening_of o.table.shared.key) };
 }
 
 impl<A: Allocator> Opened<A> {

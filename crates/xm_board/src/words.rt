@@ -1,7 +1,8 @@
 //! The words of a quote, and the quote of its words.
 ghost use Rattle.std.specs.Option.{ForSome};
-ghost use Rattle.std.specs.Prelude.{◌≡◌, ◌≤◌, ℕ, Option, ◌∷◌};
+ghost use Rattle.std.specs.Prelude.{◌≡◌, ◌≤◌, ℕ, Option, ◌∷◌, ◌++◌, replicate};
 ghost use Rattle.xm_board.specs.Words.{HasPricesInRange, IsPrice, phase_at, phase_number, price_word, quote_words};
+ghost use Rattle.xm_board.specs.declared.words.TheConstants.{UNUSED_WORDS};
 ghost use Rattle.xm_rules.specs.declared.replies.Quote.{Quote};
 ghost use Rattle.xm_ticks.specs.declared.numbers.TheConstants.{MAX_PRICE};
 
@@ -10,6 +11,10 @@ use xm_ticks::Price;
 
 /// How many words a quote has.
 pub(crate) const QUOTE_WORDS: usize = 7;
+
+/// How many words of a board's table are never used. They lie behind the others and fill a cache line, so that the words of two
+/// boards share none.
+pub(crate) const UNUSED_WORDS: usize = 8;
 
 /// The words of a quote.
 pub(crate) fn words_from(quote: &Quote) -> [u64; QUOTE_WORDS]
@@ -27,13 +32,15 @@ pub(crate) fn words_from(quote: &Quote) -> [u64; QUOTE_WORDS]
     ]
 }
 
-/// The words of a board's table: the version of no entry, and those of the quote.
-pub(crate) fn opening_words(quote: &Quote) -> [u64; QUOTE_WORDS + 1]
-    ensures words { result ≡ 0 ∷ quote_words quote.now }
+/// The words of a board's table: the version of no entry, those of the quote, and the unused ones.
+pub(crate) fn opening_words(quote: &Quote) -> [u64; QUOTE_WORDS + 1 + UNUSED_WORDS]
+    ensures words { result ≡ 0 ∷ (quote_words quote.now ++ replicate UNUSED_WORDS 0) }
     ensures prices { HasPricesInRange quote.now }
 {
     let [version, phase, best_buy, best_sell, ref1, ref2, quantity] = words_from(quote);
-    [0, version, phase, best_buy, best_sell, ref1, ref2, quantity]
+    [
+        0, version, phase, best_buy, best_sell, ref1, ref2, quantity, 0, 0, 0, 0, 0, 0, 0, 0,
+    ]
 }
 
 /// The number of a phase, each call stage by itself.

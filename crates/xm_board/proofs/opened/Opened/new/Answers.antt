@@ -1,4 +1,5 @@
-use Rattle.std.proofs.Common.{rules, ap, ◌∙◌, refl, ◌∷◌}
+use Rattle.std.proofs.Common.{rules, ap, ◌∙◌, refl, ◌∷◌, ◌++◌}
+use Rattle.std.specs.Prelude.{replicate}
 use Rattle.xm_board.specs.Published.{IsPublished, words_of}
 use Rattle.xm_board.specs.Words.{quote_words}
 use Rattle.xm_rules.specs.declared.replies.Quote.{Quote}
@@ -8,7 +9,7 @@ use Rattle.xm_board.proofs.opened.Opened.new.Goals as goal
 
 pub of_words-requires : goal.of_words-requires
 of_words-requires g c =
-    begins IsPublished words_of 7 _ _ (c.opening_words-words.ensures.words ∙ ap (λ (q : Quote). 0 ∷ quote_words q) c.requires) refl
+    begins IsPublished words_of 7 _ _ _ (c.opening_words-words.ensures.words ∙ ap (λ (q : Quote). 0 ∷ (quote_words q ++ replicate 8 0)) c.requires) refl
     (published_opening _ _ (search rules) c.requires c.opening_words-words.ensures.prices)
 
 pub invariant_of-result : goal.invariant_of-result
