@@ -14,7 +14,7 @@ use std::collections::LinkedList;
 use std::marker::{Model, PhantomData};
 use xm_rules::Quote;
 
-/// How often a read is tried while the pen writes.
+/// How often a read is tried while the pen writes. Beside a pen that never rests, one read in a thousand or two fails so often.
 const ATTEMPTS: u32 = 32;
 
 /// What a watch knows. Only clauses speak of it: no value of it is made.
