@@ -3,6 +3,8 @@ ghost use Rattle.std.specs.Prelude.{◌≡◌, None};
 ghost use Rattle.xm_board.specs.Journals.{IsLawful, entry_of, grown, opening_of, quote_of};
 ghost use Rattle.xm_rules.specs.declared.commands.Command.TheVariants.{StartOpening};
 
+mod script;
+
 use std::alloc::Allocator;
 use std::marker::Brand;
 use std::process::Abort;
@@ -123,5 +125,14 @@ fn refused_growths_of_a_board(rt: HostRuntime) {
             return;
         }
         assert!(rt; answer.is_err());
+    }
+}
+
+#[test]
+fn quotes_beside_a_pen_that_publishes(rt: HostRuntime) {
+    let read = script::read_published(&rt).expect(&rt, "memory");
+    assert!(rt; read.len() == 4);
+    for each in read {
+        assert!(rt; each);
     }
 }
