@@ -14,7 +14,7 @@ use std::sync::Wait;
 use xm_names::Storage;
 use xm_rules::{Command, Refusal, Reply};
 use xm_segment::{
-    Blanks, Gathered, Naming, Seat, Securities, SecurityConfig, Segment, SegmentConfig, WatchRow,
+    Gathered, Naming, Opened, Seat, Securities, SecurityConfig, Segment, SegmentConfig, WatchRow,
 };
 
 /// How often a desk and a segment take a day, in turn. The lowest times are told.
@@ -151,20 +151,22 @@ fn submitted<R: AllocGlobal + Clock + Wait>(
     size: Size,
 ) -> Result<(u64, u64), LoadFault> {
     let config = config(rt.alloc(), size.securities)?;
-    let blanks = Blanks::new(size.seats);
-    submitted_named::<Brand, R>(rt, blanks, &config, size, flow)
+    let storage = Storage::with_fixed_seed(rt.alloc());
+    match Opened::new(storage, &config, size.seats, 0) {
+        Ok(opened) => submitted_named::<Brand, R>(rt, opened, size, flow),
+        Err(_) => Err(LoadFault),
+    }
 }
 
 fn submitted_named<S: Naming, R: AllocGlobal + Clock + Wait>(
     rt: &R,
-    blanks: Blanks,
-    config: &SegmentConfig,
+    opened: Opened,
     size: Size,
     flow: &Flow,
 ) -> Result<(u64, u64), LoadFault>
-    requires { NamesSegment S.settings S.ledgers S.workers config.now size.seats blanks }
+    requires { NamesSegment S.settings S.ledgers S.boards S.workers opened }
 {
-    let mut running = Running::<S>::open(rt.alloc(), blanks, config, size.seats)?;
+    let mut running = Running::<S>::open(rt.alloc(), opened)?;
     let last = size.securities.wrapping_sub(1);
     let start = now(rt)?;
     let accepted = running.take(rt, last, flow.commands.as_slice())?;
@@ -222,16 +224,10 @@ impl<S: Naming> Model for Running<S> {
 }
 
 impl<S: Naming> Running<S> {
-    fn open(
-        alloc: Global,
-        blanks: Blanks,
-        config: &SegmentConfig,
-        seats: u32,
-    ) -> Result<Running<S>, LoadFault>
-        requires { NamesSegment S.settings S.ledgers S.workers config.now seats blanks }
+    fn open(alloc: Global, opened: Opened) -> Result<Running<S>, LoadFault>
+        requires { NamesSegment S.settings S.ledgers S.boards S.workers opened }
     {
-        let storage = Storage::with_fixed_seed(alloc);
-        match Segment::<S>::open(storage, blanks, config, seats, 0) {
+        match Segment::<S>::open(alloc, opened) {
             Ok((segment, seats, rows)) => Ok(Running {
                 segment,
                 seats,

@@ -5,11 +5,13 @@ use Rattle.xm_day.specs.Day.{Day}
 use Rattle.xm_day.specs.declared.faults.DayFault.{DayFault}
 use Rattle.xm_day.specs.declared.faults.DayFault.TheVariants.{Open, OutOfMemory}
 use Rattle.xm_day.specs.declared.report.DayReport.{DayReport}
+use Rattle.xm_desk.specs.declared.opening.OpenFault.{OpenFault}
 use Rattle.xm_files.specs.Timetable.{share_of}
 use Rattle.xm_rules.specs.Step.{Journal, is_lawful, replay}
 use Rattle.xm_rules.specs.declared.settings.DeskSettings.{DeskSettings}
 use Rattle.xm_segment.specs.Opening.{segment_fault, settings_of}
 use Rattle.xm_segment.specs.Ledgers.{accepted_in}
+use Rattle.xm_segment.specs.Names.{UnnamedSegment}
 use Rattle.xm_segment.specs.Seats.{SeatView}
 use Rattle.xm_segment.specs.declared.config.SegmentConfig.{SegmentConfig}
 use Rattle.xm_segment.specs.declared.rows.Row.{Row}
@@ -56,3 +58,8 @@ HasShared settings config rows (Ok reports) = (segment_fault config ≡ None) ×
 HasShared settings config rows (Err (Open fault)) = IsOpenFault config fault
 HasShared settings config rows (Err (OutOfMemory _)) = segment_fault config ≡ None
 HasShared settings config rows (Err fault) = ⊥
+
+-- a segment was opened for so many workers, unless it can't be or memory is wanting
+abbrev pub HasOpened : SegmentConfig → ℕ → Result UnnamedSegment OpenFault → Type 0
+HasOpened config workers (Ok opened) = (segment_fault config ≡ None) × (opened.settings ≡ map (settings_of config) config.securities) × (opened.workers ≡ workers)
+HasOpened config workers (Err fault) = IsOpenFault config fault

@@ -1,7 +1,7 @@
 //! A day that workers share.
 ghost use Rattle.std.specs.Prelude.{◌≡◌, ◌≢◌, ◌+◌, ◌≤◌, ◌++◌, All, List, [], IfOk, length};
 ghost use Rattle.xm_day.specs.Answers.{DesksEnd, RowsRun};
-ghost use Rattle.xm_day.specs.Workers.{AreJournals, HasShared, IsShared, accepted_by, commands_in, taken_by, taken_in};
+ghost use Rattle.xm_day.specs.Workers.{AreJournals, HasOpened, HasShared, IsShared, accepted_by, commands_in, taken_by, taken_in};
 ghost use Rattle.xm_files.specs.Batches.{text_left};
 ghost use Rattle.xm_files.specs.Orders.{max_rows};
 ghost use Rattle.xm_files.specs.declared.bytes.TheConstants.{MAX_BYTES};
@@ -22,14 +22,14 @@ use std::alloc::Global;
 use std::marker::{Brand, Model};
 use std::sync::Wait;
 use std::thread::Threads;
-use xm_desk::Desk;
+use xm_desk::{Desk, OpenFault};
 use xm_files::{Batch, FileFault, Part, RowReader, SegmentNames, first_phase};
 use xm_memory::OutOfMemory;
 use xm_names::Storage;
-use xm_segment::{Blanks, Gate, GatherFault, Naming, Row, Seat, Segment, SegmentConfig};
+use xm_segment::{Gate, GatherFault, Naming, Opened, Row, Seat, Segment, SegmentConfig};
 
-/// Reads the rows of an order file of these bytes, round by round, and has so many workers take them, on a segment that the
-/// ledgers made here give a name. The fault of the file is answered, if it has one, and else what came of its rows.
+/// Reads the rows of an order file of these bytes, round by round, and has so many workers take them, on a segment whose type is
+/// picked here. The fault of the file is answered, if it has one, and else what came of its rows.
 pub(crate) fn run_shared<T: Threads + Wait + Sync, G: Gate + Sync>(
     rt: &T,
     gate: &G,
@@ -44,31 +44,41 @@ pub(crate) fn run_shared<T: Threads + Wait + Sync, G: Gate + Sync>(
     requires short { length bytes.items ≤ MAX_BYTES }
     ensures { RowsRun (DesksEnd IsShared) config.now names.now (text_left bytes.items 1) result }
 {
-    let blanks = Blanks::new(workers);
-    run_named::<Brand, T, G>(rt, gate, workers, blanks, storage, config, names, bytes)
+    let opened = Opened::new(storage, config, workers, 0);
+    run_named::<Brand, T, G>(
+        rt,
+        gate,
+        workers,
+        storage.alloc,
+        opened,
+        config,
+        names,
+        bytes,
+    )
 }
 
-/// Runs the rows on the segment that has this name.
+/// Runs the rows on the segment that has this name, where it could be opened.
 fn run_named<S: Naming + Send + Sync, T: Threads + Wait + Sync, G: Gate + Sync>(
     rt: &T,
     gate: &G,
     workers: u32,
-    blanks: Blanks,
-    storage: Storage<Global>,
+    alloc: Global,
+    opened: Result<Opened, OpenFault>,
     config: &SegmentConfig,
     names: &SegmentNames,
     bytes: Vec<u8>,
 ) -> Result<Result<OpenDay, DayFault>, FileFault>
-    requires named { NamesSegment S.settings S.ledgers S.workers config.now workers blanks }
+    requires named { IfOk opened (λ o. NamesSegment S.settings S.ledgers S.boards S.workers o) }
+    requires opened { HasOpened config.now workers opened }
     requires some { 1 ≤ workers }
     requires few { workers ≤ MAX_WORKERS }
     requires short { length bytes.items ≤ MAX_BYTES }
     ensures { RowsRun (DesksEnd IsShared) config.now names.now (text_left bytes.items 1) result }
 {
     let mut file = RowReader::of(bytes.as_slice());
-    let opened = SharedDay::<S>::open(workers, blanks, storage, config);
-    match take_file(rt, gate, storage.alloc, opened, config, names, &mut file) {
-        Ok(day) => Ok(closed(storage.alloc, day)),
+    let day = SharedDay::<S>::open(alloc, workers, opened, config);
+    match take_file(rt, gate, alloc, day, config, names, &mut file) {
+        Ok(day) => Ok(closed(alloc, day)),
         Err(fault) => Err(fault),
     }
 }
@@ -159,19 +169,20 @@ impl<S: Naming> Model for SharedDay<S> {
 }
 
 impl<S: Naming> SharedDay<S> {
-    /// Opens a segment for so many workers.
+    /// A worker for each seat of a segment, where it could be opened.
     fn open(
+        alloc: Global,
         workers: u32,
-        blanks: Blanks,
-        storage: Storage<Global>,
+        opened: Result<Opened, OpenFault>,
         config: &SegmentConfig,
     ) -> Result<SharedDay<S>, DayFault>
-        requires named { NamesSegment S.settings S.ledgers S.workers config.now workers blanks }
+        requires named { IfOk opened (λ o. NamesSegment S.settings S.ledgers S.boards S.workers o) }
+        requires opened { HasOpened config.now workers opened }
         requires some { 1 ≤ workers }
         requires few { workers ≤ MAX_WORKERS }
         ensures { HasShared S.settings config.now [] result }
     {
-        let (segment, seats, _rows) = Segment::open(storage, blanks, config, workers, 0)?;
+        let (segment, seats, _rows) = Segment::open(alloc, opened?)?;
         let workers = seated(seats)?;
         Ok(SharedDay { segment, workers })
     }

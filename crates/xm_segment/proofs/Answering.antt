@@ -8,65 +8,46 @@ use Rattle.xm_rules.specs.declared.replies.Refusal.{Refusal}
 use Rattle.xm_rules.specs.declared.replies.Refusal.TheVariants.{UnknownSecurity, UnknownMember, DayEnded, BadQuantity, BadPrice, BadValidity, BadCombination, WrongPhase, DuplicateReference, UnknownOrder, NotChangeable, TriggerReached, JournalFull, OutOfMemory}
 use Rattle.xm_rules.specs.declared.replies.Reply.{Reply}
 use Rattle.xm_rules.specs.declared.settings.DeskSettings.{DeskSettings}
-use Rattle.xm_segment.proofs.Lanes.{accepted-raises, quantity-raises, refused-counts}
+use Rattle.xm_segment.proofs.Lanes.{accepted-raises, known-or, quantity-raises, refused-counts}
 use Rattle.xm_rules.specs.declared.totals.TheConstants.{MAX_TRADED_QUANTITY}
-use Rattle.xm_segment.specs.Answers.{IsAnswered}
 use Rattle.xm_segment.specs.Ledgers.{FitLanes, accepted_in, quantity_in}
 use Rattle.xm_segment.specs.Reports.{HasRoomIn, no_report, refusal_place, report_from, with_answer_in}
-use Rattle.xm_segment.specs.Seats.{SeatView, WereAnswered, all_answered, seat_after, lacks_memory}
+use Rattle.xm_segment.specs.Seats.{IsTaken, SeatView, WereAnswered, lacks_memory}
 use Rattle.xm_segment.specs.declared.rows.Row.{Row}
 use Rattle.xm_segment.specs.declared.working.WorkerReport.{WorkerReport}
 
 -- each of these rows was answered, and none of them lacked memory
-abbrev pub AllAnswered : List DeskSettings → List Row → List (Result Reply Refusal) → Type 0
-AllAnswered settings [] [] = Unit {0}
-AllAnswered settings (row ∷ rows) (answer ∷ answers) =
-    IsAnswered (slice_get settings row.security) row.command answer × (lacks_memory answer ≡ false) × AllAnswered settings rows answers
-AllAnswered settings _ _ = ⊥
+abbrev pub AllAnswered : List DeskSettings → SeatView → List Row → List (Result Reply Refusal) → SeatView → Type 0
+AllAnswered settings before [] [] after = after ≡ before
+AllAnswered settings before (row ∷ rows) (answer ∷ answers) after =
+    (next : SeatView) × IsTaken settings row.security row.command answer before next × (lacks_memory answer ≡ false) × AllAnswered settings next rows answers after
+AllAnswered settings before _ _ after = ⊥
 
 module _ (settings : List DeskSettings) where
-  abbrev after : List Row → List (Result Reply Refusal) → Bool → Type 0
-  after rows answers lacks = MatchBool lacks (answers ≡ []) (WereAnswered settings rows answers)
+  abbrev rest : SeatView → List Row → List (Result Reply Refusal) → SeatView → Bool → Type 0
+  rest next rows answers after lacks = MatchBool lacks ((answers ≡ []) × (after ≡ next)) (WereAnswered settings next rows answers after)
 
-  pub whole : (rows : List Row) (answers : List (Result Reply Refusal)) → AllAnswered settings rows answers → WereAnswered settings rows answers
-  whole [] [] all = all
-  whole [] (a ∷ as') all = absurd all
-  whole (row ∷ rows) [] all = absurd all
-  whole (row ∷ rows) (a ∷ as') all = (all.0, subst (after rows as') (sym all.1) (whole rows as' all.2))
+  pub whole : (before after : SeatView) (rows : List Row) (answers : List (Result Reply Refusal)) → AllAnswered settings before rows answers after → WereAnswered settings before rows answers after
+  whole before after [] [] all = all
+  whole before after [] (a ∷ as') all = absurd all
+  whole before after (row ∷ rows) [] all = absurd all
+  whole before after (row ∷ rows) (a ∷ as') all = (all.0, all.1, subst (rest all.0 rows as' after) (sym all.2) (whole all.0 after rows as' all.3))
 
   -- the first that lacked memory is the last
-  pub cut : (rows : List Row) (answers : List (Result Reply Refusal)) (row : Row) (answer : Result Reply Refusal) (more : List Row) → AllAnswered settings rows answers
-      → IsAnswered (slice_get settings row.security) row.command answer → lacks_memory answer ≡ true → WereAnswered settings (rows ++ row ∷ more) (answers ++ answer ∷ [])
-  cut [] [] row answer more all is lacks = (is, subst (after more []) (sym lacks) refl)
-  cut [] (a ∷ as') row answer more all is lacks = absurd all
-  cut (r ∷ rows) [] row answer more all is lacks = absurd all
-  cut (r ∷ rows) (a ∷ as') row answer more all is lacks =
-      (all.0, subst (after (rows ++ row ∷ more) (as' ++ answer ∷ [])) (sym all.1) (cut rows as' row answer more all.2 is lacks))
+  pub cut : (before seat after : SeatView) (rows : List Row) (answers : List (Result Reply Refusal)) (row : Row) (answer : Result Reply Refusal) (more : List Row) → AllAnswered settings before rows answers seat
+      → IsTaken settings row.security row.command answer seat after → lacks_memory answer ≡ true → WereAnswered settings before (rows ++ row ∷ more) (answers ++ answer ∷ []) after
+  cut before seat after [] [] row answer more all is lacks = (after, subst (λ (s : SeatView). IsTaken settings row.security row.command answer s after) all is, subst (rest after more [] after) (sym lacks) (refl, refl))
+  cut before seat after [] (a ∷ as') row answer more all is lacks = absurd all
+  cut before seat after (r ∷ rows) [] row answer more all is lacks = absurd all
+  cut before seat after (r ∷ rows) (a ∷ as') row answer more all is lacks =
+      (all.0, all.1, subst (rest all.0 (rows ++ row ∷ more) (as' ++ answer ∷ []) after) (sym all.2) (cut all.0 seat after rows as' row answer more all.3 is lacks))
 
-  pub one-more : (rows : List Row) (answers : List (Result Reply Refusal)) (row : Row) (answer : Result Reply Refusal) → AllAnswered settings rows answers
-      → IsAnswered (slice_get settings row.security) row.command answer → lacks_memory answer ≡ false → AllAnswered settings (rows ++ row ∷ []) (answers ++ answer ∷ [])
-  one-more [] [] row answer all is has = (is, has, all)
-  one-more [] (a ∷ as') row answer all is has = absurd all
-  one-more (r ∷ rows) [] row answer all is has = absurd all
-  one-more (r ∷ rows) (a ∷ as') row answer all is has = (all.0, all.1, one-more rows as' row answer all.2 is has)
-
-  none-answered : (seat : SeatView) (rows : List Row) → all_answered seat rows [] ≡ seat
-  none-answered seat [] = refl
-  none-answered seat (row ∷ rows) = refl
-
-  pub seat-after : (seat : SeatView) (rows : List Row) (answers : List (Result Reply Refusal)) (row : Row) (answer : Result Reply Refusal) (more : List Row) → AllAnswered settings rows answers
-      → all_answered seat (rows ++ row ∷ more) (answers ++ answer ∷ []) ≡ seat_after (all_answered seat rows answers) row.security answer
-  seat-after seat [] [] row answer more all = none-answered (seat_after seat row.security answer) more
-  seat-after seat [] (a ∷ as') row answer more all = absurd all
-  seat-after seat (r ∷ rows) [] row answer more all = absurd all
-  seat-after seat (r ∷ rows) (a ∷ as') row answer more all = seat-after (seat_after seat r.security a) rows as' row answer more all.2
-
-  -- as many answers as rows
-  pub as-many : (rows : List Row) (answers : List (Result Reply Refusal)) → AllAnswered settings rows answers → length answers ≡ length rows
-  as-many [] [] all = refl
-  as-many [] (a ∷ as') all = absurd all
-  as-many (r ∷ rows) [] all = absurd all
-  as-many (r ∷ rows) (a ∷ as') all = omega (arith, as-many rows as' all.2)
+  pub one-more : (before seat after : SeatView) (rows : List Row) (answers : List (Result Reply Refusal)) (row : Row) (answer : Result Reply Refusal) → AllAnswered settings before rows answers seat
+      → IsTaken settings row.security row.command answer seat after → lacks_memory answer ≡ false → AllAnswered settings before (rows ++ row ∷ []) (answers ++ answer ∷ []) after
+  one-more before seat after [] [] row answer all is has = (after, subst (λ (s : SeatView). IsTaken settings row.security row.command answer s after) all is, has, refl)
+  one-more before seat after [] (a ∷ as') row answer all is has = absurd all
+  one-more before seat after (r ∷ rows) [] row answer all is has = absurd all
+  one-more before seat after (r ∷ rows) (a ∷ as') row answer all is has = (all.0, all.1, all.2, one-more all.0 seat after rows as' row answer all.3 is has)
 
 pub report-push : (r : WorkerReport) (answers : List (Result Reply Refusal)) (answer : Result Reply Refusal) → report_from r (answers ++ answer ∷ []) ≡ with_answer_in (report_from r answers) answer
 report-push r [] answer = refl
@@ -115,8 +96,7 @@ nothing-counts = record { places = refl; counted = refl }
 -- what is said of a worker's rows at their end, or where memory was wanting for one
 pub record HasWorked (settings : List DeskSettings) (before : SeatView) (rows : List Row) (seat : SeatView) (report : WorkerReport) : Type 0 where
   pub answers : List (Result Reply Refusal)
-  pub were : WereAnswered settings rows answers
-  pub seats : seat ≡ all_answered before rows answers
+  pub were : WereAnswered settings before rows answers seat
   pub reports : report ≡ report_from no_report answers
   pub accepted : accepted_in seat.sums ≡ accepted_in before.sums + report.accepted
   pub quantity : quantity_in seat.sums ≡ quantity_in before.sums + report.quantity
@@ -124,8 +104,7 @@ pub record HasWorked (settings : List DeskSettings) (before : SeatView) (rows : 
 -- a seat whose rows were taken so far, all answered and none for want of memory, and the report of them
 pub record IsWorked (settings : List DeskSettings) (before : SeatView) (rows : List Row) (seat : SeatView) (report : WorkerReport) : Type 0 where
   pub answers : List (Result Reply Refusal)
-  pub all : AllAnswered settings rows answers
-  pub seats : seat ≡ all_answered before rows answers
+  pub all : AllAnswered settings before rows answers seat
   pub reports : report ≡ report_from no_report answers
   pub counts : Counts (length rows) report
   pub accepted : accepted_in seat.sums ≡ accepted_in before.sums + report.accepted
@@ -133,17 +112,16 @@ pub record IsWorked (settings : List DeskSettings) (before : SeatView) (rows : L
 
 pub none-worked : (settings : List DeskSettings) (seat : SeatView) → IsWorked settings seat [] seat no_report
 none-worked settings seat =
-    record { answers = []; all = tt; seats = refl; reports = refl; counts = nothing-counts; accepted = omega arith; quantity = omega arith }
+    record { answers = []; all = refl; reports = refl; counts = nothing-counts; accepted = omega arith; quantity = omega arith }
 
-accepted-more : (settings : List DeskSettings) (seat next : SeatView) (row : Row) (answer : Result Reply Refusal) (report : WorkerReport) (n m : ℕ) → next ≡ seat_after seat row.security answer
-    → IsAnswered (slice_get settings row.security) row.command answer → FitLanes settings seat.sums
+accepted-more : (settings : List DeskSettings) (seat next : SeatView) (row : Row) (answer : Result Reply Refusal) (report : WorkerReport) (n m : ℕ) → IsTaken settings row.security row.command answer seat next → FitLanes settings seat.sums
     → accepted_in seat.sums ≡ n + report.accepted → quantity_in seat.sums ≡ m + report.quantity
     → (accepted_in next.sums ≡ n + (with_answer_in report answer).accepted) × (quantity_in next.sums ≡ m + (with_answer_in report answer).quantity)
-accepted-more settings seat next row (Ok reply) report n m took is fit accepted quantity =
-    let sums = ap (λ (s : SeatView). s.sums) took in
-    (omega (arith, ap accepted_in sums, accepted-raises settings row.security seat.sums row.command reply is fit, accepted), omega (arith, ap quantity_in sums, quantity-raises settings row.security seat.sums row.command reply is fit, quantity))
-accepted-more settings seat next row (Err e) report n m took is fit accepted quantity =
-    let sums = ap (λ (s : SeatView). s.sums) took ∙ refused-counts row.security seat.sums e in
+accepted-more settings seat next row (Ok reply) report n m took fit accepted quantity =
+    let known = known-or row.security (slice_get settings row.security) row.command (Ok reply) seat.row.watches next.row.watches took.watches in
+    (omega (arith, ap accepted_in took.sums, accepted-raises settings row.security seat.sums reply known fit, accepted), omega (arith, ap quantity_in took.sums, quantity-raises settings row.security seat.sums reply known fit, quantity))
+accepted-more settings seat next row (Err e) report n m took fit accepted quantity =
+    let sums = took.sums ∙ refused-counts row.security seat.sums e in
     (ap accepted_in sums ∙ accepted, ap quantity_in sums ∙ quantity)
 
 -- a report of fewer rows than a worker takes has room for one more, where what was traded is within what eight securities trade
@@ -171,12 +149,9 @@ want-told report (Err JournalFull) lacks none = cc
 
 -- a row that is answered next
 module _ (settings : List DeskSettings) (before seat next : SeatView) (rows : List Row) (row : Row) (answer : Result Reply Refusal) (report : WorkerReport) (w : IsWorked settings before rows seat report)
-    (took : next ≡ seat_after seat row.security answer) (is : IsAnswered (slice_get settings row.security) row.command answer) (fit : FitLanes settings seat.sums) where
+    (took : IsTaken settings row.security row.command answer seat next) (fit : FitLanes settings seat.sums) where
   sums_now : (accepted_in next.sums ≡ accepted_in before.sums + (with_answer_in report answer).accepted) × (quantity_in next.sums ≡ quantity_in before.sums + (with_answer_in report answer).quantity)
-  sums_now = accepted-more settings seat next row answer report (accepted_in before.sums) (quantity_in before.sums) took is fit w.accepted w.quantity
-
-  seat_now : (more : List Row) → next ≡ all_answered before (rows ++ row ∷ more) (w.answers ++ answer ∷ [])
-  seat_now more = took ∙ ap (λ (s : SeatView). seat_after s row.security answer) w.seats ∙ sym (seat-after settings before rows w.answers row answer more w.all)
+  sums_now = accepted-more settings seat next row answer report (accepted_in before.sums) (quantity_in before.sums) took fit w.accepted w.quantity
 
   report_now : with_answer_in report answer ≡ report_from no_report (w.answers ++ answer ∷ [])
   report_now = ap (λ (r : WorkerReport). with_answer_in r answer) w.reports ∙ sym (report-push no_report w.answers answer)
@@ -185,8 +160,7 @@ module _ (settings : List DeskSettings) (before seat next : SeatView) (rows : Li
   worked-more has =
       record {
         answers = w.answers ++ answer ∷ [];
-        all = one-more settings rows w.answers row answer w.all is has;
-        seats = seat_now [];
+        all = one-more settings before seat next rows w.answers row answer w.all took has;
         reports = report_now;
         counts = subst (λ (n : ℕ). Counts n (with_answer_in report answer)) (sym (length-append rows (row ∷ []))) (counts-more (length rows) report answer w.counts);
         accepted = sums_now.0;
@@ -198,8 +172,7 @@ module _ (settings : List DeskSettings) (before seat next : SeatView) (rows : Li
   worked-cut more lacks =
       record {
         answers = w.answers ++ answer ∷ [];
-        were = cut settings rows w.answers row answer more w.all is lacks;
-        seats = seat_now more;
+        were = cut settings before seat next rows w.answers row answer more w.all took lacks;
         reports = report_now;
         accepted = sums_now.0;
         quantity = sums_now.1;
@@ -213,21 +186,21 @@ module _ (settings : List DeskSettings) (before seat next : SeatView) (rows : Li
 
 -- the row with this index is answered next
 module _ (settings : List DeskSettings) (before seat next : SeatView) (rows : List Row) (i : ℕ) (d : Row) (answer : Result Reply Refusal) (report : WorkerReport) (within : i < length rows)
-    (w : IsWorked settings before (take i rows) seat report) (took : next ≡ seat_after seat (get_or rows i d).security answer)
-    (is : IsAnswered (slice_get settings (get_or rows i d).security) (get_or rows i d).command answer) (fit : FitLanes settings seat.sums) where
+    (w : IsWorked settings before (take i rows) seat report) (took : IsTaken settings (get_or rows i d).security (get_or rows i d).command answer seat next)
+    (fit : FitLanes settings seat.sums) where
   pub row-worked : lacks_memory answer ≡ false → IsWorked settings before (take (i + 1) rows) next (with_answer_in report answer)
   row-worked has =
       subst (λ (rs : List Row). IsWorked settings before rs next (with_answer_in report answer)) (sym (take_more rows i d within))
-      (worked-more settings before seat next (take i rows) (get_or rows i d) answer report w took is fit has)
+      (worked-more settings before seat next (take i rows) (get_or rows i d) answer report w took fit has)
 
   pub row-cut : lacks_memory answer ≡ true → HasWorked settings before rows next (with_answer_in report answer)
   row-cut lacks =
       subst (λ (rs : List Row). HasWorked settings before rs next (with_answer_in report answer)) (ap (λ (rs : List Row). take i rows ++ rs) (sym (drop-cons rows i d within)) ∙ take-append-drop i rows)
-      (worked-cut settings before seat next (take i rows) (get_or rows i d) answer report w took is fit (drop (suc i) rows) lacks)
+      (worked-cut settings before seat next (take i rows) (get_or rows i d) answer report w took fit (drop (suc i) rows) lacks)
 
   pub row-room : length rows ≤ 1000000 → quantity_in next.sums ≤ 8 * MAX_TRADED_QUANTITY → HasRoomIn report answer
   row-room few quantity =
-      room settings before seat next (take i rows) (get_or rows i d) answer report w took is fit (omega (arith, length-take-le i rows (omega (arith, within)), within, few)) quantity
+      room settings before seat next (take i rows) (get_or rows i d) answer report w took fit (omega (arith, length-take-le i rows (omega (arith, within)), within, few)) quantity
 
 -- all rows are answered
 pub rows-worked : (settings : List DeskSettings) (before seat : SeatView) (rows : List Row) (i : ℕ) (report : WorkerReport) → length rows ≤ i → IsWorked settings before (take i rows) seat report
@@ -236,8 +209,7 @@ rows-worked settings before seat rows i report end w =
     let whole-rows = take_all i rows end in (
       record {
         answers = w.answers;
-        were = subst (λ (rs : List Row). WereAnswered settings rs w.answers) whole-rows (whole settings (take i rows) w.answers w.all);
-        seats = w.seats ∙ ap (λ (rs : List Row). all_answered before rs w.answers) whole-rows;
+        were = subst (λ (rs : List Row). WereAnswered settings before rs w.answers seat) whole-rows (whole settings before seat (take i rows) w.answers w.all);
         reports = w.reports;
         accepted = w.accepted;
         quantity = w.quantity;

@@ -30,7 +30,7 @@ gathered-more (o ∷ more) (s ∷ ss) [] (suc k) opened sums j all at counts is 
 gathered-more (o ∷ more) (s ∷ ss) (i ∷ js) (suc k) opened sums j all at counts is = (all.0, gathered-more more ss js k opened sums j all.1 at counts is)
 
 -- there are no more securities
-none-more : (settings : List DeskSettings) (k : ℕ) → slice_get settings k ≡ None → take (suc k) settings ≡ take k settings
+pub none-more : (settings : List DeskSettings) (k : ℕ) → slice_get settings k ≡ None → take (suc k) settings ≡ take k settings
 none-more [] zero none = refl
 none-more [] (suc k) none = refl
 none-more (o ∷ more) zero none = absurd (cc)
@@ -73,19 +73,6 @@ pub last-fresh : (settings : List DeskSettings) (k : ℕ) (left : List Journal) 
 last-fresh settings k left last more is =
     let js : ℕ → List Journal = λ n. map fresh_journal (take n settings) in
     last-of settings k left last (subst (λ (n : ℕ). k < length (js n)) (sym (next k)) more) (ap js (next k) ∙ is)
-
--- where there are no more than its index, there is none for it
-none-of : (settings : List DeskSettings) (k : ℕ) → length (map fresh_journal (take (suc k) settings)) ≤ k → (map fresh_journal (take (suc k) settings) ≡ map fresh_journal (take k settings)) × (slice_get settings k ≡ None)
-none-of [] zero few = (refl, refl)
-none-of [] (suc k) few = (refl, refl)
-none-of (o ∷ os) zero few = absurd (omega (arith, few))
-none-of (o ∷ os) (suc k) few = let r = none-of os k (omega (arith, few)) in (ap (λ (js : List Journal). fresh_journal o ∷ js) r.0, r.1)
-
-pub none-fresh : (settings : List DeskSettings) (k : ℕ) → length (map fresh_journal (take (k + 1) settings)) ≤ k → (map fresh_journal (take (k + 1) settings) ≡ map fresh_journal (take k settings)) × (slice_get settings k ≡ None)
-none-fresh settings k few =
-    let js : ℕ → List Journal = λ n. map fresh_journal (take n settings) in
-    let none = none-of settings k (subst (λ (n : ℕ). length (js n) ≤ k) (sym (next k)) few) in
-    (ap js (sym (next k)) ∙ none.0, none.1)
 
 -- ---- how many commands were accepted
 

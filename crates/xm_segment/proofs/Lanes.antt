@@ -1,5 +1,5 @@
 -- The sums of the lanes of a segment, after an answer and added up.
-use Rattle.std.proofs.Common.{◌≡◌, ℕ, zero, suc, ◌+◌, ◌*◌, ◌≤◌, List, [], ◌∷◌, ◌++◌, length, None, Result, Ok, Err, refl, sym, ap, subst, arith, zero-add}
+use Rattle.std.proofs.Common.{◌≡◌, ℕ, zero, suc, ◌+◌, ◌*◌, ◌≤◌, List, [], ◌∷◌, ◌++◌, length, Option, None, Some, Result, Ok, Err, refl, sym, ap, subst, arith, zero-add}
 use Rattle.std.specs.Prelude.{slice_get, sum_by}
 use Rattle.std.proofs.lemmas.List.Sums.{sum_by-cons}
 use Rattle.xm_rules.specs.declared.commands.Command.{Command}
@@ -7,7 +7,9 @@ use Rattle.xm_rules.specs.declared.replies.Refusal.{Refusal}
 use Rattle.xm_rules.specs.declared.replies.Reply.{Reply}
 use Rattle.xm_rules.specs.declared.settings.DeskSettings.{DeskSettings}
 use Rattle.xm_rules.specs.declared.totals.TheConstants.{MAX_TRADED_QUANTITY}
-use Rattle.xm_segment.specs.Answers.{IsAnswered}
+use Rattle.xm_board.specs.declared.watch.Known.{Known}
+use Rattle.xm_rules.specs.declared.replies.Refusal.TheVariants.{UnknownSecurity}
+use Rattle.xm_segment.specs.Answers.{IsAnsweredOn}
 use Rattle.xm_segment.specs.Ledgers.{AreNothing, AreWithinDay, FitLanes, Sums, accepted_in, added, both_sums, nothing_counted, quantity_in, with_answer, with_answer_on}
 use Rattle.xm_segment.specs.Seats.{SeatView}
 use Rattle.xm_segment.specs.Gathering.{sums_from}
@@ -19,31 +21,48 @@ refused-counts zero (s ∷ ss) e = refl
 refused-counts (suc k) (s ∷ ss) e = ap (λ (ts : List Sums). s ∷ ts) (refused-counts k ss e)
 
 -- an answer on a security that the segment doesn't have is a refusal
-unknown-counts : (k : ℕ) (ss : List Sums) (c : Command) (a : Result Reply Refusal) → IsAnswered None c a → with_answer_on k ss a ≡ ss
-unknown-counts k ss c (Ok r) is = absurd (cc)
-unknown-counts k ss c (Err e) is = refused-counts k ss e
+abbrev pub IsKnownOr : Option DeskSettings → Result Reply Refusal → Type 0
+IsKnownOr None a = a ≡ Err UnknownSecurity
+IsKnownOr (Some opened) a = Unit {0}
+
+pub known-or : (k : ℕ) (here : Option DeskSettings) (c : Command) (a : Result Reply Refusal) (ws vs : List (Option Known)) → IsAnsweredOn k here c a ws vs → IsKnownOr here a
+known-or k None c a [] [] is = is
+known-or k (Some opened) c a [] [] is = absurd is
+known-or zero here c a [] (v ∷ vs) is = absurd is
+known-or (suc k) here c a [] (v ∷ vs) is = absurd is
+known-or zero here c a (w ∷ ws) [] is = absurd is
+known-or (suc k) here c a (w ∷ ws) [] is = absurd is
+known-or zero None c a (None ∷ ws) (None ∷ vs) is = is.0
+known-or zero None c a (None ∷ ws) (Some v ∷ vs) is = absurd is.0
+known-or zero None c a (Some w ∷ ws) (v ∷ vs) is = absurd is.0
+known-or zero (Some opened) c a (w ∷ ws) (v ∷ vs) is = tt
+known-or (suc k) here c a (w ∷ ws) (v ∷ vs) is = known-or k here c a ws vs is.1
+
+unknown-counts : (k : ℕ) (ss : List Sums) (a : Result Reply Refusal) → IsKnownOr None a → with_answer_on k ss a ≡ ss
+unknown-counts k ss (Ok r) is = absurd (cc)
+unknown-counts k ss (Err e) is = refused-counts k ss e
 
 -- and so counts in the lanes of the segment alone
-pub answer-fits : (settings : List DeskSettings) (k : ℕ) (ss : List Sums) (c : Command) (a : Result Reply Refusal) → IsAnswered (slice_get settings k) c a → FitLanes settings ss → FitLanes settings (with_answer_on k ss a)
-answer-fits [] k ss c a is fit = subst AreNothing (sym (unknown-counts k ss c a is)) fit
-answer-fits (opened ∷ more) k [] c a is fit = absurd fit
-answer-fits (opened ∷ more) zero (s ∷ ss) c a is fit = fit
-answer-fits (opened ∷ more) (suc k) (s ∷ ss) c a is fit = answer-fits more k ss c a is fit
+pub answer-fits : (settings : List DeskSettings) (k : ℕ) (ss : List Sums) (a : Result Reply Refusal) → IsKnownOr (slice_get settings k) a → FitLanes settings ss → FitLanes settings (with_answer_on k ss a)
+answer-fits [] k ss a is fit = subst AreNothing (sym (unknown-counts k ss a is)) fit
+answer-fits (opened ∷ more) k [] a is fit = absurd fit
+answer-fits (opened ∷ more) zero (s ∷ ss) a is fit = fit
+answer-fits (opened ∷ more) (suc k) (s ∷ ss) a is fit = answer-fits more k ss a is fit
 
 -- by how much an answer raises a sum over all lanes
 module _ (f : Sums → ℕ) (r : Reply) (by : ℕ) (raises : (s : Sums) → f (with_answer s (Ok r)) ≡ f s + by) where
-  pub answer-raises : (settings : List DeskSettings) (k : ℕ) (ss : List Sums) (c : Command) → IsAnswered (slice_get settings k) c (Ok r) → FitLanes settings ss → sum_by f (with_answer_on k ss (Ok r)) ≡ sum_by f ss + by
-  answer-raises [] k ss c is fit = absurd (cc)
-  answer-raises (opened ∷ more) k [] c is fit = absurd fit
-  answer-raises (opened ∷ more) zero (s ∷ ss) c is fit = omega (arith, sum_by-cons f (with_answer s (Ok r)) ss, sum_by-cons f s ss, raises s)
-  answer-raises (opened ∷ more) (suc k) (s ∷ ss) c is fit = omega (arith, sum_by-cons f s (with_answer_on k ss (Ok r)), sum_by-cons f s ss, answer-raises more k ss c is fit)
+  pub answer-raises : (settings : List DeskSettings) (k : ℕ) (ss : List Sums) → IsKnownOr (slice_get settings k) (Ok r) → FitLanes settings ss → sum_by f (with_answer_on k ss (Ok r)) ≡ sum_by f ss + by
+  answer-raises [] k ss is fit = absurd (cc)
+  answer-raises (opened ∷ more) k [] is fit = absurd fit
+  answer-raises (opened ∷ more) zero (s ∷ ss) is fit = omega (arith, sum_by-cons f (with_answer s (Ok r)) ss, sum_by-cons f s ss, raises s)
+  answer-raises (opened ∷ more) (suc k) (s ∷ ss) is fit = omega (arith, sum_by-cons f s (with_answer_on k ss (Ok r)), sum_by-cons f s ss, answer-raises more k ss is fit)
 
-pub accepted-raises : (settings : List DeskSettings) (k : ℕ) (ss : List Sums) (c : Command) (r : Reply) → IsAnswered (slice_get settings k) c (Ok r) → FitLanes settings ss → accepted_in (with_answer_on k ss (Ok r)) ≡ accepted_in ss + 1
-accepted-raises settings k ss c r is fit = answer-raises (λ (s : Sums). s.accepted) r 1 (λ s. refl) settings k ss c is fit
+pub accepted-raises : (settings : List DeskSettings) (k : ℕ) (ss : List Sums) (r : Reply) → IsKnownOr (slice_get settings k) (Ok r) → FitLanes settings ss → accepted_in (with_answer_on k ss (Ok r)) ≡ accepted_in ss + 1
+accepted-raises settings k ss r is fit = answer-raises (λ (s : Sums). s.accepted) r 1 (λ s. refl) settings k ss is fit
 
-pub quantity-raises : (settings : List DeskSettings) (k : ℕ) (ss : List Sums) (c : Command) (r : Reply) → IsAnswered (slice_get settings k) c (Ok r) → FitLanes settings ss
+pub quantity-raises : (settings : List DeskSettings) (k : ℕ) (ss : List Sums) (r : Reply) → IsKnownOr (slice_get settings k) (Ok r) → FitLanes settings ss
     → quantity_in (with_answer_on k ss (Ok r)) ≡ quantity_in ss + r.quantity
-quantity-raises settings k ss c r is fit = answer-raises (λ (s : Sums). s.quantity) r r.quantity (λ s. refl) settings k ss c is fit
+quantity-raises settings k ss r is fit = answer-raises (λ (s : Sums). s.quantity) r r.quantity (λ s. refl) settings k ss is fit
 
 -- what eight securities trade
 pub quantity-within : (ss : List Sums) → AreWithinDay ss → quantity_in ss ≤ length ss * MAX_TRADED_QUANTITY

@@ -1,9 +1,11 @@
 mod Answering
+mod Boards
 pub mod Closing
 mod Counting
 pub mod Crosses
 pub mod Lanes
-pub mod Picked
+mod Publishing
 mod Seating
 mod Sound
-mod Using
+mod Telling
+mod Watches

@@ -1,12 +1,13 @@
 -- A segment without a fault.
-use Rattle.std.proofs.Common.{◌≡◌, ◌≢◌, refl, ℕ, ◌<◌, nat_lt, Bool, true, false, not, ◌||◌, if◌then◌else◌, List, length, get_or, Option, None, Some}
+use Rattle.std.proofs.Common.{◌≡◌, ◌≢◌, refl, ℕ, ◌<◌, ◌≤◌, nat_lt, Bool, true, false, not, ◌||◌, if◌then◌else◌, List, length, get_or, Option, None, Some}
 use Rattle.std.specs.List.{list_all}
+use Rattle.std.proofs.lemmas.Bool.{ltb-false}
 use Rattle.std.proofs.lemmas.List.Folds.{list_all_at}
 use Rattle.xm_desk.specs.Opening.{open_fault}
 use Rattle.xm_rules.specs.Settings.{are_widths}
 use Rattle.xm_desk.specs.declared.opening.OpenFault.{OpenFault}
 use Rattle.xm_desk.specs.declared.opening.OpenFault.TheVariants.{NoSecurity, TooMany, BadWidths, OutOfMemory}
-use Rattle.xm_segment.specs.Opening.{segment_fault, settings_of}
+use Rattle.xm_segment.specs.Opening.{crowd_fault, opening_fault, segment_fault, settings_of}
 use Rattle.xm_segment.specs.declared.config.SecurityConfig.{SecurityConfig}
 use Rattle.xm_segment.specs.declared.config.SegmentConfig.{SegmentConfig}
 
@@ -43,3 +44,20 @@ is-memory (OutOfMemory _) refused none unless = refl
 is-memory NoSecurity refused none unless = let some = unless (λ is. absurd (cc)) in absurd (cc)
 is-memory TooMany refused none unless = let some = unless (λ is. absurd (cc)) in absurd (cc)
 is-memory BadWidths refused none unless = let some = unless (λ is. absurd (cc)) in absurd (cc)
+
+few-if : (busy some many members widths : Bool) (crowd : Option OpenFault) → crowd ≢ None
+    → (if busy then crowd else (if not some then Some NoSecurity else (if many || members then Some TooMany else (if widths then None else Some BadWidths)))) ≡ None → many ≡ false
+few-if true some many members widths crowd busy is = absurd (busy is)
+few-if false true false members widths crowd busy is = refl
+few-if false true true members widths crowd busy is = cc
+few-if false false many members widths crowd busy is = cc
+
+crowded : (some : Bool) → (if not some then Some NoSecurity else Some TooMany) ≢ None
+crowded true is = cc
+crowded false is = cc
+
+-- it has no more securities than there are lanes
+pub sound-few : (config : SegmentConfig) (workers watchers : ℕ) → opening_fault config workers watchers ≡ None → length config.securities ≤ 8
+sound-few config workers watchers sound =
+    let many = few-if (nat_lt 64 workers || nat_lt 64 watchers) (nat_lt 0 (length config.securities)) (nat_lt 8 (length config.securities)) (nat_lt 1000 config.members) (list_all (λ (s : SecurityConfig). are_widths s.widths) config.securities) (crowd_fault config) (crowded (nat_lt 0 (length config.securities))) sound in
+    ltb-false 8 (length config.securities) many

@@ -1,11 +1,15 @@
 -- What comes together where all seats of a segment come back.
-use Rattle.std.specs.Prelude.{◌≡◌, ℕ, ◌*◌, List, [], ◌∷◌, true, Option, None, Some}
+use Rattle.std.specs.Prelude.{◌≡◌, ℕ, ◌*◌, List, [], ◌∷◌, map, slice_get, true, Option, None, Some}
+use Rattle.xm_board.specs.Journals.{Begins, Own, unnumbered}
+use Rattle.xm_board.specs.declared.journal.NumberedJournal.{NumberedJournal}
+use Rattle.xm_board.specs.declared.watch.Known.{Known}
 use Rattle.xm_rules.specs.Step.{Journal, is_lawful, replay}
 use Rattle.xm_rules.specs.Sums.{total_money, total_quantity}
 use Rattle.xm_rules.specs.declared.replies.Totals.{Totals}
 use Rattle.xm_rules.specs.declared.settings.DeskSettings.{DeskSettings}
 use Rattle.xm_segment.specs.Ledgers.{FitLanes, Sums, added, nothing_counted, ledger_sums}
 use Rattle.xm_segment.specs.Seats.{SeatView}
+use Rattle.xm_segment.specs.Watches.{RowView}
 
 -- sums, with those of seats added
 abbrev pub sums_from : List Sums → List SeatView → List Sums
@@ -45,3 +49,22 @@ totals_of journal = record { quantity = total_quantity (replay journal).trades; 
 -- in ten-thousandths of a euro
 abbrev pub value_of : Journal → ℕ
 value_of journal = (totals_of journal).money * journal.settings.tick
+
+-- what a watch has seen begins the journal, and its own entries stand there, each at its version and with its number
+pub record IsPart (w : Known) (journal : NumberedJournal) : Type 0 where
+  pub seen : Begins w.seen journal
+  pub own : Own w.number journal.entries 0 w.own_entries
+
+-- each watch of a row, to that of the last security
+abbrev pub AreParts : List NumberedJournal → List (Option Known) → Type 0
+AreParts [] ws = Unit {0}
+AreParts (j ∷ js) (Some w ∷ ws) = IsPart w j × AreParts js ws
+AreParts _ _ = ⊥
+
+-- there is one history of each security: its desk's journal with a number for each command, of which all watches of all seats and
+-- rows are parts
+pub record IsOneHistory (desks : List Journal) (seats : List SeatView) (rows : List RowView) : Type 0 where
+  pub journals : List NumberedJournal
+  pub published : map unnumbered journals ≡ desks
+  pub of_seats : (i : ℕ) (seat : SeatView) → slice_get seats i ≡ Some seat → AreParts journals seat.row.watches
+  pub of_rows : (i : ℕ) (row : RowView) → slice_get rows i ≡ Some row → AreParts journals row.watches

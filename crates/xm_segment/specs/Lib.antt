@@ -1,4 +1,5 @@
 pub mod Answers
+pub mod Boards
 pub mod Gathering
 pub mod Ledgers
 pub mod Lends
@@ -7,3 +8,5 @@ pub mod Opening
 pub mod Reports
 pub mod Room
 pub mod Seats
+pub mod Unlocked
+pub mod Watches

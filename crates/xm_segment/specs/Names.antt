@@ -1,23 +1,39 @@
--- What names a segment: a type stands for the one whose settings and ledgers it has.
-use Rattle.std.specs.Prelude.{◌≡◌, ℕ, zero, suc, ◌+◌, List, [], ◌∷◌, map, slice_get, Some}
+-- What names a segment: a type stands for the one whose settings, ledgers and boards it has.
+use Rattle.atomic_table.specs.Seated.{TableId}
+use Rattle.std.specs.Prelude.{◌≡◌, ℕ, zero, suc, List, [], ◌∷◌}
+use Rattle.xm_board.specs.Opened.{Unnamed, no_table}
 use Rattle.xm_rules.specs.declared.settings.DeskSettings.{DeskSettings}
 use Rattle.xm_segment.specs.Ledgers.{BlankLedgers, LedgerNames}
-use Rattle.xm_segment.specs.Opening.{settings_of}
-use Rattle.xm_segment.specs.declared.config.SegmentConfig.{SegmentConfig}
 
--- the ledgers of each lane have these names, and a part for each worker and one more
-abbrev pub AreNamed : (ℕ → LedgerNames) → ℕ → List BlankLedgers → Type 0
-AreNamed ledgers workers blanks =
-    (lane : ℕ) (blank : BlankLedgers) → slice_get blanks lane ≡ Some blank → (blank.names ≡ ledgers lane) × (blank.parts ≡ workers + 1)
+-- each ledger has so many parts
+abbrev pub HaveParts : ℕ → List BlankLedgers → Type 0
+HaveParts parts [] = Unit {0}
+HaveParts parts (blank ∷ blanks) = (blank.parts ≡ parts) × HaveParts parts blanks
 
--- a segment that opens with these settings, for so many workers and with these ledgers, is the one that is named so
-pub record NamesSegment (settings : List DeskSettings) (ledgers : ℕ → LedgerNames) (seats : ℕ) (config : SegmentConfig) (workers : ℕ) (blanks : List BlankLedgers) : Type 0 where
-  pub settings_are : settings ≡ map (settings_of config) config.securities
-  pub workers_are : seats ≡ workers
-  pub ledgers_are : AreNamed ledgers seats blanks
+-- a segment that is opened and has no name yet: the settings of its securities and their boards, in index order, the ledgers of
+-- each of eight lanes, and for how many workers and watchers it is
+pub record UnnamedSegment : Type 0 where
+  pub settings : List DeskSettings
+  pub boards : List Unnamed
+  pub ledgers : List BlankLedgers
+  pub workers : ℕ
+  pub watchers : ℕ
 
--- the names of each lane's ledgers, by which whoever makes them picks the segment's type
-abbrev pub names_in : List BlankLedgers → ℕ → LedgerNames
-names_in [] lane = record { accepted = 0; quantity = 0; money = 0 }
-names_in (blank ∷ blanks) zero = blank.names
-names_in (blank ∷ blanks) (suc lane) = names_in blanks lane
+-- the names of each lane's ledgers
+abbrev pub ledger_names : List BlankLedgers → ℕ → LedgerNames
+ledger_names [] lane = record { accepted = 0; quantity = 0; money = 0 }
+ledger_names (blank ∷ blanks) zero = blank.names
+ledger_names (blank ∷ blanks) (suc lane) = ledger_names blanks lane
+
+-- the name of each lane's board
+abbrev pub board_names : List Unnamed → ℕ → TableId
+board_names [] lane = no_table
+board_names (board ∷ boards) zero = board.table
+board_names (board ∷ boards) (suc lane) = board_names boards lane
+
+-- it is the segment that has this name
+pub record NamesSegment (settings : List DeskSettings) (ledgers : ℕ → LedgerNames) (boards : ℕ → TableId) (workers : ℕ) (opened : UnnamedSegment) : Type 0 where
+  pub settings_are : settings ≡ opened.settings
+  pub ledgers_are : ledgers ≡ ledger_names opened.ledgers
+  pub boards_are : boards ≡ board_names opened.boards
+  pub workers_are : workers ≡ opened.workers

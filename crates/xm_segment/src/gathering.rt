@@ -1,25 +1,30 @@
 //! The end of a day that workers shared: their seats come back, and each desk leaves its lock.
-ghost use Rattle.std.specs.Prelude.{◌≡◌, ◌≢◌, ◌+◌, ◌<◌, ◌≤◌, List, [], IfErr, IfOk, OnOk, Some, length, slice_get, take};
-ghost use Rattle.xm_segment.specs.Gathering.{AreGathered, EachGathered, all_sums};
+ghost use Rattle.std.specs.Prelude.{ℕ, ◌≡◌, ◌≢◌, ◌+◌, ◌<◌, ◌≤◌, List, [], IfErr, IfOk, OnOk, Some, length, map, slice_get, take};
+ghost use Rattle.xm_board.specs.Journals.{unnumbered};
+ghost use Rattle.xm_segment.specs.Gathering.{AreGathered, EachGathered, IsOneHistory, all_sums};
 ghost use Rattle.xm_segment.specs.Ledgers.{FitLanes, Sums, nothing_counted};
 ghost use Rattle.xm_segment.specs.Room.{HasGathered};
+ghost use Rattle.xm_segment.specs.Seats.{SeatView};
+ghost use Rattle.xm_segment.specs.Unlocked.{ArePartsIn, FillLanes, journals_in, with_desk};
+ghost use Rattle.xm_segment.specs.Watches.{RowView};
 ghost use Rattle.xm_segment.specs.declared.gathered.GatherFault.TheVariants as GatherFault;
 ghost use Rattle.xm_segment.specs.declared.opening.TheConstants.{MAX_SECURITIES};
 
 use crate::gathered::{GatherFault, Gathered};
-use crate::lane::Lane;
 use crate::ledgers::Shares;
 use crate::naming::Naming;
 use crate::opening::MAX_SECURITIES;
 use crate::seat::{Seat, WatchRow};
 use crate::segment::Segment;
 use crate::share_row::ShareRow;
+use crate::unlocked::{UnlockedLane, UnlockedLanes};
 use std::alloc::Global;
 use xm_memory::OutOfMemory;
 
 impl<S: Naming> Segment<S> {
     /// Gathers a segment: takes all seats back, and each desk from behind its lock. What the seats' accepted commands counted
-    /// is what the desks' journals have: their commands, and the quantity and the money of their trades.
+    /// is what the desks' journals have: their commands, and the quantity and the money of their trades. What the rows of all seats
+    /// and these watchers' rows had seen, and what is their own, is part of one history, which is the desks'.
     ///
     /// `MissingSeat`: there are fewer seats than workers. `OutOfMemory`: a growth was refused. Then the segment and the seats
     /// are handed back, in their order.
@@ -27,9 +32,10 @@ impl<S: Naming> Segment<S> {
         self,
         alloc: Global,
         seats: Vec<Seat<S>>,
-        _rows: &mut [WatchRow<S>],
+        rows: &mut [WatchRow<S>],
     ) -> Result<Gathered, (Segment<S>, Vec<Seat<S>>, GatherFault)>
         ensures gathered { IfOk result (λ g. AreGathered S.settings (all_sums seats.items) g.desks.items) }
+        ensures history { IfOk result (λ g. IsOneHistory g.desks.items seats.items rows.old) }
         ensures seats { OnOk result (S.workers ≤ length seats.items) }
         ensures missing { IfErr result (λ e. e.2 ≡ GatherFault.MissingSeat → length seats.items < S.workers) }
         ensures memory { IfErr result (λ e. e.2 ≢ GatherFault.MissingSeat → S.workers ≤ length seats.items) }
@@ -39,7 +45,7 @@ impl<S: Naming> Segment<S> {
             return Err((self, seats, GatherFault::MissingSeat));
         }
         match Gathered::new(alloc) {
-            Ok(gathered) => Ok(gathered.with_lanes(self, seats)),
+            Ok(gathered) => Ok(gathered.with_lanes(self, seats, rows)),
             Err(error) => Err((self, seats, GatherFault::OutOfMemory(error))),
         }
     }
@@ -59,25 +65,50 @@ impl Gathered {
     }
 
     /// What a segment came to whose seats are all there.
-    fn with_lanes<S: Naming>(self, segment: Segment<S>, seats: Vec<Seat<S>>) -> Gathered
+    fn with_lanes<S: Naming>(
+        self,
+        segment: Segment<S>,
+        seats: Vec<Seat<S>>,
+        rows: &mut [WatchRow<S>],
+    ) -> Gathered
         requires room { HasGathered 0 self }
         requires none { self.desks.items ≡ [] }
         requires seats { S.workers ≤ length seats.items }
-        ensures { AreGathered S.settings (all_sums seats.items) result.desks.items }
+        ensures all { AreGathered S.settings (all_sums seats.items) result.desks.items }
+        ensures history { IsOneHistory result.desks.items seats.items rows.old }
     {
         let _ = segment.workers; // There are at most eight securities.
         let Segment {
-            l0,
-            l1,
-            l2,
-            l3,
-            l4,
-            l5,
-            l6,
-            l7,
+            lanes,
             own,
             workers: _,
         } = segment;
+        let mut lanes = UnlockedLanes::of(lanes);
+        let shares = merged(&mut lanes, own.into_row(), seats);
+        tell_all(&mut lanes, rows);
+        self.with_desks(lanes, shares)
+    }
+
+    /// The desks of all lanes, of which all shares came back.
+    fn with_desks<S: Naming>(self, lanes: UnlockedLanes<S>, shares: ShareRow<S>) -> Gathered
+        requires few { length S.settings ≤ MAX_SECURITIES }
+        requires room { HasGathered 0 self }
+        requires none { self.desks.items ≡ [] }
+        requires parts { shares.parts ≡ S.workers + 1 }
+        ensures each { EachGathered S.settings shares.sums result.desks.items }
+        ensures desks { result.desks.items ≡ map unnumbered (journals_in lanes) }
+        ensures filled { FillLanes 0 S.settings lanes }
+    {
+        let UnlockedLanes {
+            u0,
+            u1,
+            u2,
+            u3,
+            u4,
+            u5,
+            u6,
+            u7,
+        } = lanes;
         let ShareRow {
             s0,
             s1,
@@ -87,27 +118,28 @@ impl Gathered {
             s5,
             s6,
             s7,
-        } = merged(own.into_row(), seats);
+        } = shares;
         let mut gathered = self;
-        gathered.put(l0, s0);
-        gathered.put(l1, s1);
-        gathered.put(l2, s2);
-        gathered.put(l3, s3);
-        gathered.put(l4, s4);
-        gathered.put(l5, s5);
-        gathered.put(l6, s6);
-        gathered.put(l7, s7);
+        gathered.put(u0, s0);
+        gathered.put(u1, s1);
+        gathered.put(u2, s2);
+        gathered.put(u3, s3);
+        gathered.put(u4, s4);
+        gathered.put(u5, s5);
+        gathered.put(u6, s6);
+        gathered.put(u7, s7);
         gathered
     }
 
     /// Puts the desk of a lane behind those before it, where the segment has that many.
-    fn put<S: Naming, const K: usize>(&mut self, lane: Lane<S, K>, shares: Shares<S, K>)
+    fn put<S: Naming, const K: usize>(&mut self, lane: UnlockedLane<S, K>, shares: Shares<S, K>)
         requires eight { K < 8 }
         requires parts { shares.parts ≡ S.workers + 1 }
         requires room { HasGathered K self.old }
         ensures room { HasGathered (K + 1) self.new }
-        ensures desks { (counted : List Sums) → slice_get counted K ≡ Some shares.sums → EachGathered (take K S.settings) counted self.old.desks.items
+        ensures each { (counted : List Sums) → slice_get counted K ≡ Some shares.sums → EachGathered (take K S.settings) counted self.old.desks.items
             → EachGathered (take (K + 1) S.settings) counted self.new.desks.items }
+        ensures desks { self.new.desks.items ≡ with_desk self.old.desks.items lane }
     {
         let Some(desk) = lane.close(shares) else {
             return;
@@ -121,17 +153,35 @@ impl Gathered {
     }
 }
 
-/// The shares that a segment kept, with those of all seats.
-fn merged<S: Naming>(own: ShareRow<S>, seats: Vec<Seat<S>>) -> ShareRow<S>
+/// The shares that a segment kept, with those of all seats, whose rows are told what their lanes have published.
+fn merged<S: Naming>(
+    lanes: &mut UnlockedLanes<S>,
+    own: ShareRow<S>,
+    seats: Vec<Seat<S>>,
+) -> ShareRow<S>
     requires own { own ≡ record { parts = 1; sums = nothing_counted } }
     requires seats { S.workers ≤ length seats.items }
     requires few { length S.settings ≤ MAX_SECURITIES }
     ensures all { result ≡ record { parts = S.workers + 1; sums = all_sums seats.items } }
     ensures fit { FitLanes S.settings (all_sums seats.items) }
+    ensures lanes { lanes.new ≡ lanes.old }
+    ensures parts { (i : ℕ) (seat : SeatView) → slice_get seats.items i ≡ Some seat → ArePartsIn lanes.old seat.row.watches }
 {
     let mut all = own;
     for seat in seats {
-        all.merge(seat.into_shares());
+        let (shares, mut row) = seat.into_parts();
+        lanes.tell(&mut row);
+        all.merge(shares);
     }
     all
+}
+
+/// Tells rows what their lanes have published.
+fn tell_all<S: Naming>(lanes: &mut UnlockedLanes<S>, rows: &mut [WatchRow<S>])
+    ensures lanes { lanes.new ≡ lanes.old }
+    ensures parts { (i : ℕ) (row : RowView) → slice_get rows.old i ≡ Some row → ArePartsIn lanes.old row.watches }
+{
+    for row in rows.iter_mut() {
+        lanes.tell(row);
+    }
 }

@@ -1,24 +1,29 @@
-//! A security of a segment, which has its own lock.
-ghost use Rattle.std.specs.Prelude.{◌≡◌, ◌+◌, ◌<◌, ◌≤◌, slice_get};
+//! A security of a segment, which has its own lock and its own board.
+ghost use Rattle.std.specs.Prelude.{◌≡◌, ◌<◌, ◌≤◌, ℕ, slice_get};
 ghost use Rattle.xm_rules.specs.declared.totals.TheConstants.{MAX_TRADED_QUANTITY};
-ghost use Rattle.xm_segment.specs.Answers.{IsAnswered, IsQuoted};
-ghost use Rattle.xm_segment.specs.Gathering.{IsClosed};
+ghost use Rattle.xm_segment.specs.Answers.{IsAnswered, IsShown};
 ghost use Rattle.xm_segment.specs.Ledgers.{with_answer};
+ghost use Rattle.xm_segment.specs.Watches.{IsWatch};
 
 use crate::gate::Gate;
 use crate::ledgers::Shares;
-use crate::locked::Locked;
+use crate::locked::{Locked, QuoteBoard, QuoteWatch};
 use crate::naming::Naming;
-use std::alloc::Global;
 use std::marker::Model;
 use std::sync::{Mutex, Wait};
-use xm_desk::Desk;
 use xm_rules::{Command, Quote, Refusal, Reply};
 
 /// The lane of the security with this index, if the segment has that many.
 #[derive(Drop)]
 pub(crate) struct Lane<S: Naming, const K: usize> {
-    pub(crate) lock: Option<Mutex<Locked<S, K>>>,
+    pub(crate) open: Option<OpenLane<S, K>>,
+}
+
+/// What a security has: its lock, and the board beside it.
+#[derive(Drop)]
+pub(crate) struct OpenLane<S: Naming, const K: usize> {
+    pub(crate) lock: Mutex<Locked<S, K>>,
+    pub(crate) board: QuoteBoard<S, K>,
 }
 
 impl<S: Naming, const K: usize> Model for Lane<S, K> {
@@ -28,7 +33,7 @@ impl<S: Naming, const K: usize> Model for Lane<S, K> {
 
     ghost view = { λ _. tt };
 
-    ghost invariant = { λ l. is_some l.lock ≡ is_some (slice_get S.settings K) };
+    ghost invariant = { λ l. is_some l.open ≡ is_some (slice_get S.settings K) };
 }
 
 impl<S: Naming, const K: usize> Lane<S, K> {
@@ -40,41 +45,39 @@ impl<S: Naming, const K: usize> Lane<S, K> {
         worker: u32,
         security: u32,
         shares: &mut Shares<S, K>,
+        watch: &mut Option<QuoteWatch<S, K>>,
         command: &Command,
     ) -> Result<Reply, Refusal>
-        requires { 0 < shares.old.parts }
-        ensures answer { IsAnswered (slice_get S.settings K) command.now result }
+        requires shares { 0 < shares.old.parts }
+        requires watch { (number : ℕ) × IsWatch number (slice_get S.settings K) watch.old }
+        ensures answer { IsAnswered (slice_get S.settings K) command.now result watch.old watch.new }
+        ensures watch { (number : ℕ) → IsWatch number (slice_get S.settings K) watch.old → IsWatch number (slice_get S.settings K) watch.new }
         ensures shares { shares.new ≡ record shares.old { sums = with_answer shares.old.sums result } }
         ensures within { shares.old.sums.quantity ≤ MAX_TRADED_QUANTITY → shares.new.sums.quantity ≤ MAX_TRADED_QUANTITY }
     {
-        let Some(lock) = &self.lock else {
+        let Some(open) = &self.open else {
             return Err(Refusal::UnknownSecurity);
         };
-        let mut locked = lock.lock(rt);
+        let Some(watch) = watch else {
+            return Err(Refusal::UnknownSecurity);
+        };
+        let mut locked = open.lock.lock(rt);
         gate.inside(worker, security);
-        locked.submit(shares, command)
+        locked.submit(&open.board, shares, watch, command)
     }
 
-    /// What is shown of the security, if there is one.
-    pub(crate) fn quote<R: Wait>(&self, rt: &R) -> Option<Quote>
-        ensures { IsQuoted (slice_get S.settings K) result }
+    /// What is shown of the security, if there is one. It takes no lock.
+    pub(crate) fn quote(&self, watch: &mut Option<QuoteWatch<S, K>>) -> Option<Quote>
+        requires { (number : ℕ) × IsWatch number (slice_get S.settings K) watch.old }
+        ensures shown { IsShown (slice_get S.settings K) result watch.old watch.new }
+        ensures watch { (number : ℕ) → IsWatch number (slice_get S.settings K) watch.old → IsWatch number (slice_get S.settings K) watch.new }
     {
-        let Some(lock) = &self.lock else {
+        let Some(open) = &self.open else {
             return None;
         };
-        Some(lock.lock(rt).quote())
-    }
-
-    /// The desk, if there is one, where shares with all parts of the ledgers came back.
-    pub(crate) fn close(self, shares: Shares<S, K>) -> Option<Desk<Global>>
-        requires { shares.parts ≡ S.workers + 1 }
-        ensures { IsClosed (slice_get S.settings K) shares.sums result }
-    {
-        let Lane { lock } = self;
-        let mut shares = shares;
-        match lock {
-            Some(lock) => Some(lock.into_inner().close(&mut shares)),
-            None => None,
-        }
+        let Some(watch) = watch else {
+            return None;
+        };
+        Some(watch.read(&open.board))
     }
 }

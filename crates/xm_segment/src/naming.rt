@@ -3,9 +3,11 @@ ghost use Rattle.std.specs.Prelude.{ℕ, List};
 
 use std::marker::{Brand, PhantomData};
 use std::sync::ledger::Ledger;
+use xm_board::BoardNaming;
 
-/// Which segment it is: the settings of its securities, and what names their ledgers.
+/// Which segment it is: the settings of its securities, and what names their ledgers and their boards.
 pub trait Naming {
+    ghost use Rattle.atomic_table.specs.Seated.{TableId};
     ghost use Rattle.std.specs.Prelude.{ℕ, List};
     ghost use Rattle.xm_rules.specs.declared.settings.DeskSettings.{DeskSettings};
     ghost use Rattle.xm_segment.specs.Ledgers.{LedgerNames};
@@ -14,15 +16,20 @@ pub trait Naming {
 
     ghost ledgers: { ℕ → LedgerNames };
 
+    ghost boards: { ℕ → TableId };
+
     ghost workers: { ℕ };
 }
 
 impl Naming for Brand {
     ghost use Rattle.std.specs.Prelude.{[]};
+    ghost use Rattle.xm_board.specs.Opened.{no_table};
 
     ghost settings = { [] };
 
     ghost ledgers = { λ _. record { accepted = 0; quantity = 0; money = 0 } };
+
+    ghost boards = { λ _. no_table };
 
     ghost workers = { 0 };
 }
@@ -64,4 +71,13 @@ impl<S: Naming, const K: usize> Ledger for Money<S, K> {
     ghost name = { (S.ledgers K).money };
 
     ghost parts = { S.workers + 1 };
+}
+
+/// Names the board on which the quote of that security stands.
+pub struct Quotes<S, const K: usize> {
+    of: PhantomData<S>,
+}
+
+impl<S: Naming, const K: usize> BoardNaming for Quotes<S, K> {
+    ghost table = { S.boards K };
 }

@@ -1,20 +1,24 @@
 //! A segment as it opens for workers and watchers.
-ghost use Rattle.std.specs.Prelude.{ℕ, ◌≡◌, ◌≢◌, ◌+◌, ◌<◌, ◌≤◌, ◌^◌, [], Err, IfErr, IfOk, None, OnOk, Some, length, map, slice_get, take};
+ghost use Rattle.std.specs.Prelude.{ℕ, ◌≡◌, ◌≢◌, ◌+◌, ◌≤◌, [], Err, IfErr, IfOk, None, OnOk, Some, length, map, option_map, slice_get, take};
 ghost use Rattle.std.specs.Vec.{vec_capacity};
-ghost use Rattle.xm_segment.specs.Ledgers.{BlankLedgers, no_sums, nothing_counted};
-ghost use Rattle.xm_segment.specs.Names.{AreNamed, NamesSegment};
-ghost use Rattle.xm_segment.specs.Opening.{fresh_journal, opening_fault};
+ghost use Rattle.xm_rules.specs.Step.{Journal};
+ghost use Rattle.xm_segment.specs.Boards.{AreColumnsFrom, AreFreshFrom, AreLeft, IsColumn, IsFresh};
+ghost use Rattle.xm_segment.specs.Ledgers.{no_sums, nothing_counted};
+ghost use Rattle.xm_segment.specs.Names.{NamesSegment};
+ghost use Rattle.xm_segment.specs.Opening.{fresh_journal, opening_fault, settings_of};
 ghost use Rattle.xm_segment.specs.Seats.{AreRows, AreSeats};
 ghost use Rattle.xm_segment.specs.declared.opening.TheConstants.{MAX_SECURITIES};
 
+use crate::blanks::{Blanks, BookRow};
 use crate::config::SegmentConfig;
-use crate::lane::Lane;
-use crate::ledgers::{Books, LaneBlanks};
-use crate::locked::Locked;
+use crate::lane::{Lane, OpenLane};
+use crate::ledgers::Books;
+use crate::locked::{Locked, QuoteWatch};
+use crate::named::{Columns, NamedBoard, NamedBoards, named_boards, rows_of};
 use crate::naming::Naming;
 use crate::opening::desks_of;
 use crate::seat::{Seat, WatchRow};
-use crate::segment::{OwnShares, Segment};
+use crate::segment::{Lanes, OwnShares, Segment};
 use crate::share_row::ShareRow;
 use std::alloc::Global;
 use std::marker::Model;
@@ -23,65 +27,63 @@ use xm_desk::{Desk, OpenFault};
 use xm_memory::OutOfMemory;
 use xm_names::Storage;
 
-/// The ledgers of a segment, before it has them. They are made by a caller, who picks the segment's type by their names. A
-/// clause sees those of each of eight lanes.
-#[derive(Drop)]
-pub struct Blanks {
-    b0: LaneBlanks,
-    b1: LaneBlanks,
-    b2: LaneBlanks,
-    b3: LaneBlanks,
-    b4: LaneBlanks,
-    b5: LaneBlanks,
-    b6: LaneBlanks,
-    b7: LaneBlanks,
+/// A segment that is opened, and which no type names yet: its desks, its boards and its ledgers. Whoever opens it picks its type by
+/// their names. A clause sees the settings of its securities, the boards, the ledgers, and for how many workers and watchers it is.
+pub struct Opened {
+    desks: Vec<Desk<Global>>,
+    boards: Vec<xm_board::Opened<Global>>,
+    blanks: Blanks,
+    workers: u32,
+    watchers: u32,
 }
 
-impl Model for Blanks {
-    ghost use Rattle.std.specs.Prelude.{List, [], ◌∷◌};
-    ghost use Rattle.xm_segment.specs.Ledgers.{BlankLedgers};
-
-    ghost Value = { List BlankLedgers };
-
-    ghost view = { λ b. b.b0 ∷ b.b1 ∷ b.b2 ∷ b.b3 ∷ b.b4 ∷ b.b5 ∷ b.b6 ∷ b.b7 ∷ [] };
-}
-
-impl Blanks {
-    /// The ledgers of a segment for so many workers: a part for each, and one that the segment keeps.
-    pub fn new(workers: u32) -> Blanks
-        ensures { (lane : ℕ) (blank : BlankLedgers) → slice_get result lane ≡ Some blank → blank.parts ≡ workers + 1 }
-    {
-        let parts = u64::from(workers) + 1;
-        Blanks {
-            b0: LaneBlanks::new(parts),
-            b1: LaneBlanks::new(parts),
-            b2: LaneBlanks::new(parts),
-            b3: LaneBlanks::new(parts),
-            b4: LaneBlanks::new(parts),
-            b5: LaneBlanks::new(parts),
-            b6: LaneBlanks::new(parts),
-            b7: LaneBlanks::new(parts),
-        }
+// In a function of its own, so that whoever drops one proves one call.
+impl Drop for Opened {
+    fn drop(self) {
+        let Opened {
+            desks: _desks,
+            boards: _boards,
+            blanks: _blanks,
+            workers: _,
+            watchers: _,
+        } = self;
     }
 }
 
-impl<S: Naming> Segment<S> {
-    /// Opens a segment for so many workers and watchers: a seat for each worker, with the numbers from 0 on, and a row for
-    /// each watcher, with the numbers after those.
+impl Model for Opened {
+    ghost use Rattle.std.specs.Prelude.{◌≡◌, ◌+◌, ◌≤◌, length, map};
+    ghost use Rattle.xm_segment.specs.Names.{HaveParts, UnnamedSegment};
+    ghost use Rattle.xm_segment.specs.Opening.{fresh_journal};
+    ghost use Rattle.xm_segment.specs.declared.opening.TheConstants.{MAX_SECURITIES, MAX_WORKERS};
+
+    ghost Value = { UnnamedSegment };
+
+    ghost view = { λ o. record { settings = map (λ board. board.settings) o.boards.items; boards = o.boards.items; ledgers = o.blanks; workers = o.workers; watchers = o.watchers } };
+
+    ghost invariant = { λ o. record {
+      desks : o.desks.items ≡ map (λ board. fresh_journal board.settings) o.boards.items;
+      parts : HaveParts (o.workers + 1) o.blanks;
+      few : length o.boards.items ≤ MAX_SECURITIES;
+      few_workers : o.workers ≤ MAX_WORKERS;
+      few_watchers : o.watchers ≤ MAX_WORKERS;
+    } };
+}
+
+impl Opened {
+    /// Opens a segment for so many workers and watchers.
     ///
     /// The fault is the first of these: no security; more than `MAX_SECURITIES` of them, `MAX_MEMBERS` members,
     /// `MAX_WORKERS` workers or as many watchers; widths of a security that aren't lawful. It is `OutOfMemory` where a growth
     /// was refused.
-    pub fn open(
+    pub fn new(
         storage: Storage<Global>,
-        blanks: Blanks,
         config: &SegmentConfig,
         workers: u32,
         watchers: u32,
-    ) -> Result<(Segment<S>, Vec<Seat<S>>, Vec<WatchRow<S>>), OpenFault>
-        requires { NamesSegment S.settings S.ledgers S.workers config.now workers blanks }
-        ensures seats { IfOk result (λ o. AreSeats workers o.1.items) }
-        ensures rows { IfOk result (λ o. AreRows workers watchers o.2.items) }
+    ) -> Result<Opened, OpenFault>
+        ensures settings { IfOk result (λ o. o.settings ≡ map (settings_of config.now) config.now.securities) }
+        ensures workers { IfOk result (λ o. o.workers ≡ workers) }
+        ensures watchers { IfOk result (λ o. o.watchers ≡ watchers) }
         ensures sound { OnOk result (opening_fault config.now workers watchers ≡ None) }
         ensures refused { IfErr result (λ fault. fault ≢ OpenFault.OutOfMemory tt → opening_fault config.now workers watchers ≡ Some fault) }
         ensures memory { result ≡ Err (OpenFault.OutOfMemory tt) → opening_fault config.now workers watchers ≡ None }
@@ -89,78 +91,134 @@ impl<S: Naming> Segment<S> {
         if let Some(fault) = config.opening_fault(workers, watchers) {
             return Err(fault);
         }
-        let seats = Vec::with_capacity(storage.alloc, workers as usize).map_err(OutOfMemory::from)?;
-        let rows = Vec::with_capacity(storage.alloc, watchers as usize).map_err(OutOfMemory::from)?;
-        match desks_of(storage, config) {
-            Ok(desks) => Ok(opened(
-                desks,
-                blanks,
-                workers,
-                seats,
-                numbered(rows, workers, watchers),
-            )),
-            Err(fault) => Err(fault),
-        }
+        let desks = desks_of(storage, config)?;
+        let boards = boards_of(storage.alloc, desks.as_slice())?;
+        Ok(Opened {
+            desks,
+            boards,
+            blanks: Blanks::new(workers),
+            workers,
+            watchers,
+        })
     }
 }
 
-/// A segment of these desks, with seats for its workers.
-fn opened<S: Naming>(
-    desks: Vec<Desk<Global>>,
-    blanks: Blanks,
-    workers: u32,
-    seats: Vec<Seat<S>>,
-    rows: Vec<WatchRow<S>>,
-) -> (Segment<S>, Vec<Seat<S>>, Vec<WatchRow<S>>)
-    requires few { length S.settings ≤ MAX_SECURITIES }
-    requires workers { S.workers ≡ workers }
-    requires ledgers { AreNamed S.ledgers S.workers blanks }
-    requires desks { desks.items ≡ map fresh_journal S.settings }
-    requires none { seats.items ≡ [] }
-    requires room { workers ≤ vec_capacity seats }
-    ensures seats { AreSeats workers result.1.items }
-    ensures rows { result.2.items ≡ rows.items }
+/// A board for each desk that has taken no command.
+fn boards_of(
+    alloc: Global,
+    desks: &[Desk<Global>],
+) -> Result<Vec<xm_board::Opened<Global>>, OutOfMemory>
+    requires { (i : ℕ) (desk : Journal) → slice_get desks.now i ≡ Some desk → desk.commands ≡ [] }
+    ensures { IfOk result (λ boards. map (λ board. board.settings) boards.items ≡ map (λ desk. desk.settings) desks.now) }
 {
-    let Blanks {
-        b0,
-        b1,
-        b2,
-        b3,
-        b4,
-        b5,
-        b6,
-        b7,
-    } = blanks;
-    let (k0, s0) = b0.open::<S, 0>();
-    let (k1, s1) = b1.open::<S, 1>();
-    let (k2, s2) = b2.open::<S, 2>();
-    let (k3, s3) = b3.open::<S, 3>();
-    let (k4, s4) = b4.open::<S, 4>();
-    let (k5, s5) = b5.open::<S, 5>();
-    let (k6, s6) = b6.open::<S, 6>();
-    let (k7, s7) = b7.open::<S, 7>();
-    let mut shares = ShareRow {
-        s0,
-        s1,
-        s2,
-        s3,
-        s4,
-        s5,
-        s6,
-        s7,
-    };
-    let seats = seated(seats, &mut shares, workers);
-    let mut desks = desks;
-    let l7 = last_lane(&mut desks, k7);
-    let l6 = last_lane(&mut desks, k6);
-    let l5 = last_lane(&mut desks, k5);
-    let l4 = last_lane(&mut desks, k4);
-    let l3 = last_lane(&mut desks, k3);
-    let l2 = last_lane(&mut desks, k2);
-    let l1 = last_lane(&mut desks, k1);
-    let l0 = last_lane(&mut desks, k0);
-    let own = OwnShares::new(shares);
-    let segment = Segment {
+    let mut boards = Vec::with_capacity(alloc, desks.len())?;
+    for desk in desks {
+        let board = xm_board::Opened::new(alloc, desk.settings(), &desk.quote())?;
+        boards.push_reserved(board);
+    }
+    Ok(boards)
+}
+
+impl<S: Naming> Segment<S> {
+    /// The segment under its name, with a seat for each worker, with the numbers from 0 on, and a row for each watcher, with the
+    /// numbers after those. Nothing is counted, seen or own. It fails where a growth is refused.
+    pub fn open(
+        alloc: Global,
+        opened: Opened,
+    ) -> Result<(Segment<S>, Vec<Seat<S>>, Vec<WatchRow<S>>), OutOfMemory>
+        requires { NamesSegment S.settings S.ledgers S.boards S.workers opened }
+        ensures seats { IfOk result (λ o. AreSeats S.settings opened.workers o.1.items) }
+        ensures rows { IfOk result (λ o. AreRows S.settings opened.workers opened.watchers o.2.items) }
+    {
+        let all = opened.workers + opened.watchers;
+        let seats = Vec::with_capacity(alloc, opened.workers as usize)?;
+        let rows = Vec::with_capacity(alloc, opened.watchers as usize)?;
+        let waiting = Vec::with_capacity(alloc, all as usize)?;
+        opened.named(alloc, all, seats, rows, waiting)
+    }
+}
+
+impl Opened {
+    /// The segment under its name. There is room for its seats, its watchers' rows, and the rows of both.
+    fn named<S: Naming>(
+        self,
+        alloc: Global,
+        all: u32,
+        seats: Vec<Seat<S>>,
+        rows: Vec<WatchRow<S>>,
+        waiting: Vec<WatchRow<S>>,
+    ) -> Result<(Segment<S>, Vec<Seat<S>>, Vec<WatchRow<S>>), OutOfMemory>
+        requires named { NamesSegment S.settings S.ledgers S.boards S.workers self }
+        requires all { all ≡ self.workers + self.watchers }
+        requires seats { (seats.items ≡ []) × (self.workers ≤ vec_capacity seats) }
+        requires rows { (rows.items ≡ []) × (self.watchers ≤ vec_capacity rows) }
+        requires waiting { (waiting.items ≡ []) × (all ≤ vec_capacity waiting) }
+        ensures seats { IfOk result (λ o. AreSeats S.settings self.workers o.1.items) }
+        ensures rows { IfOk result (λ o. AreRows S.settings self.workers self.watchers o.2.items) }
+    {
+        let Opened {
+            desks,
+            boards,
+            blanks,
+            workers,
+            watchers: _,
+        } = self;
+        let named = named_boards(alloc, boards, all)?;
+        let (books, mut shares) = blanks.open::<S>();
+        let (lanes, columns) = lanes_of(desks, books, named);
+        let mut waiting = rows_of(waiting, columns, all);
+        let seats = seated(seats, &mut shares, &mut waiting, workers);
+        let own = OwnShares::new(shares);
+        let segment = Segment {
+            lanes,
+            own,
+            workers,
+        };
+        Ok((segment, seats, ordered(rows, waiting)))
+    }
+}
+
+/// The lanes of these desks and boards, and the watches of each.
+fn lanes_of<S: Naming>(
+    mut desks: Vec<Desk<Global>>,
+    books: BookRow<S>,
+    named: NamedBoards<S>,
+) -> (Lanes<S>, Columns<S>)
+    requires few { length S.settings ≤ MAX_SECURITIES }
+    requires desks { desks.items ≡ map fresh_journal S.settings }
+    requires books { books ≡ nothing_counted }
+    requires boards { (rows : ℕ) × AreFreshFrom 0 S.settings rows named }
+    ensures { (rows : ℕ) → AreFreshFrom 0 S.settings rows named → AreColumnsFrom 0 S.settings rows result.1 }
+{
+    let NamedBoards {
+        n0,
+        n1,
+        n2,
+        n3,
+        n4,
+        n5,
+        n6,
+        n7,
+    } = named;
+    let BookRow {
+        k0,
+        k1,
+        k2,
+        k3,
+        k4,
+        k5,
+        k6,
+        k7,
+    } = books;
+    let (l7, c7) = last_lane(&mut desks, k7, n7);
+    let (l6, c6) = last_lane(&mut desks, k6, n6);
+    let (l5, c5) = last_lane(&mut desks, k5, n5);
+    let (l4, c4) = last_lane(&mut desks, k4, n4);
+    let (l3, c3) = last_lane(&mut desks, k3, n3);
+    let (l2, c2) = last_lane(&mut desks, k2, n2);
+    let (l1, c1) = last_lane(&mut desks, k1, n1);
+    let (l0, c0) = last_lane(&mut desks, k0, n0);
+    let lanes = Lanes {
         l0,
         l1,
         l2,
@@ -169,60 +227,79 @@ fn opened<S: Naming>(
         l5,
         l6,
         l7,
-        own,
-        workers,
     };
-    (segment, seats, rows)
+    let columns = Columns {
+        c0,
+        c1,
+        c2,
+        c3,
+        c4,
+        c5,
+        c6,
+        c7,
+    };
+    (lanes, columns)
 }
 
-/// The lane with this index, for which the last desk is taken where there are more than its index.
+/// The lane with this index, for which the last desk is taken where the segment has that many, and the watches of its board.
 fn last_lane<S: Naming, const K: usize>(
     desks: &mut Vec<Desk<Global>>,
     books: Books<S, K>,
-) -> Lane<S, K>
+    named: Option<NamedBoard<S, K>>,
+) -> (Lane<S, K>, Option<Vec<QuoteWatch<S, K>>>)
     requires desks { desks.old.items ≡ map fresh_journal (take (K + 1) S.settings) }
     requires books { books ≡ no_sums }
-    ensures { desks.new.items ≡ map fresh_journal (take K S.settings) }
+    requires board { (rows : ℕ) × IsFresh rows (slice_get S.settings K) named }
+    ensures left { desks.new.items ≡ map fresh_journal (take K S.settings) }
+    ensures column { (rows : ℕ) → IsFresh rows (slice_get S.settings K) named → IsColumn rows (slice_get S.settings K) (option_map (λ v. v.items) result.1) }
 {
-    if desks.len() <= K {
-        return Lane { lock: None };
-    }
-    let Some(desk) = desks.pop() else {
-        return Lane { lock: None };
+    let Some(named) = named else {
+        return (Lane { open: None }, None);
     };
-    Lane {
-        lock: Some(Mutex::new(Locked::new(desk, books))),
-    }
+    let Some(desk) = desks.pop() else {
+        return (Lane { open: None }, None);
+    };
+    let (board, pen, watches) = named.into_parts();
+    let lock = Mutex::new(Locked::new(desk, books, pen));
+    let open = Some(OpenLane { lock, board });
+    (Lane { open }, Some(watches))
 }
 
-/// A seat for each worker, with a part of the shares.
+/// A seat for each worker, with a part of the shares and the row of its number.
 fn seated<S: Naming>(
     mut seats: Vec<Seat<S>>,
     shares: &mut ShareRow<S>,
+    rows: &mut Vec<WatchRow<S>>,
     workers: u32,
 ) -> Vec<Seat<S>>
     requires none { seats.items ≡ [] }
     requires room { workers ≤ vec_capacity seats }
     requires few { length S.settings ≤ MAX_SECURITIES }
     requires shares { shares.old ≡ record { parts = workers + 1; sums = nothing_counted } }
-    ensures seats { AreSeats workers result.items }
+    requires rows { AreLeft S.settings (length rows.old.items) 0 rows.old.items }
+    requires enough { workers ≤ length rows.old.items }
+    ensures seats { AreSeats S.settings workers result.items }
     ensures own { shares.new ≡ record { parts = 1; sums = nothing_counted } }
+    ensures left { AreLeft S.settings (length rows.old.items) workers rows.new.items }
 {
     for number in 0..workers {
-        seats.push_reserved(Seat::new(number, shares.cut()));
+        let Some(row) = rows.pop() else {
+            unreachable!();
+        };
+        seats.push_reserved(Seat::new(number, shares.cut(), row));
     }
     seats
 }
 
-/// A row for each watcher, with the numbers from the first on.
-fn numbered<S: Naming>(mut rows: Vec<WatchRow<S>>, first: u32, watchers: u32) -> Vec<WatchRow<S>>
+/// The watchers' rows, the least number first.
+fn ordered<S: Naming>(mut rows: Vec<WatchRow<S>>, mut left: Vec<WatchRow<S>>) -> Vec<WatchRow<S>>
     requires none { rows.items ≡ [] }
-    requires room { watchers ≤ vec_capacity rows }
-    requires few { first + watchers < 2 ^ 32 }
-    ensures { AreRows first watchers result.items }
+    requires room { length left.items ≤ vec_capacity rows }
+    requires left { AreLeft S.settings (S.workers + length left.items) S.workers left.items }
+    ensures { AreRows S.settings S.workers (length left.items) result.items }
 {
-    for number in 0..watchers {
-        rows.push_reserved(WatchRow::new(first + number));
+    while let Some(row) = left.pop() {
+        rows.push_reserved(row);
     }
     rows
 }

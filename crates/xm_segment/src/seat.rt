@@ -2,54 +2,73 @@
 ghost use Rattle.std.specs.Prelude.{◌≡◌, ◌≤◌, length};
 ghost use Rattle.std.specs.Borrow.{sem};
 ghost use Rattle.xm_segment.specs.Ledgers.{AreWithinDay, FitLanes, nothing_counted};
+ghost use Rattle.xm_segment.specs.Watches.{AreWatches};
 ghost use Rattle.xm_segment.specs.declared.opening.TheConstants.{MAX_SECURITIES};
 
+use crate::locked::QuoteWatch;
 use crate::naming::Naming;
 use crate::share_row::ShareRow;
-use std::marker::{Model, PhantomData};
+use std::marker::Model;
 
-/// What watches the securities of a segment. A clause sees its number: those of the workers' rows are theirs, and those of
-/// the watchers follow.
-#[derive(Drop)]
+/// What watches the securities of a segment: a watch of the board of each. A clause sees its number, and what each watch knows.
+/// Those of the workers' rows are theirs as they open, and those of the watchers follow.
 pub struct WatchRow<S: Naming> {
-    number: u32,
-    of: PhantomData<S>,
+    pub(crate) number: u32,
+    pub(crate) w0: Option<QuoteWatch<S, 0>>,
+    pub(crate) w1: Option<QuoteWatch<S, 1>>,
+    pub(crate) w2: Option<QuoteWatch<S, 2>>,
+    pub(crate) w3: Option<QuoteWatch<S, 3>>,
+    pub(crate) w4: Option<QuoteWatch<S, 4>>,
+    pub(crate) w5: Option<QuoteWatch<S, 5>>,
+    pub(crate) w6: Option<QuoteWatch<S, 6>>,
+    pub(crate) w7: Option<QuoteWatch<S, 7>>,
+}
+
+// In a function of its own, so that whoever drops one proves one call.
+impl<S: Naming> Drop for WatchRow<S> {
+    fn drop(self) {
+        let WatchRow {
+            number: _,
+            w0: _w0,
+            w1: _w1,
+            w2: _w2,
+            w3: _w3,
+            w4: _w4,
+            w5: _w5,
+            w6: _w6,
+            w7: _w7,
+        } = self;
+    }
 }
 
 impl<S: Naming> Model for WatchRow<S> {
-    ghost use Rattle.std.specs.Prelude.{ℕ};
+    ghost use Rattle.std.specs.Prelude.{[], ◌∷◌};
+    ghost use Rattle.xm_segment.specs.Watches.{AreWatchesFrom, RowView};
 
-    ghost Value = { ℕ };
+    ghost Value = { RowView };
 
-    ghost view = { λ w. w.number };
+    ghost view = { λ r. record { number = r.number; watches = r.w0 ∷ r.w1 ∷ r.w2 ∷ r.w3 ∷ r.w4 ∷ r.w5 ∷ r.w6 ∷ r.w7 ∷ [] } };
+
+    ghost invariant = { λ r. AreWatchesFrom 0 S.settings r.number (r.w0 ∷ r.w1 ∷ r.w2 ∷ r.w3 ∷ r.w4 ∷ r.w5 ∷ r.w6 ∷ r.w7 ∷ []) };
 }
 
 impl<S: Naming> WatchRow<S> {
-    /// The row with this number.
-    pub(crate) fn new(number: u32) -> WatchRow<S>
-        ensures { result ≡ number }
-    {
-        WatchRow {
-            number,
-            of: PhantomData,
-        }
-    }
-
-    /// Its number.
+    /// Its number, which is that of each of its watches.
     pub fn number(&self) -> u32
-        ensures { result ≡ self.now }
+        ensures number { result ≡ self.now.number }
+        ensures watches { AreWatches S.settings self.now }
     {
         self.number
     }
 }
 
-/// A worker's seat: its share of the ledgers of each security, and a row of watches. A clause sees the worker's number, and
-/// for each of eight lanes what the worker's accepted commands counted there.
+/// A worker's seat: its share of the ledgers of each security, and a row of watches. A clause sees the worker's number, for each
+/// of eight lanes what the worker's accepted commands counted there, and the row.
 #[derive(Drop)]
 pub struct Seat<S: Naming> {
     pub(crate) number: u32,
     pub(crate) shares: ShareRow<S>,
-    row: WatchRow<S>,
+    pub(crate) row: WatchRow<S>,
 }
 
 impl<S: Naming> Model for Seat<S> {
@@ -60,7 +79,7 @@ impl<S: Naming> Model for Seat<S> {
 
     ghost Value = { SeatView };
 
-    ghost view = { λ s. record { number = s.number; sums = s.shares.sums } };
+    ghost view = { λ s. record { number = s.number; sums = s.shares.sums; row = s.row } };
 
     ghost invariant = { λ s. record {
       parts : s.shares.parts ≡ 1;
@@ -74,15 +93,15 @@ impl<S: Naming> Seat<S> {
     ghost use Rattle.xm_segment.specs.Lends.{lends_row};
 
     /// The seat of the worker with this number, which has one part of each ledger, in which nothing is counted.
-    pub(crate) fn new(number: u32, shares: ShareRow<S>) -> Seat<S>
+    pub(crate) fn new(number: u32, shares: ShareRow<S>, row: WatchRow<S>) -> Seat<S>
         requires shares { shares ≡ record { parts = 1; sums = nothing_counted } }
         requires few { length S.settings ≤ MAX_SECURITIES }
-        ensures { result ≡ record { number = number; sums = nothing_counted } }
+        ensures { result ≡ record { number = number; sums = nothing_counted; row = row } }
     {
         Seat {
             number,
             shares,
-            row: WatchRow::new(number),
+            row,
         }
     }
 
@@ -103,16 +122,17 @@ impl<S: Naming> Seat<S> {
         &mut self.row
     }
 
-    /// Its shares.
-    pub(crate) fn into_shares(self) -> ShareRow<S>
-        ensures shares { result ≡ record { parts = 1; sums = self.sums } }
+    /// Its shares, and its row of watches.
+    pub(crate) fn into_parts(self) -> (ShareRow<S>, WatchRow<S>)
+        ensures shares { result.0 ≡ record { parts = 1; sums = self.sums } }
+        ensures row { result.1 ≡ self.row }
         ensures fit { FitLanes S.settings self.sums }
     {
         let Seat {
             number: _,
             shares,
-            row: _,
+            row,
         } = self;
-        shares
+        (shares, row)
     }
 }

@@ -1,8 +1,8 @@
 //! The securities of a segment, each behind its own lock.
 ghost use Rattle.std.specs.Prelude.{◌≡◌, slice_get};
-ghost use Rattle.xm_segment.specs.Answers.{IsAnswered, IsQuoted};
+ghost use Rattle.xm_segment.specs.Answers.{IsAnsweredOn};
 ghost use Rattle.xm_segment.specs.Ledgers.{AreWithinDay, nothing_counted, with_answer_on};
-ghost use Rattle.xm_segment.specs.Seats.{seat_after};
+ghost use Rattle.xm_segment.specs.Seats.{IsRead, IsTaken};
 
 use crate::gate::{Gate, NoGate};
 use crate::lane::Lane;
@@ -15,7 +15,7 @@ use xm_rules::{Command, Quote, Refusal, Reply};
 
 /// The lanes of a segment, one for each index of a security; the first, as many as there are securities, are in use.
 #[derive(Drop)]
-pub struct Segment<S: Naming> {
+pub(crate) struct Lanes<S: Naming> {
     pub(crate) l0: Lane<S, 0>,
     pub(crate) l1: Lane<S, 1>,
     pub(crate) l2: Lane<S, 2>,
@@ -24,6 +24,12 @@ pub struct Segment<S: Naming> {
     pub(crate) l5: Lane<S, 5>,
     pub(crate) l6: Lane<S, 6>,
     pub(crate) l7: Lane<S, 7>,
+}
+
+/// A segment that workers and watchers share.
+#[derive(Drop)]
+pub struct Segment<S: Naming> {
+    pub(crate) lanes: Lanes<S>,
     pub(crate) own: OwnShares<S>,
     pub(crate) workers: u32,
 }
@@ -45,8 +51,9 @@ impl<S: Naming> Model for Segment<S> {
 impl<S: Naming> Segment<S> {
     /// Takes a command on the security with this index, under its lock.
     ///
-    /// An accepted command raises the seat's three shares of the security by one, its reply's quantity and its money; a
-    /// refused one changes nothing. The refusals are those of `Desk::apply`, and `UnknownSecurity`, for which no lock is
+    /// An accepted command raises the seat's three shares of the security by one, its reply's quantity and its money; it is
+    /// published with the number of the seat's row, and the row's watch has it as its own. A refused one changes nothing, but the
+    /// watch has seen what it was refused at. The refusals are those of `Desk::apply`, and `UnknownSecurity`, for which no lock is
     /// taken.
     pub fn submit<R: Wait>(
         &self,
@@ -55,8 +62,7 @@ impl<S: Naming> Segment<S> {
         security: u32,
         command: &Command,
     ) -> Result<Reply, Refusal>
-        ensures answer { IsAnswered (slice_get S.settings security) command.now result }
-        ensures seat { seat.new ≡ seat_after seat.old security result }
+        ensures { IsTaken S.settings security command.now result seat.old seat.new }
     {
         self.take(rt, &NoGate, seat, security, command)
     }
@@ -70,73 +76,87 @@ impl<S: Naming> Segment<S> {
         security: u32,
         command: &Command,
     ) -> Result<Reply, Refusal>
-        ensures answer { IsAnswered (slice_get S.settings security) command.now result }
-        ensures seat { seat.new ≡ seat_after seat.old security result }
+        ensures { IsTaken S.settings security command.now result seat.old seat.new }
     {
         let worker = seat.number;
-        self.count(rt, gate, worker, &mut seat.shares, security, command)
+        self.count(
+            rt,
+            gate,
+            worker,
+            &mut seat.shares,
+            &mut seat.row,
+            security,
+            command,
+        )
     }
 
-    /// Takes a command, and counts it in a worker's shares.
+    /// Takes a command, counts it in a worker's shares, and tells its row of watches.
     fn count<R: Wait, G: Gate>(
         &self,
         rt: &R,
         gate: &G,
         worker: u32,
         shares: &mut ShareRow<S>,
+        row: &mut WatchRow<S>,
         security: u32,
         command: &Command,
     ) -> Result<Reply, Refusal>
         requires { shares.old.parts ≡ 1 }
-        ensures answer { IsAnswered (slice_get S.settings security) command.now result }
         ensures shares { shares.new ≡ record { parts = 1; sums = with_answer_on security shares.old.sums result } }
         ensures within { AreWithinDay shares.old.sums → AreWithinDay shares.new.sums }
+        ensures number { row.new.number ≡ row.old.number }
+        ensures watches { IsAnsweredOn security (slice_get S.settings security) command.now result row.old.watches row.new.watches }
     {
         let _ = self.workers; // There are at most eight securities.
+        let lanes = &self.lanes;
+        let (s, w) = (shares, row);
         match security {
-            0 => self
+            0 => lanes
                 .l0
-                .submit(rt, gate, worker, security, &mut shares.s0, command),
-            1 => self
+                .submit(rt, gate, worker, security, &mut s.s0, &mut w.w0, command),
+            1 => lanes
                 .l1
-                .submit(rt, gate, worker, security, &mut shares.s1, command),
-            2 => self
+                .submit(rt, gate, worker, security, &mut s.s1, &mut w.w1, command),
+            2 => lanes
                 .l2
-                .submit(rt, gate, worker, security, &mut shares.s2, command),
-            3 => self
+                .submit(rt, gate, worker, security, &mut s.s2, &mut w.w2, command),
+            3 => lanes
                 .l3
-                .submit(rt, gate, worker, security, &mut shares.s3, command),
-            4 => self
+                .submit(rt, gate, worker, security, &mut s.s3, &mut w.w3, command),
+            4 => lanes
                 .l4
-                .submit(rt, gate, worker, security, &mut shares.s4, command),
-            5 => self
+                .submit(rt, gate, worker, security, &mut s.s4, &mut w.w4, command),
+            5 => lanes
                 .l5
-                .submit(rt, gate, worker, security, &mut shares.s5, command),
-            6 => self
+                .submit(rt, gate, worker, security, &mut s.s5, &mut w.w5, command),
+            6 => lanes
                 .l6
-                .submit(rt, gate, worker, security, &mut shares.s6, command),
-            7 => self
+                .submit(rt, gate, worker, security, &mut s.s6, &mut w.w6, command),
+            7 => lanes
                 .l7
-                .submit(rt, gate, worker, security, &mut shares.s7, command),
+                .submit(rt, gate, worker, security, &mut s.s7, &mut w.w7, command),
             _ => Err(Refusal::UnknownSecurity),
         }
     }
 
-    /// What is shown of the security with this index; nothing of one that the segment doesn't have.
-    pub fn quote<R: Wait>(&self, rt: &R, _row: &mut WatchRow<S>, security: u32) -> Option<Quote>
-        ensures quote { IsQuoted (slice_get S.settings security) result }
-        ensures row { _row.new ≡ _row.old }
+    /// What is shown of the security with this index; nothing of one that the segment doesn't have. It takes no lock and no
+    /// memory.
+    ///
+    /// It is the quote of a lawful journal that begins with all that the row's watch had seen, and which it has seen then. Where
+    /// the security's quote was written during each of 32 attempts to read it, that is what the watch had seen before.
+    pub fn quote(&self, row: &mut WatchRow<S>, security: u32) -> Option<Quote>
+        ensures { IsRead S.settings security result row.old row.new }
     {
         let _ = self.workers; // There are at most eight securities.
         match security {
-            0 => self.l0.quote(rt),
-            1 => self.l1.quote(rt),
-            2 => self.l2.quote(rt),
-            3 => self.l3.quote(rt),
-            4 => self.l4.quote(rt),
-            5 => self.l5.quote(rt),
-            6 => self.l6.quote(rt),
-            7 => self.l7.quote(rt),
+            0 => self.lanes.l0.quote(&mut row.w0),
+            1 => self.lanes.l1.quote(&mut row.w1),
+            2 => self.lanes.l2.quote(&mut row.w2),
+            3 => self.lanes.l3.quote(&mut row.w3),
+            4 => self.lanes.l4.quote(&mut row.w4),
+            5 => self.lanes.l5.quote(&mut row.w5),
+            6 => self.lanes.l6.quote(&mut row.w6),
+            7 => self.lanes.l7.quote(&mut row.w7),
             _ => None,
         }
     }

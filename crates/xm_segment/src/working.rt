@@ -1,12 +1,11 @@
 //! A worker's rows, taken one after another.
-ghost use Rattle.std.specs.Prelude.{◌≡◌, ◌+◌, ◌*◌, ◌<◌, ◌≤◌, List, None, Result, length, slice_get, sum};
+ghost use Rattle.std.specs.Prelude.{◌≡◌, ◌+◌, ◌*◌, ◌<◌, ◌≤◌, List, None, Result, length, sum};
 ghost use Rattle.xm_rules.specs.declared.replies.Refusal.{Refusal};
 ghost use Rattle.xm_rules.specs.declared.replies.Reply.{Reply};
 ghost use Rattle.xm_rules.specs.declared.totals.TheConstants.{MAX_TRADED_QUANTITY};
-ghost use Rattle.xm_segment.specs.Answers.{IsAnswered};
 ghost use Rattle.xm_segment.specs.Ledgers.{FitLanes, accepted_in, quantity_in};
 ghost use Rattle.xm_segment.specs.Reports.{HasRoomIn, no_report, refusal_place, report_of, wanting_in, with_answer_in};
-ghost use Rattle.xm_segment.specs.Seats.{WereAnswered, all_answered, seat_after, lacks_memory};
+ghost use Rattle.xm_segment.specs.Seats.{IsTaken, WereAnswered, lacks_memory};
 ghost use Rattle.xm_segment.specs.declared.opening.TheConstants.{MAX_SECURITIES};
 ghost use Rattle.xm_segment.specs.declared.working.TheConstants.{MAX_ROWS, REFUSALS};
 
@@ -126,8 +125,7 @@ impl<S: Naming> Segment<S> {
         gate: &G,
     ) -> WorkerReport
         requires { length rows.now ≤ MAX_ROWS }
-        ensures answers { (answers : List (Result Reply Refusal)) × WereAnswered S.settings rows.now answers
-            × (seat.new ≡ all_answered seat.old rows.now answers) × (result ≡ report_of answers) }
+        ensures answers { (answers : List (Result Reply Refusal)) × WereAnswered S.settings seat.old rows.now answers seat.new × (result ≡ report_of answers) }
         ensures accepted { accepted_in seat.new.sums ≡ accepted_in seat.old.sums + result.accepted }
         ensures quantity { quantity_in seat.new.sums ≡ quantity_in seat.old.sums + result.quantity }
         ensures all { result.wanting ≡ None → result.accepted + sum result.refused ≡ length rows.now }
@@ -160,8 +158,7 @@ impl<S: Naming> Segment<S> {
         row: &Row,
     ) -> Result<Reply, Refusal>
         ensures fit { FitLanes S.settings seat.old.sums }
-        ensures answer { IsAnswered (slice_get S.settings row.now.security) row.now.command result }
-        ensures seat { seat.new ≡ seat_after seat.old row.now.security result }
+        ensures taken { IsTaken S.settings row.now.security row.now.command result seat.old seat.new }
         ensures within { quantity_in seat.new.sums ≤ MAX_SECURITIES * MAX_TRADED_QUANTITY }
     {
         let _ = seat.number(); // What every seat keeps is known before and after.

@@ -6,10 +6,11 @@ use std::marker::{Brand, Model};
 use std::process::Abort;
 use std::sync::Wait;
 use xm_desk::OpenFault;
+use xm_memory::OutOfMemory;
 use xm_names::Storage;
 use xm_rules::{Command, Phase, Quote, Refusal, Reply, Widths};
 use xm_segment::{
-    Blanks, GatherFault, Gathered, Naming, Seat, Securities, SecurityConfig, Segment,
+    GatherFault, Gathered, Naming, Opened, Seat, Securities, SecurityConfig, Segment,
     SegmentConfig, WatchRow,
 };
 use xm_ticks::{JournalLimit, Price, TickSize};
@@ -81,20 +82,17 @@ fn security(rt: &impl Abort, size: &Size, limit: u32) -> SecurityConfig {
 /// The fault of a segment of this size that opens.
 pub fn opening_fault<R: Wait + Abort + AllocGlobal>(rt: &R, size: &Size) -> Option<OpenFault> {
     let config = config(rt, size, 100);
-    let blanks = Blanks::new(size.workers);
-    fault_named::<Brand, R>(rt, blanks, &config, size.workers, size.watchers)
+    opened(rt.alloc(), &config, size.workers, size.watchers).err()
 }
 
-fn fault_named<S: Naming, R: Wait + Abort + AllocGlobal>(
-    rt: &R,
-    blanks: Blanks,
+/// The segment of these settings, before a type names it.
+fn opened(
+    alloc: Global,
     config: &SegmentConfig,
     workers: u32,
     watchers: u32,
-) -> Option<OpenFault>
-    requires { NamesSegment S.settings S.ledgers S.workers config.now workers blanks }
-{
-    Running::<S>::open(rt.alloc(), blanks, config, workers, watchers).err()
+) -> Result<Opened, OpenFault> {
+    Opened::new(Storage::with_fixed_seed(alloc), config, workers, watchers)
 }
 
 /// Runs what workers give, and compares what comes of it.
@@ -107,22 +105,20 @@ pub fn run<R: Wait + Abort + AllocGlobal>(rt: &R, case: &Case, given: &[Given]) 
         widths: [20, 50, 40],
     };
     let config = config(rt, &size, case.limit);
-    let blanks = Blanks::new(case.workers);
-    run_named::<Brand, R>(rt, blanks, &config, case.workers, case, given);
+    let opened = opened(rt.alloc(), &config, case.workers, 1);
+    run_named::<Brand, R>(rt, opened.ok().expect(rt, "a segment"), case, given);
 }
 
 fn run_named<S: Naming, R: Wait + Abort + AllocGlobal>(
     rt: &R,
-    blanks: Blanks,
-    config: &SegmentConfig,
-    workers: u32,
+    opened: Opened,
     case: &Case,
     given: &[Given],
 )
-    requires { NamesSegment S.settings S.ledgers S.workers config.now workers blanks }
+    requires { NamesSegment S.settings S.ledgers S.boards S.workers opened }
 {
-    let opened = Running::<S>::open(rt.alloc(), blanks, config, workers, 1);
-    let mut running = opened.ok().expect(rt, "a segment");
+    let running = Running::<S>::open(rt.alloc(), opened);
+    let mut running = running.ok().expect(rt, "memory");
     running.give_all(rt, given);
     running.is_shown(rt, case.shown);
     let ended = running.gathered(rt, rt.alloc());
@@ -153,24 +149,15 @@ impl<S: Naming> Model for Running<S> {
 }
 
 impl<S: Naming> Running<S> {
-    fn open(
-        alloc: Global,
-        blanks: Blanks,
-        config: &SegmentConfig,
-        workers: u32,
-        watchers: u32,
-    ) -> Result<Running<S>, OpenFault>
-        requires { NamesSegment S.settings S.ledgers S.workers config.now workers blanks }
+    fn open(alloc: Global, opened: Opened) -> Result<Running<S>, OutOfMemory>
+        requires { NamesSegment S.settings S.ledgers S.boards S.workers opened }
     {
-        let storage = Storage::with_fixed_seed(alloc);
-        match Segment::<S>::open(storage, blanks, config, workers, watchers) {
-            Ok((segment, seats, rows)) => Ok(Running {
-                segment,
-                seats,
-                rows,
-            }),
-            Err(fault) => Err(fault),
-        }
+        let (segment, seats, rows) = Segment::<S>::open(alloc, opened)?;
+        Ok(Running {
+            segment,
+            seats,
+            rows,
+        })
     }
 
     /// Gives each command, and compares its answer.
@@ -196,11 +183,11 @@ impl<S: Naming> Running<S> {
     /// security that isn't there.
     fn is_shown<R: Wait + Abort>(&mut self, rt: &R, expected: Shown) {
         let row = self.rows.get_mut(0).expect(rt, "a row");
-        let watched = self.segment.quote(rt, row, 0).expect(rt, "a quote");
+        let watched = self.segment.quote(row, 0).expect(rt, "a quote");
         assert!(rt; shown(&watched) == expected);
-        assert!(rt; self.segment.quote(rt, row, 8).is_none());
+        assert!(rt; self.segment.quote(row, 8).is_none());
         let seat = self.seats.get_mut(0).expect(rt, "a seat");
-        let seen = self.segment.quote(rt, seat.row(), 0);
+        let seen = self.segment.quote(seat.row(), 0);
         assert!(rt; seen == Some(watched));
     }
 

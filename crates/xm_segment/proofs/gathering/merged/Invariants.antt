@@ -1,7 +1,10 @@
 use Rattle.std.proofs.Common.{◌≡◌, ◌+◌, ◌≤◌, length}
 use Rattle.std.specs.Vec.Iter.{into_iter_items}
+use Rattle.xm_segment.proofs.Telling.{EachIn}
 use Rattle.xm_segment.specs.Gathering.{all_sums, sums_from}
 use Rattle.xm_segment.specs.Ledgers.{FitLanes}
+use Rattle.xm_segment.specs.Seats.{SeatView}
+use Rattle.xm_segment.specs.Unlocked.{ArePartsIn}
 use Rattle.xm_segment.proofs.gathering.merged.Given as goal
 
 abbrev pub invariant-loop-seat : goal.invariant-loop-seat
@@ -12,4 +15,6 @@ invariant-loop-seat g l =
       parts : l.all.parts + length left ≡ 1 + length l.fn.seats.items;
       apart : l.all.parts ≤ g.S.Naming.workers + 1;
       fit : FitLanes g.S.Naming.settings l.all.sums;
+      lanes : l.lanes ≡ l.initial.lanes;
+      told : EachIn (λ (seat : SeatView). ArePartsIn l.initial.lanes seat.row.watches) left → EachIn (λ (seat : SeatView). ArePartsIn l.initial.lanes seat.row.watches) l.fn.seats.items;
     }

@@ -1,19 +1,27 @@
-use Rattle.std.proofs.Common.{rules, ◌≡◌, ◌<◌, ◌++◌, ◌∷◌, [], ◌∙◌, List, arith, length, subst, sym}
-use Rattle.xm_rules.specs.Step.{Journal}
-use Rattle.xm_segment.proofs.Closing.{last-fresh}
+use Rattle.std.proofs.Common.{rules, ◌∙◌, List, Some, subst, sym}
+use Rattle.std.specs.Prelude.{slice_get}
+use Rattle.xm_board.specs.declared.watch.Known.{Known}
+use Rattle.xm_segment.proofs.Boards.{fresh-column, last-opens}
+use Rattle.xm_segment.specs.Boards.{IsColumn, IsFresh}
 use Rattle.xm_segment.proofs.opened.last_lane.Goals as goal
 
 pub new-requires : goal.new-requires
 new-requires g c =
     let settings = g.S.Naming.settings in
-    let long : g.row.K < length c.args.desks.now.items = search (rules, arith) in
-    let items : c.args.desks.now.items ≡ c.pop.new.self.items ++ c.in-Some.desk ∷ [] = search rules in
-    let parts = last-fresh settings g.row.K c.pop.new.self.items c.in-Some.desk (subst (λ (js : List Journal). g.row.K < length js) c.requires.desks long) (sym c.requires.desks ∙ items) in
-    (search rules, (search rules, (parts.1, (parts.2, c.requires.books))))
+    let board = c.requires.board in
+    let fresh = subst (IsFresh board.0 (slice_get settings g.row.K)) c.in-Some.is board.1 in
+    let opens = last-opens settings g.row.K board.0 c.args.desks.now.items c.pop.new.self.items c.in-Some-pop.desk c.in-Some.named c.requires.desks (search rules) fresh in
+    let unwritten = c.into_parts-board.ensures.pen ∙ opens.unwritten in
+    search (rules, opens.opened, opens.fresh, c.requires.books, unwritten)
 
 pub returns : goal.returns
 returns g c =
     let settings = g.S.Naming.settings in
-    let long : g.row.K < length c.args.desks.now.items = search (rules, arith) in
-    let items : c.args.desks.now.items ≡ c.pop.new.self.items ++ c.in-Some.desk ∷ [] = search rules in
-    (last-fresh settings g.row.K c.pop.new.self.items c.in-Some.desk (subst (λ (js : List Journal). g.row.K < length js) c.requires.desks long) (sym c.requires.desks ∙ items)).0
+    let here = slice_get settings g.row.K in
+    let board = c.requires.board in
+    let fresh = subst (IsFresh board.0 here) c.in-Some.is board.1 in
+    let opens = last-opens settings g.row.K board.0 c.args.desks.now.items c.pop.new.self.items c.in-Some-pop.desk c.in-Some.named c.requires.desks (search rules) fresh in
+    record {
+      left = opens.left_are;
+      column = λ rows is. subst (λ (ws : List Known). IsColumn rows here (Some ws)) (sym c.into_parts-board.ensures.watches) (fresh-column rows here (Some c.in-Some.named) (subst (IsFresh rows here) c.in-Some.is is));
+    }

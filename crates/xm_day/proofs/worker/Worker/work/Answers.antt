@@ -5,7 +5,6 @@ use Rattle.xm_day.proofs.worker.Worker.work.Goals as goal
 
 pub overflow_add-self : goal.overflow_add-self
 overflow_add-self g c =
-    let answers = c.work-report.ensures.answers in
-    let more = accepted-within g.S.Naming.settings c.args.rows.now c.work-report.result (answers.0, answers.1, answers.3) in
+    let more = accepted-within g.S.Naming.settings c.self.inside.seat c.work-report.new.seat c.args.rows.now c.work-report.result c.work-report.ensures.answers in
     let before = ap (λ (r : DayReport). r.accepted + r.refused) c.self.view_is in
     omega (arith, more, before, c.requires)

@@ -1,11 +1,10 @@
-use Rattle.std.specs.Prelude.{map}
-use Rattle.xm_segment.specs.Names.{names_in}
-use Rattle.xm_segment.specs.Opening.{settings_of}
+use Rattle.xm_segment.specs.Names.{board_names, ledger_names}
 use Rattle.xm_desk_tests.proofs.segment.running.run.Given as goal
 
 abbrev pub ghosts-run_named : goal.ghosts-run_named
 ghosts-run_named g a = record {
-  settings = map (settings_of a.config.now) a.config.now.securities;
-  ledgers = names_in a.blanks;
-  workers = a.workers;
+  settings = a.opened.settings;
+  ledgers = ledger_names a.opened.ledgers;
+  boards = board_names a.opened.boards;
+  workers = a.opened.workers;
 }

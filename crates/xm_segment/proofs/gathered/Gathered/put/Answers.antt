@@ -18,9 +18,9 @@ returns-clause-room g c =
       money_within = money-within g.row.K c.args.self.now.money c.from.result c.from-2.result was.money_within (search rules) (search rules);
     }
 
-pub returns-clause-desks : goal.returns-clause-desks
-returns-clause-desks g c = λ counted at all.
+pub returns-clause-each : goal.returns-clause-each
+returns-clause-each g c = λ counted at all.
     let settings = g.S.Naming.settings in
     let items : c.push_reserved-2.new.self.items ≡ c.args.self.now.desks.items ++ c.in-Some.desk ∷ [] = search rules in
-    let closes : IsClosed (slice_get settings g.row.K) c.args.shares.sums (Some c.in-Some.desk) = subst (λ (j : Option Journal). IsClosed (slice_get settings g.row.K) c.args.shares.sums j) c.in-Some.is c.close.ensures in
+    let closes : IsClosed (slice_get settings g.row.K) c.args.shares.sums (Some c.in-Some.desk) = subst (λ (j : Option Journal). IsClosed (slice_get settings g.row.K) c.args.shares.sums j) c.in-Some.is c.close.ensures.closed in
     subst (EachGathered (take (g.row.K + 1) settings) counted) (sym items) (closed settings counted c.args.self.now.desks.items g.row.K c.args.shares.sums (Some c.in-Some.desk) closes at all)

@@ -1,12 +1,23 @@
 use Rattle.std.proofs.Common.{◌∙◌, Ok, Some, ap, arith, sym}
-use Rattle.xm_rules.specs.Step.{Journal}
+use Rattle.xm_board.specs.Journals.{unnumbered}
+use Rattle.xm_board.specs.declared.journal.NumberedJournal.{NumberedJournal}
+use Rattle.xm_segment.proofs.Publishing.{took-grown}
 use Rattle.xm_segment.proofs.locked.Locked.submit.Goals as goal
 use Rattle.xm_segment.specs.Ledgers.{Sums, with_answer}
 
+pub publish-requires-clause-took : goal.publish-requires-clause-took
+publish-requires-clause-took g c =
+    let l = c.self.inside in
+    took-grown l.pen c.tell.new.pen l.desk c.take.new.desk c.tell.new.watch.number c.args.command.now c.tell.ensures.pen c.self.invariant.published c.in-Ok.ensures.accepted
+
 pub invariant_of-self-2 : goal.invariant_of-self-2
 invariant_of-self-2 g c =
+    let l = c.self.inside in
+    let opened = ap (λ (j : NumberedJournal). Some j.settings) c.publish.ensures.pen ∙ ap (λ (j : NumberedJournal). Some j.settings) c.tell.ensures.pen in
+    let took = took-grown l.pen c.tell.new.pen l.desk c.take.new.desk c.tell.new.watch.number c.args.command.now c.tell.ensures.pen c.self.invariant.published c.in-Ok.ensures.accepted in
     record {
-      opened = c.self.invariant.opened ∙ ap (λ (j : Journal). Some j.settings) (sym c.in-Ok.ensures.accepted);
+      opened = c.self.invariant.opened ∙ sym opened;
+      published = ap unnumbered c.publish.ensures.pen ∙ took;
       counted = c.count.ensures.books ∙ ap (λ (s : Sums). with_answer s (Ok c.in-Ok.reply)) c.self.invariant.counted ∙ sym c.in-Ok.ensures.counted;
     }
 

@@ -1,5 +1,6 @@
 use Rattle.std.proofs.Common.{◌∙◌, ap, length, sym, subst}
-use Rattle.xm_segment.proofs.Lanes.{answer-fits, answer-lanes}
+use Rattle.std.specs.Prelude.{slice_get}
+use Rattle.xm_segment.proofs.Lanes.{answer-fits, answer-lanes, known-or}
 use Rattle.xm_segment.specs.Ledgers.{FitLanes, SharedRow}
 use Rattle.xm_segment.proofs.segment.Segment.take.Goals as goal
 
@@ -11,6 +12,6 @@ invariant_of-seat g c =
     record {
       parts = ap (λ (r : SharedRow). r.parts) c.count.ensures.shares;
       within = c.count.ensures.within c.seat.invariant.within;
-      fit = subst (FitLanes settings) (sym sums) (answer-fits settings c.args.security before c.args.command.now c.count.result c.count.ensures.answer c.seat.invariant.fit);
+      fit = subst (FitLanes settings) (sym sums) (answer-fits settings c.args.security before c.count.result (known-or c.args.security (slice_get settings c.args.security) c.args.command.now c.count.result c.seat.inside.row.watches c.count.new.row.watches c.count.ensures.watches) c.seat.invariant.fit);
       lanes = ap length sums ∙ answer-lanes c.args.security before c.count.result ∙ c.seat.invariant.lanes;
     }

@@ -17,7 +17,7 @@ count-requires g c =
     let i = c.loop-row.row-index in
     let a = c.answer-answer.ensures in
     let within : i < length c.args.rows.now = omega arith in
-    record { room = row-room g.S.Naming.settings c.args.seat.now c.loop-row.seat c.answer-answer.new.seat c.args.rows.now i _ c.answer-answer.result c.loop-row.report within c.loop-row.invariant.worked a.seat a.answer a.fit c.requires a.within }
+    record { room = row-room g.S.Naming.settings c.args.seat.now c.loop-row.seat c.answer-answer.new.seat c.args.rows.now i _ c.answer-answer.result c.loop-row.report within c.loop-row.invariant.worked a.taken a.fit c.requires a.within }
 
 -- the report, where memory was wanting for a row
 cut_at : (g : Over) (c : Then-lacks_memory g) → HasWorked g.S.Naming.settings c.args.seat.now c.args.rows.now c.answer-answer.new.seat c.count.new.self
@@ -27,10 +27,10 @@ cut_at g c =
     let within : i < length c.args.rows.now = omega arith in
     let lacks : lacks_memory c.answer-answer.result ≡ true = sym c.lacks_memory.ensures ∙ c.if-lacks_memory.true in
     subst (HasWorked g.S.Naming.settings c.args.seat.now c.args.rows.now c.answer-answer.new.seat) (sym c.count.ensures)
-    (row-cut g.S.Naming.settings c.args.seat.now c.loop-row.seat c.answer-answer.new.seat c.args.rows.now i _ c.answer-answer.result c.loop-row.report within c.loop-row.invariant.worked a.seat a.answer a.fit lacks)
+    (row-cut g.S.Naming.settings c.args.seat.now c.loop-row.seat c.answer-answer.new.seat c.args.rows.now i _ c.answer-answer.result c.loop-row.report within c.loop-row.invariant.worked a.taken a.fit lacks)
 
 pub returns-then-lacks_memory-clause-answers : goal.returns-then-lacks_memory-clause-answers
-returns-then-lacks_memory-clause-answers g c = let w = cut_at g c in (w.answers, w.were, w.seats, w.reports)
+returns-then-lacks_memory-clause-answers g c = let w = cut_at g c in (w.answers, w.were, w.reports)
 
 pub returns-then-lacks_memory-clause-accepted : goal.returns-then-lacks_memory-clause-accepted
 returns-then-lacks_memory-clause-accepted g c = (cut_at g c).accepted
@@ -50,7 +50,7 @@ loop-row-preserved g c =
     let a = c.answer-answer.ensures in
     let within : i < length c.args.rows.now = omega arith in
     let has : lacks_memory c.answer-answer.result ≡ false = sym c.lacks_memory.ensures ∙ c.if-lacks_memory.false in
-    let worked = row-worked g.S.Naming.settings c.args.seat.now c.loop-row.seat c.answer-answer.new.seat c.args.rows.now i _ c.answer-answer.result c.loop-row.report within c.loop-row.invariant.worked a.seat a.answer a.fit has in
+    let worked = row-worked g.S.Naming.settings c.args.seat.now c.loop-row.seat c.answer-answer.new.seat c.args.rows.now i _ c.answer-answer.result c.loop-row.report within c.loop-row.invariant.worked a.taken a.fit has in
     record { answered = ap (λ n. n + 1) c.loop-row.invariant.answered; worked = subst (IsWorked g.S.Naming.settings c.args.seat.now _ c.answer-answer.new.seat) (sym c.count.ensures) worked }
 
 -- the report of all rows
@@ -58,7 +58,7 @@ whole_at : (g : Over) (c : After-loop-row g) → HasWorked g.S.Naming.settings c
 whole_at g c = rows-worked g.S.Naming.settings c.args.seat.now c.loop-row.seat c.args.rows.now c.loop-row.row-index c.loop-row.report (omega arith) c.loop-row.invariant.worked
 
 pub returns-clause-answers : goal.returns-clause-answers
-returns-clause-answers g c = let w = (whole_at g c).0 in (w.answers, w.were, w.seats, w.reports)
+returns-clause-answers g c = let w = (whole_at g c).0 in (w.answers, w.were, w.reports)
 
 pub returns-clause-accepted : goal.returns-clause-accepted
 returns-clause-accepted g c = (whole_at g c).0.accepted
