@@ -1,9 +1,10 @@
 -- Boards, watches and rows of a segment that opens, taken from the last on.
 use Rattle.atomic_table.specs.Seated.{TableId}
-use Rattle.std.proofs.Common.{◌≡◌, ℕ, zero, suc, ◌+◌, ◌<◌, ◌≤◌, List, [], ◌∷◌, ◌++◌, length, get_or, map, take, Option, Some, None, refl, sym, ap, ◌∙◌, subst, arith, ⊎_elim}
+use Rattle.std.proofs.Common.{◌≡◌, ℕ, zero, suc, ◌+◌, ◌<◌, List, [], ◌∷◌, ◌++◌, length, get_or, map, take, Option, Some, None, refl, sym, ap, ◌∙◌, subst, arith, ⊎_elim}
 use Rattle.std.specs.Option.{option_to_list}
 use Rattle.std.specs.Prelude.{option_map, slice_get}
-use Rattle.std.proofs.lemmas.List.{length-append, length-map, map-append, take_more}
+use Rattle.std.proofs.lemmas.List.{length-append, length-map, map-append, take-map, take_more}
+use Rattle.std.proofs.lemmas.Option.{slice_get-map}
 use Rattle.xm_board.proofs.Publishing.{quote-is}
 use Rattle.xm_board.specs.Journals.{known_by, opening_of, quote_of}
 use Rattle.xm_board.specs.Opened.{Unnamed}
@@ -14,7 +15,7 @@ use Rattle.xm_rules.specs.Step.{Journal, replay}
 use Rattle.xm_rules.specs.declared.commands.Command.{Command}
 use Rattle.xm_rules.specs.declared.replies.Quote.{Quote}
 use Rattle.xm_rules.specs.declared.settings.DeskSettings.{DeskSettings}
-use Rattle.xm_segment.proofs.Closing.{fresh-journals, last-fresh, none-more}
+use Rattle.xm_segment.proofs.Closing.{fresh-journals}
 use Rattle.xm_segment.proofs.Seating.{get-push, none-there}
 use Rattle.xm_segment.specs.Boards.{AreBoards, AreFresh, AreLeft, IsColumn, IsFresh, NamedView}
 use Rattle.xm_segment.specs.Names.{board_names}
@@ -41,11 +42,11 @@ last-of (x ∷ xs) (suc k) (z ∷ zs) y more is =
     let r = last-of xs k zs y (omega (arith, more)) rest in
     ((λ i. first i ∷ r.0 i), r.1, ap suc r.2)
 
-none-of : {A : Type 0} (xs : List A) (k : ℕ) → length (take (suc k) xs) ≤ k → (take (suc k) xs ≡ take k xs) × (slice_get xs k ≡ None)
-none-of [] zero few = (refl, refl)
-none-of [] (suc k) few = (refl, refl)
-none-of (x ∷ xs) zero few = absurd (omega (arith, few))
-none-of (x ∷ xs) (suc k) few = let r = none-of xs k (omega (arith, few)) in (ap (λ ys. x ∷ ys) r.0, r.1)
+-- so many there are at least
+some-long : {A : Type 0} (xs : List A) (k : ℕ) (x : A) → slice_get xs k ≡ Some x → k < length (take (suc k) xs)
+some-long [] k x at = absurd (cc)
+some-long (y ∷ ys) zero x at = omega arith
+some-long (y ∷ ys) (suc k) x at = omega (arith, some-long ys k x at)
 
 -- ---- boards
 
@@ -82,15 +83,6 @@ pub last-board : (settings : List DeskSettings) (names : ℕ → TableId) (k : �
     → AreBoards (take k settings) names left × (slice_get settings k ≡ Some last.settings) × (last.table ≡ names k)
 last-board settings names k boards left last is more are =
     last-named settings names k left last (subst (λ (bs : List Unnamed). k < length bs) is more) (subst (AreBoards (take (k + 1) settings) names) is are)
-
--- where there are no more than its index, there is none for it
-pub none-board : (settings : List DeskSettings) (names : ℕ → TableId) (k : ℕ) (boards : List Unnamed) → length boards ≤ k → AreBoards (take (k + 1) settings) names boards → AreBoards (take k settings) names boards × (slice_get settings k ≡ None)
-none-board settings names k boards few are =
-    let same = length-map boards (λ (board : Unnamed). board.settings) in
-    let long = ap (λ (ss : List DeskSettings). length ss) are.settings_are in
-    let short : length (take (suc k) settings) ≤ k = subst (λ (n : ℕ). length (take n settings) ≤ k) (sym (next k)) (omega (arith, few, same, long)) in
-    let r = none-of settings k short in
-    (record { settings_are = are.settings_are ∙ ap (λ (n : ℕ). take n settings) (sym (next k)) ∙ r.0; names_are = are.names_are }, r.1)
 
 -- the names by which a segment's type is picked are those of its boards
 named-at : (boards : List Unnamed) (lane : ℕ) (board : Unnamed) → slice_get boards lane ≡ Some board → board.table ≡ board_names boards lane
@@ -144,27 +136,27 @@ fresh-some : (rows : ℕ) (here : Option DeskSettings) (b : NamedView) → IsFre
 fresh-some rows None b is = absurd is
 fresh-some rows (Some o) b is = (o, refl, is.0)
 
-pub fresh-none : (rows : ℕ) (here : Option DeskSettings) → IsFresh rows here None → here ≡ None
-fresh-none rows None is = refl
-fresh-none rows (Some o) is = absurd is
-
 pub fresh-column : (rows : ℕ) (here : Option DeskSettings) (b : Option NamedView) → IsFresh rows here b → IsColumn rows here (option_map (λ (n : NamedView). n.watches) b)
 fresh-column rows None None is = is
 fresh-column rows None (Some b) is = absurd is
 fresh-column rows (Some o) None is = absurd is
 fresh-column rows (Some o) (Some b) is = is.1
 
--- so many desks there are at least
-some-long : (settings : List DeskSettings) (k : ℕ) (opened : DeskSettings) → slice_get settings k ≡ Some opened → k < length (map fresh_journal (take (suc k) settings))
-some-long [] k opened at = absurd (cc)
-some-long (s ∷ ss) zero opened at = omega arith
-some-long (s ∷ ss) (suc k) opened at = omega (arith, some-long ss k opened at)
+fresh-at : (settings : List DeskSettings) (k : ℕ) (desk : Journal) → slice_get (map fresh_journal settings) k ≡ Some desk → (slice_get settings k ≡ Some desk.settings) × (desk.commands ≡ [])
+fresh-at [] k desk at = absurd (cc)
+fresh-at (s ∷ ss) zero desk at = let same : fresh_journal s ≡ desk = cc in (ap (λ (j : Journal). Some j.settings) same, ap (λ (j : Journal). j.commands) (sym same))
+fresh-at (s ∷ ss) (suc k) desk at = fresh-at ss k desk at
 
-some-desk : (settings : List DeskSettings) (k : ℕ) (opened : DeskSettings) → slice_get settings k ≡ Some opened → k < length (map fresh_journal (take (k + 1) settings))
-some-desk settings k opened at = subst (λ (n : ℕ). k < length (map fresh_journal (take n settings))) (next k) (some-long settings k opened at)
-
-pub no-desk : (settings : List DeskSettings) (k : ℕ) → slice_get settings k ≡ None → map fresh_journal (take (k + 1) settings) ≡ map fresh_journal (take k settings)
-no-desk settings k none = ap (λ (n : ℕ). map fresh_journal (take n settings)) (sym (next k)) ∙ ap (λ (os : List DeskSettings). map fresh_journal os) (none-more settings k none)
+-- of desks that stand before the day the last one is that of the lane with this index
+last-fresh : (settings : List DeskSettings) (k : ℕ) (opened : DeskSettings) (left : List Journal) (last : Journal) → slice_get settings k ≡ Some opened → left ++ last ∷ [] ≡ map fresh_journal (take (k + 1) settings)
+    → (left ≡ map fresh_journal (take k settings)) × (slice_get settings k ≡ Some last.settings) × (last.commands ≡ [])
+last-fresh settings k opened left last at is =
+    let all = map fresh_journal settings in
+    let first : left ++ last ∷ [] ≡ take (suc k) all = is ∙ ap (λ (n : ℕ). map fresh_journal (take n settings)) (sym (next k)) ∙ sym (take-map fresh_journal (suc k) settings) in
+    let there : slice_get all k ≡ Some (fresh_journal opened) = slice_get-map fresh_journal settings k ∙ ap (option_map fresh_journal) at in
+    let r = last-of all k left last (subst (λ (ds : List Journal). k < length ds) (sym first) (some-long all k (fresh_journal opened) there)) first in
+    let fresh = fresh-at settings k last r.1 in
+    (r.0 ∙ take-map fresh_journal k settings, fresh.0, fresh.1)
 
 -- the last desk and the board of a lane that opens
 pub record OpensLane (settings : List DeskSettings) (k : ℕ) (left : List Journal) (desk : Journal) (board : NamedView) : Type 0 where
@@ -177,7 +169,7 @@ pub last-opens : (settings : List DeskSettings) (k rows : ℕ) (desks left : Lis
     → IsFresh rows (slice_get settings k) (Some board) → OpensLane settings k left desk board
 last-opens settings k rows desks left desk board are is fresh =
     let b = fresh-some rows (slice_get settings k) board fresh in
-    let d = last-fresh settings k left desk (some-desk settings k b.0 b.1) (sym are ∙ is) in
+    let d = last-fresh settings k b.0 left desk b.1 (sym is ∙ are) in
     let same : b.0 ≡ desk.settings = let both = sym b.1 ∙ d.1 in cc in
     record { left_are = d.0; opened = d.1; fresh = d.2; unwritten = b.2 ∙ ap opening_of same }
 
@@ -197,10 +189,6 @@ column-fewer (Some o) n left last are = let r = fresh-fewer o n left last are in
 pub column-empty : (here : Option DeskSettings) (n : ℕ) → IsColumn (n + 1) here (Some []) → ⊥
 column-empty None n are = are
 column-empty (Some o) n are = absurd (omega (arith, are.all))
-
-pub column-none : (here : Option DeskSettings) (n : ℕ) → IsColumn (n + 1) here None → IsColumn n here None × (None ≡ fresh_watch n here)
-column-none None n are = (tt, refl)
-column-none (Some o) n are = absurd are
 
 -- ---- the rows that are left
 

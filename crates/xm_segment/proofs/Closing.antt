@@ -1,5 +1,5 @@
 -- The desks of a segment that leave their locks one after another.
-use Rattle.std.proofs.Common.{◌≡◌, ℕ, zero, suc, ◌+◌, ◌*◌, ◌<◌, ◌≤◌, List, [], ◌∷◌, ◌++◌, length, map, take, Option, Some, None, refl, sym, ap, ◌∙◌, subst, arith}
+use Rattle.std.proofs.Common.{◌≡◌, ℕ, zero, suc, ◌+◌, ◌*◌, ◌≤◌, List, [], ◌∷◌, ◌++◌, length, map, take, Option, Some, None, refl, sym, ap, subst, arith}
 use Rattle.std.specs.Prelude.{slice_get, sum_by}
 use Rattle.std.proofs.Math.Nat.{mul-le-mul}
 use Rattle.std.proofs.lemmas.List.Sums.{sum_by-cons}
@@ -52,27 +52,6 @@ pub closed : (settings : List DeskSettings) (counted : List Sums) (journals : Li
     → IsClosed (slice_get settings k) sums j → slice_get counted k ≡ Some sums → EachGathered (take k settings) counted journals → EachGathered (take (k + 1) settings) counted (with_journal journals j)
 closed settings counted journals k sums j is counts all =
     subst (λ (n : ℕ). EachGathered (take n settings) counted (with_journal journals j)) (next k) (closed_at settings counted journals k (slice_get settings k) sums j refl is counts all)
-
--- ---- the desks of a segment that are opened, taken from the last on
-
-last-of : (settings : List DeskSettings) (k : ℕ) (left : List Journal) (last : Journal) → k < length (map fresh_journal (take (suc k) settings)) → map fresh_journal (take (suc k) settings) ≡ left ++ last ∷ []
-    → (left ≡ map fresh_journal (take k settings)) × (slice_get settings k ≡ Some last.settings) × (last.commands ≡ [])
-last-of [] k left last more is = absurd (omega (arith, more))
-last-of (o ∷ os) zero [] last more is = let same : fresh_journal o ≡ last = cc in (refl, ap (λ (j : Journal). Some j.settings) same, ap (λ (j : Journal). j.commands) (sym same))
-last-of (o ∷ os) zero (l ∷ []) last more is = absurd (cc)
-last-of (o ∷ os) zero (l ∷ m ∷ ls) last more is = absurd (cc)
-last-of (o ∷ os) (suc k) [] last more is = let short : length (map fresh_journal (take (suc k) os)) ≡ 0 = cc in absurd (omega (arith, more, short))
-last-of (o ∷ os) (suc k) (l ∷ ls) last more is =
-    let first : fresh_journal o ≡ l = cc in
-    let rest : map fresh_journal (take (suc k) os) ≡ ls ++ last ∷ [] = cc in
-    let r = last-of os k ls last (omega (arith, more)) rest in
-    ((λ i. sym first i ∷ r.0 i), r.1, r.2)
-
-pub last-fresh : (settings : List DeskSettings) (k : ℕ) (left : List Journal) (last : Journal) → k < length (map fresh_journal (take (k + 1) settings)) → map fresh_journal (take (k + 1) settings) ≡ left ++ last ∷ []
-    → (left ≡ map fresh_journal (take k settings)) × (slice_get settings k ≡ Some last.settings) × (last.commands ≡ [])
-last-fresh settings k left last more is =
-    let js : ℕ → List Journal = λ n. map fresh_journal (take n settings) in
-    last-of settings k left last (subst (λ (n : ℕ). k < length (js n)) (sym (next k)) more) (ap js (next k) ∙ is)
 
 -- ---- how many commands were accepted
 

@@ -1,5 +1,5 @@
 -- The sums of the lanes of a segment, after an answer and added up.
-use Rattle.std.proofs.Common.{◌≡◌, ℕ, zero, suc, ◌+◌, ◌*◌, ◌≤◌, List, [], ◌∷◌, ◌++◌, length, Option, None, Some, Result, Ok, Err, refl, sym, ap, subst, arith, zero-add}
+use Rattle.std.proofs.Common.{◌≡◌, ℕ, zero, suc, ◌+◌, ◌*◌, ◌≤◌, List, [], ◌∷◌, length, Option, None, Some, Result, Ok, Err, refl, sym, ap, subst, arith}
 use Rattle.std.specs.Prelude.{slice_get, sum_by}
 use Rattle.std.proofs.lemmas.List.Sums.{sum_by-cons}
 use Rattle.xm_rules.specs.declared.commands.Command.{Command}
@@ -11,8 +11,6 @@ use Rattle.xm_board.specs.declared.watch.Known.{Known}
 use Rattle.xm_rules.specs.declared.replies.Refusal.TheVariants.{UnknownSecurity}
 use Rattle.xm_segment.specs.Answers.{IsAnsweredOn}
 use Rattle.xm_segment.specs.Ledgers.{AreNothing, AreWithinDay, FitLanes, Sums, accepted_in, added, both_sums, nothing_counted, quantity_in, with_answer, with_answer_on}
-use Rattle.xm_segment.specs.Seats.{SeatView}
-use Rattle.xm_segment.specs.Gathering.{sums_from}
 
 -- a refusal counts nothing
 pub refused-counts : (k : ℕ) (ss : List Sums) (e : Refusal) → with_answer_on k ss (Err e) ≡ ss
@@ -87,23 +85,6 @@ pub nothing-fits : (settings : List DeskSettings) (ss : List Sums) → AreNothin
 nothing-fits [] ss none few = none
 nothing-fits (opened ∷ more) [] none few = absurd (omega (arith, few))
 nothing-fits (opened ∷ more) (s ∷ ss) none few = nothing-fits more ss none.1 (omega (arith, few))
-
--- the seats of so many workers, and one more
-pub sums_from-push : (ss : List Sums) (seats : List SeatView) (seat : SeatView) → sums_from ss (seats ++ seat ∷ []) ≡ added (sums_from ss seats) seat.sums
-sums_from-push ss [] seat = refl
-sums_from-push ss (first ∷ seats) seat = sums_from-push (added ss first.sums) seats seat
-
--- ---- a sum over lanes that were added up
-
-sum-added : (f : Sums → ℕ) → ((s t : Sums) → f (both_sums s t) ≡ f s + f t) → (ss ts : List Sums) → sum_by f (added ss ts) ≡ sum_by f ss + sum_by f ts
-sum-added f adds [] ts = sym (zero-add (sum_by f ts))
-sum-added f adds (s ∷ ss) [] = omega arith
-sum-added f adds (s ∷ ss) (t ∷ ts) =
-    omega (arith, sum_by-cons f (both_sums s t) (added ss ts), sum_by-cons f s ss, sum_by-cons f t ts, adds s t, sum-added f adds ss ts)
-
--- the commands that were accepted of two rows of lanes
-pub accepted-added : (ss ts : List Sums) → accepted_in (added ss ts) ≡ accepted_in ss + accepted_in ts
-accepted-added ss ts = sum-added (λ (s : Sums). s.accepted) (λ s t. refl) ss ts
 
 -- ---- a seat in which nothing is counted
 

@@ -1,6 +1,5 @@
 -- A command that a desk took, published with a watch's number, and what the watch knows then.
-use Rattle.std.proofs.Common.{◌≡◌, ℕ, ◌+◌, ◌<◌, [], ◌∷◌, ◌++◌, Ok, Err, sym, ap, ◌∙◌, arith}
-use Rattle.std.proofs.lemmas.List.{append-nil}
+use Rattle.std.proofs.Common.{◌≡◌, ℕ, ◌+◌, ◌<◌, [], ◌∷◌, ◌++◌, sym, ap, ◌∙◌, arith}
 use Rattle.xm_board.proofs.Prefixes.{version-grown}
 use Rattle.xm_board.proofs.Publishing.{last_number-grown, last_own-grown, quote-is, unnumbered-grown}
 use Rattle.xm_board.specs.Journals.{entry_of, grown, known_by, last_number, last_own, quote_of, unnumbered, version_of}
@@ -11,9 +10,6 @@ use Rattle.xm_rules.specs.Quote.{quote}
 use Rattle.xm_rules.specs.Step.{Journal, replay}
 use Rattle.xm_rules.specs.declared.commands.Command.{Command}
 use Rattle.xm_rules.specs.declared.replies.Quote.{Quote}
-use Rattle.xm_rules.specs.declared.replies.Refusal.{Refusal}
-use Rattle.xm_rules.specs.declared.replies.Reply.{Reply}
-use Rattle.xm_segment.specs.Answers.{with_answered}
 
 -- the journal with the command is the desk's that took it
 pub took-grown : (p q : NumberedJournal) (d e : Journal) (n : ℕ) (c : Command) → q ≡ p → unnumbered p ≡ d → e ≡ journal_of d.settings (d.commands ++ c ∷ []) → unnumbered (grown q (entry_of n c)) ≡ e
@@ -38,16 +34,3 @@ pub told-own : (p q r : NumberedJournal) (w v : Known) (m : ℕ) (c : Command) �
 told-own p q r w v m c same is kept told =
     let own : last_own q ≡ (version_of p + 1, entry_of w.number c) ∷ [] = ap last_own is ∙ last_own-grown p (entry_of m c) ∙ ap (λ (k : ℕ). (version_of p + 1, entry_of k c) ∷ []) same in
     told ∙ (λ i. known_by w.number (sym kept i) (w.own_entries ++ own i))
-
--- what a watch that was told knows, where its command was refused
-pub told-refused : (w v : Known) (p : NumberedJournal) (c : Command) (e : Refusal) → v ≡ known_by w.number p (w.own_entries ++ []) → v ≡ with_answered w p c (Err e)
-told-refused w v p c e told = told ∙ ap (known_by w.number p) (append-nil w.own_entries)
-
--- and where it was accepted
-pub told-accepted : (w v x : Known) (p q r : NumberedJournal) (c : Command) (a : Reply) → q ≡ p → v ≡ known_by w.number p (w.own_entries ++ []) → r ≡ grown q (entry_of v.number c) → x ≡ known_by v.number r (v.own_entries ++ (version_of q + 1, entry_of v.number c) ∷ [])
-    → (r ≡ grown p (entry_of w.number c)) × (x ≡ with_answered w p c (Ok a))
-told-accepted w v x p q r c a same told is now =
-    let number : v.number ≡ w.number = ap (λ (k : Known). k.number) told in
-    let mine : v.own_entries ≡ w.own_entries = ap (λ (k : Known). k.own_entries) told ∙ append-nil w.own_entries in
-    let journal : r ≡ grown p (entry_of w.number c) = is ∙ (λ i. grown (same i) (entry_of (number i) c)) in
-    (journal, now ∙ (λ i. known_by (number i) (journal i) (mine i ++ (version_of (same i) + 1, entry_of (number i) c) ∷ [])))

@@ -28,9 +28,3 @@ rows-more settings first n rows row are is =
 
 pub none-there : {A : Type 0} (i : ℕ) (x : A) → slice_get [] i ≡ Some x → ⊥
 none-there i x at = cc
-
-pub no-seats : (settings : List DeskSettings) → AreSeats settings 0 []
-no-seats settings = record { all = refl; each = λ i seat at. absurd (none-there i seat at) }
-
-pub no-rows : (settings : List DeskSettings) (first : ℕ) → AreRows settings first 0 []
-no-rows settings first = record { all = refl; each = λ i row at. absurd (none-there i row at) }
