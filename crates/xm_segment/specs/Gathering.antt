@@ -1,6 +1,6 @@
 -- What comes together where all seats of a segment come back.
 use Rattle.std.specs.Prelude.{◌≡◌, ℕ, ◌*◌, List, [], ◌∷◌, map, slice_get, true, Option, None, Some}
-use Rattle.xm_board.specs.Journals.{Begins, Own, unnumbered}
+use Rattle.xm_board.specs.Journals.{Begins, Own, known_by, unnumbered}
 use Rattle.xm_board.specs.declared.journal.NumberedJournal.{NumberedJournal}
 use Rattle.xm_board.specs.declared.watch.Known.{Known}
 use Rattle.xm_rules.specs.Step.{Journal, is_lawful, replay}
@@ -68,3 +68,17 @@ pub record IsOneHistory (desks : List Journal) (seats : List SeatView) (rows : L
   pub published : map unnumbered journals ≡ desks
   pub of_seats : (i : ℕ) (seat : SeatView) → slice_get seats i ≡ Some seat → AreParts journals seat.row.watches
   pub of_rows : (i : ℕ) (row : RowView) → slice_get rows i ≡ Some row → AreParts journals row.watches
+
+-- the watches of a row that was told the journal of each security: each has seen the whole of it, and keeps its number and its own
+-- entries
+abbrev pub watches_told : List NumberedJournal → List (Option Known) → List (Option Known)
+watches_told (j ∷ js) (Some w ∷ ws) = Some (known_by w.number j w.own_entries) ∷ watches_told js ws
+watches_told _ ws = ws
+
+abbrev pub row_told : List NumberedJournal → RowView → RowView
+row_told journals row = record { number = row.number; watches = watches_told journals row.watches }
+
+-- rows before and after they were told the one history
+pub record WereTold (desks : List Journal) (seats : List SeatView) (before after : List RowView) : Type 0 where
+  pub history : IsOneHistory desks seats before
+  pub told : after ≡ map (row_told history.journals) before

@@ -1,11 +1,11 @@
 //! The end of a day that workers shared: their seats come back, and each desk leaves its lock.
-ghost use Rattle.std.specs.Prelude.{ℕ, ◌≡◌, ◌≢◌, ◌+◌, ◌<◌, ◌≤◌, List, [], IfErr, IfOk, OnOk, Some, length, map, slice_get, take};
+ghost use Rattle.std.specs.Prelude.{ℕ, ◌≡◌, ◌≢◌, ◌+◌, ◌<◌, ◌≤◌, List, [], IfErr, IfOk, OnErr, OnOk, Some, length, map, slice_get, take};
 ghost use Rattle.xm_board.specs.Journals.{unnumbered};
-ghost use Rattle.xm_segment.specs.Gathering.{AreGathered, EachGathered, IsOneHistory, all_sums};
+ghost use Rattle.xm_segment.specs.Gathering.{AreGathered, EachGathered, IsOneHistory, WereTold, all_sums};
 ghost use Rattle.xm_segment.specs.Ledgers.{FitLanes, Sums, nothing_counted};
 ghost use Rattle.xm_segment.specs.Room.{HasGathered};
 ghost use Rattle.xm_segment.specs.Seats.{SeatView};
-ghost use Rattle.xm_segment.specs.Unlocked.{ArePartsIn, FillLanes, journals_in, with_desk};
+ghost use Rattle.xm_segment.specs.Unlocked.{ArePartsIn, FillLanes, journals_in, told_by, with_desk};
 ghost use Rattle.xm_segment.specs.Watches.{RowView};
 ghost use Rattle.xm_segment.specs.declared.gathered.GatherFault.TheVariants as GatherFault;
 ghost use Rattle.xm_segment.specs.declared.opening.TheConstants.{MAX_SECURITIES};
@@ -24,10 +24,11 @@ use xm_memory::OutOfMemory;
 impl<S: Naming> Segment<S> {
     /// Gathers a segment: takes all seats back, and each desk from behind its lock. What the seats' accepted commands counted
     /// is what the desks' journals have: their commands, and the quantity and the money of their trades. What the rows of all seats
-    /// and these watchers' rows had seen, and what is their own, is part of one history, which is the desks'.
+    /// and these watchers' rows had seen, and what is their own, is part of one history, which is the desks'. These watchers'
+    /// rows have seen all of it then.
     ///
     /// `MissingSeat`: there are fewer seats than workers. `OutOfMemory`: a growth was refused. Then the segment and the seats
-    /// are handed back, in their order.
+    /// are handed back, in their order, and the rows are as they were.
     pub fn gather(
         self,
         alloc: Global,
@@ -36,10 +37,12 @@ impl<S: Naming> Segment<S> {
     ) -> Result<Gathered, (Segment<S>, Vec<Seat<S>>, GatherFault)>
         ensures gathered { IfOk result (λ g. AreGathered S.settings (all_sums seats.items) g.desks.items) }
         ensures history { IfOk result (λ g. IsOneHistory g.desks.items seats.items rows.old) }
+        ensures told { IfOk result (λ g. WereTold g.desks.items seats.items rows.old rows.new) }
         ensures seats { OnOk result (S.workers ≤ length seats.items) }
         ensures missing { IfErr result (λ e. e.2 ≡ GatherFault.MissingSeat → length seats.items < S.workers) }
         ensures memory { IfErr result (λ e. e.2 ≢ GatherFault.MissingSeat → S.workers ≤ length seats.items) }
         ensures back { IfErr result (λ e. e.1.items ≡ seats.items) }
+        ensures untouched { OnErr result (rows.new ≡ rows.old) }
     {
         if seats.len() < self.workers as usize {
             return Err((self, seats, GatherFault::MissingSeat));
@@ -76,6 +79,7 @@ impl Gathered {
         requires seats { S.workers ≤ length seats.items }
         ensures all { AreGathered S.settings (all_sums seats.items) result.desks.items }
         ensures history { IsOneHistory result.desks.items seats.items rows.old }
+        ensures told { WereTold result.desks.items seats.items rows.old rows.new }
     {
         let _ = segment.workers; // There are at most eight securities.
         let Segment {
@@ -180,6 +184,7 @@ fn merged<S: Naming>(
 fn tell_all<S: Naming>(lanes: &mut UnlockedLanes<S>, rows: &mut [WatchRow<S>])
     ensures lanes { lanes.new ≡ lanes.old }
     ensures parts { (i : ℕ) (row : RowView) → slice_get rows.old i ≡ Some row → ArePartsIn lanes.old row.watches }
+    ensures told { rows.new ≡ map (told_by lanes.old) rows.old }
 {
     for row in rows.iter_mut() {
         lanes.tell(row);

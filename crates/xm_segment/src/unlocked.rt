@@ -2,7 +2,7 @@
 ghost use Rattle.std.specs.Prelude.{◌≡◌, ◌+◌, ℕ, is_some, option_map, slice_get};
 ghost use Rattle.xm_board.specs.Journals.{unnumbered};
 ghost use Rattle.xm_segment.specs.Gathering.{IsClosed};
-ghost use Rattle.xm_segment.specs.Unlocked.{ArePartsIn, IsPartIn};
+ghost use Rattle.xm_segment.specs.Unlocked.{ArePartsIn, IsPartIn, told_by, watch_told};
 ghost use Rattle.xm_segment.specs.Watches.{IsWatch};
 
 use crate::lane::Lane;
@@ -55,11 +55,13 @@ impl<S: Naming, const K: usize> UnlockedLane<S, K> {
         UnlockedLane { held }
     }
 
-    /// Tells a watch of all that was published. What it had seen begins the journal, and its own entries stand there.
+    /// Tells a watch of all that was published, which it then has seen. What it had seen begins the journal, and its own entries
+    /// stand there.
     fn tell(&mut self, watch: &mut Option<QuoteWatch<S, K>>)
         requires { (number : ℕ) × IsWatch number (slice_get S.settings K) watch.old }
         ensures same { self.new ≡ self.old }
         ensures part { IsPartIn self.old watch.old }
+        ensures told { watch.new ≡ watch_told self.old watch.old }
         ensures watch { (number : ℕ) → IsWatch number (slice_get S.settings K) watch.old → IsWatch number (slice_get S.settings K) watch.new }
     {
         let Some(held) = &mut self.held else {
@@ -136,11 +138,12 @@ impl<S: Naming> UnlockedLanes<S> {
         }
     }
 
-    /// Tells a row of watches of all that was published. What each had seen begins its lane's journal, and its own entries stand
-    /// there.
+    /// Tells a row of watches of all that was published, which each then has seen. What it had seen begins its lane's journal, and
+    /// its own entries stand there.
     pub(crate) fn tell(&mut self, row: &mut WatchRow<S>)
         ensures same { self.new ≡ self.old }
         ensures parts { ArePartsIn self.old row.old.watches }
+        ensures told { row.new ≡ told_by self.old row.old }
     {
         self.u0.tell(&mut row.w0);
         self.u1.tell(&mut row.w1);
