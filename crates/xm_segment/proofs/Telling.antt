@@ -1,7 +1,8 @@
 -- Rows that are told of all that was published, one after another, and the journals of the lanes then.
 use Rattle.std.proofs.Common.{◌≡◌, ℕ, zero, suc, ◌+◌, ◌++◌, ◌<◌, List, [], ◌∷◌, length, get_or, map, take, drop, Option, Some, None, true, false, refl, sym, ap, ◌∙◌, subst, append_assoc, arith}
-use Rattle.std.specs.Prelude.{is_some, slice_get}
+use Rattle.std.specs.Prelude.{All, is_some, slice_get}
 use Rattle.std.proofs.lemmas.List.{append-nil, drop_more, get_or_at, length-map, length-take, take_more}
+use Rattle.std.proofs.lemmas.List.Elements.{All-cons, All-nil}
 use Rattle.xm_board.specs.Journals.{known_by, unnumbered}
 use Rattle.xm_board.specs.declared.journal.NumberedJournal.{NumberedJournal}
 use Rattle.xm_board.specs.declared.watch.Known.{Known}
@@ -34,6 +35,10 @@ still-there f xs ys i x within are =
     let front = map f (take i xs) in
     let long : length front ≡ i = length-map (take i xs) f ∙ omega (arith, length-take i xs, within) in
     ap (λ zs. get_or zs i x) (are ∙ ap (λ zs. front ++ zs) (drop_more xs i x within)) ∙ get_or_at front _ _ x i long
+
+pub all-each : {A : Type 0} (P : A → Type 0) (xs : List A) → EachIn P xs → All P xs
+all-each P [] each = All-nil P
+all-each P (x ∷ xs) each = All-cons P x xs each.0 (all-each P xs each.1)
 
 pub none-there : {A : Type 0} (xs : List A) → length xs ≡ 0 → xs ≡ []
 none-there [] none = refl

@@ -1,6 +1,6 @@
 -- A row of watches, one for each security of a segment.
 use Rattle.std.specs.Prelude.{◌≡◌, ℕ, ◌+◌, List, [], ◌∷◌, map, slice_get, Option, None, Some}
-use Rattle.xm_board.specs.Journals.{known_by, opening_of}
+use Rattle.xm_board.specs.Journals.{HasOwnEntries, known_by, opening_of}
 use Rattle.xm_board.specs.declared.watch.Known.{Known}
 use Rattle.xm_rules.specs.declared.settings.DeskSettings.{DeskSettings}
 
@@ -36,3 +36,8 @@ AreWatchesFrom lane settings number (w ∷ ws) = IsWatch number (slice_get setti
 -- the watches of a row of a segment with these settings
 abbrev pub AreWatches : List DeskSettings → RowView → Type 0
 AreWatches settings row = AreWatchesFrom 0 settings row.number row.watches
+
+-- the own entries of a watch stand in what it has seen, each once, in their order, with its number
+abbrev pub HasOwn : Option Known → Type 0
+HasOwn None = Unit {0}
+HasOwn (Some w) = HasOwnEntries w

@@ -1,8 +1,8 @@
 //! What a worker, and a watcher, has of a segment.
-ghost use Rattle.std.specs.Prelude.{◌≡◌, ◌≤◌, length};
+ghost use Rattle.std.specs.Prelude.{◌≡◌, ◌≤◌, All, length};
 ghost use Rattle.std.specs.Borrow.{sem};
 ghost use Rattle.xm_segment.specs.Ledgers.{AreWithinDay, FitLanes, nothing_counted};
-ghost use Rattle.xm_segment.specs.Watches.{AreWatches};
+ghost use Rattle.xm_segment.specs.Watches.{AreWatches, HasOwn};
 ghost use Rattle.xm_segment.specs.declared.opening.TheConstants.{MAX_SECURITIES};
 
 use crate::locked::QuoteWatch;
@@ -53,12 +53,30 @@ impl<S: Naming> Model for WatchRow<S> {
 }
 
 impl<S: Naming> WatchRow<S> {
-    /// Its number, which is that of each of its watches.
+    /// Its number, which is that of each of its watches. What is a watch's own stands in what it has seen.
     pub fn number(&self) -> u32
         ensures number { result ≡ self.now.number }
         ensures watches { AreWatches S.settings self.now }
+        ensures own { All HasOwn self.now.watches }
     {
+        find_own(&self.w0);
+        find_own(&self.w1);
+        find_own(&self.w2);
+        find_own(&self.w3);
+        find_own(&self.w4);
+        find_own(&self.w5);
+        find_own(&self.w6);
+        find_own(&self.w7);
         self.number
+    }
+}
+
+/// Finds that the own entries of a watch stand in what it has seen, if there is one.
+fn find_own<S: Naming, const K: usize>(watch: &Option<QuoteWatch<S, K>>)
+    ensures { HasOwn watch.now }
+{
+    if let Some(watch) = watch {
+        let _ = watch.number();
     }
 }
 
