@@ -95,6 +95,20 @@ fn opened(
     Opened::new(Storage::with_fixed_seed(alloc), config, workers, watchers)
 }
 
+/// A segment of one security, before a type names it. A member for each worker, and more commands than any test gives.
+pub fn one_security(rt: &(impl Abort + AllocGlobal), workers: u32, watchers: u32) -> Opened {
+    let size = Size {
+        securities: 1,
+        members: workers,
+        workers,
+        watchers,
+        widths: [20, 50, 40],
+    };
+    let config = config(rt, &size, 1_000_000);
+    let opened = opened(rt.alloc(), &config, workers, watchers);
+    opened.ok().expect(rt, "a segment")
+}
+
 /// Runs what workers give, and compares what comes of it.
 pub fn run<R: Wait + Abort + AllocGlobal>(rt: &R, case: &Case, given: &[Given]) {
     let size = Size {
