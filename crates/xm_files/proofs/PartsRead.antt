@@ -75,6 +75,7 @@ EndsRound names config file batch = (more : List Row) → rows_from names config
 
 pub is-round : (names : NameLists) (config : SegmentConfig) (file : RowsLeft) (batch : RowsRead) → is_one_round batch.rows ≡ true → EndsRound names config file batch → IsRound names config file batch
 is-round names config file batch one ends = record {
+  rows_are = one;
   one = few-rounds (length batch.earlier) batch.rows one;
   apart = λ more gives. rounds-apart (length batch.earlier) batch.rows more (ends more gives) ∙ ap (λ (k : ℕ). rounds_from (length batch.earlier) batch.rows ++ rounds_from k more) (sym (length-append batch.earlier batch.rows));
 }

@@ -29,8 +29,9 @@ abbrev pub is_so_far : Part → List Row → Bool
 is_so_far (Rows most) rows = true
 is_so_far Round rows = is_one_round rows
 
--- the rows of a batch are one round of the file, or none where there are none: whichever rows come after them, the rounds
--- from the batch on are that one, and then those of the rows that come after
+-- the rows of a batch are one round of the file, or none where there are none: members' rows, and then phase rows alone. Whichever
+-- rows come after them, the rounds from the batch on are that one, and then those of the rows that come after
 pub record IsRound (names : NameLists) (config : SegmentConfig) (file : RowsLeft) (batch : RowsRead) : Type 0 where
+  pub rows_are : is_one_round batch.rows ≡ true
   pub one : length (rounds_from (length batch.earlier) batch.rows) ≤ 1
   pub apart : (more : List Row) → rows_from names config file (rows_so_far batch) ≡ Ok (rows_so_far batch ++ more) → rounds_from (length batch.earlier) (batch.rows ++ more) ≡ rounds_from (length batch.earlier) batch.rows ++ rounds_from (length (rows_so_far batch)) more
