@@ -6,4 +6,7 @@ mod SharedOut
 mod Sharing
 mod Crosses
 mod Gathered
+mod Chains
+mod RoundRows
+mod Stands
 mod Worked

@@ -1,24 +1,25 @@
 -- What a day that workers share keeps from its opening to its end.
-use Rattle.std.proofs.Common.{◌≡◌, ℕ, suc, ◌+◌, ◌≤◌, false, List, [], ◌∷◌, length, nat_lt, None, Some, Result, Ok, Err, refl, sym, ap, ◌∙◌, subst, arith}
-use Rattle.std.specs.Prelude.{◌≢◌, All, IfErr, IfOk, OnOk, map}
+use Rattle.std.proofs.Common.{◌≡◌, ℕ, zero, suc, ◌+◌, ◌≤◌, false, List, [], ◌∷◌, length, nat_lt, None, Some, Result, Ok, Err, refl, sym, ap, ◌∙◌, subst, arith}
+use Rattle.std.specs.Prelude.{◌≢◌, IfErr, IfOk, OnOk, map, slice_get, sum_by}
 use Rattle.std.proofs.lemmas.Bool.Decides.{nat_tests}
 use Rattle.std.proofs.lemmas.List.{length-map}
-use Rattle.std.proofs.lemmas.Option.{slice_get-get_or}
+use Rattle.std.proofs.lemmas.List.Sums.{sum_by-cons}
 use Rattle.std.specs.Result.{IsErrAnd}
 use Rattle.xm_day.specs.Answers.{DesksEnd}
-use Rattle.xm_day.specs.Workers.{AreJournals, HasOpened, HasShared, IsShared, commands_in, taken_by}
+use Rattle.xm_day.proofs.Stands.{worker-stands}
+use Rattle.xm_day.specs.Workers.{AreJournals, HasOpened, HasShared, HaveStood, HaveTaken, IsShared, WorkerView, commands_in, rows_of, taken_by, taken_in}
 use Rattle.xm_day.specs.declared.desks.OpenDay.{OpenDay}
 use Rattle.xm_day.specs.declared.faults.DayFault.{DayFault}
 use Rattle.xm_day.specs.declared.faults.DayFault.TheVariants.{OutOfMemory}
 use Rattle.xm_day.specs.declared.report.DayReport.{DayReport}
 use Rattle.xm_desk.specs.declared.opening.OpenFault.{OpenFault}
 use Rattle.xm_desk.specs.declared.opening.OpenFault.TheVariants.{BadWidths, NoSecurity, TooMany, OutOfMemory as NoMemory}
-use Rattle.xm_rules.specs.Step.{Journal}
+use Rattle.xm_board.specs.Journals.{unnumbered}
+use Rattle.xm_rules.specs.Step.{Journal, replay}
 use Rattle.xm_rules.specs.declared.settings.DeskSettings.{DeskSettings}
-use Rattle.xm_segment.specs.Ledgers.{accepted_in}
+use Rattle.xm_segment.specs.Gathering.{IsOneHistory}
 use Rattle.xm_segment.specs.Names.{UnnamedSegment}
 use Rattle.xm_segment.specs.Opening.{max_workers, opening_fault, segment_fault, settings_of}
-use Rattle.xm_segment.specs.Seats.{AreSeats, SeatView}
 use Rattle.xm_segment.specs.declared.config.SegmentConfig.{SegmentConfig}
 use Rattle.xm_segment.specs.declared.rows.Row.{Row}
 
@@ -39,13 +40,10 @@ opened-is config workers (Err TooMany) few settings seats sound refused memory =
 opened-is config workers (Err BadWidths) few settings seats sound refused memory = sym (opening-is config workers few) ∙ refused (λ same. cc)
 
 -- it is want of memory
-pub shared-if_memory : (settings : List DeskSettings) (config : SegmentConfig) (rows : List Row) (result : Result (List DayReport) DayFault) → IsErrAnd result (λ fault. fault ≡ OutOfMemory tt) → segment_fault config ≡ None → HasShared settings config rows result
-shared-if_memory settings config rows (Ok reports) is sound = absurd is
-shared-if_memory settings config rows (Err fault) is sound = subst (λ (f : DayFault). HasShared settings config rows (Err f)) (sym is) sound
-
--- nothing is counted in the seats of a segment as it opens
-pub seats-nothing : (settings : List DeskSettings) (workers : ℕ) (seats : List SeatView) → AreSeats settings workers seats → All (λ (seat : SeatView). accepted_in seat.sums ≡ 0) seats
-seats-nothing settings workers seats are = λ k d within. ap (λ (seat : SeatView). accepted_in seat.sums) (are.each k _ (slice_get-get_or seats k d within))
+pub shared-if_memory : (settings : List DeskSettings) (workers : ℕ) (config : SegmentConfig) (rows : List Row) (result : Result (List WorkerView) DayFault) → IsErrAnd result (λ fault. fault ≡ OutOfMemory tt) → segment_fault config ≡ None
+    → HasShared settings workers config rows result
+shared-if_memory settings workers config rows (Ok taken) is sound = absurd is
+shared-if_memory settings workers config rows (Err fault) is sound = subst (λ (f : DayFault). HasShared settings workers config rows (Err f)) (sym is) sound
 
 journals-length : (settings : List DeskSettings) (journals : List Journal) → AreJournals settings journals → length journals ≡ length settings
 journals-length [] [] are = refl
@@ -53,13 +51,51 @@ journals-length (opened ∷ more) (journal ∷ journals) are = ap suc (journals-
 journals-length [] (journal ∷ journals) are = absurd are
 journals-length (opened ∷ more) [] are = absurd are
 
+sum-map : {A B : Type 0} (f : A → B) (g : B → ℕ) (xs : List A) → sum_by g (map f xs) ≡ sum_by (λ x. g (f x)) xs
+sum-map f g [] = refl
+sum-map f g (x ∷ xs) = omega (arith, sum_by-cons g (f x) (map f xs), sum_by-cons (λ y. g (f y)) x xs, sum-map f g xs)
+
+pub sum-both : (ws : List WorkerView) → sum_by (λ (w : WorkerView). w.report.accepted) ws + sum_by (λ (w : WorkerView). w.report.refused) ws ≡ taken_by ws
+sum-both [] = refl
+sum-both (w ∷ ws) =
+    omega (arith, sum_by-cons (λ (v : WorkerView). v.report.accepted) w ws, sum_by-cons (λ (v : WorkerView). v.report.refused) w ws, sum_by-cons (λ (v : WorkerView). taken_in v.report) w ws, sum-both ws)
+
+map-at : {A B : Type 0} (f : A → B) (xs : List A) (i : ℕ) (x : A) → slice_get xs i ≡ Some x → slice_get (map f xs) i ≡ Some (f x)
+map-at f [] i x at = absurd (cc)
+map-at f (y ∷ ys) zero x at = let same : y ≡ x = cc in ap (λ z. Some (f z)) same
+map-at f (y ∷ ys) (suc i) x at = map-at f ys i x at
+
+at-map : {A B : Type 0} (f : A → B) (xs : List A) (i : ℕ) (y : B) → slice_get (map f xs) i ≡ Some y → (x : A) × (slice_get xs i ≡ Some x) × (f x ≡ y)
+at-map f [] i y at = absurd (cc)
+at-map f (x ∷ xs) zero y at = (x, refl, cc)
+at-map f (x ∷ xs) (suc i) y at = at-map f xs i y at
+
 -- the desks that were gathered are those of a day of all rows
-pub gathered-ends : (settings : List DeskSettings) (config : SegmentConfig) (rows : List Row) (reports : List DayReport) (day : OpenDay) → HasShared settings config rows (Ok reports)
-    → AreJournals settings day.desks.items → day.report.accepted ≡ commands_in day.desks.items → day.report.accepted + day.report.refused ≡ taken_by reports
-    → DesksEnd IsShared config rows (Ok day)
-gathered-ends settings config rows reports day has journals accepted all =
-    let named = has.1 in (
-      has.0,
-      journals-length settings day.desks.items journals ∙ ap (λ (s : List DeskSettings). length s) named ∙ length-map config.securities (settings_of config),
-      record { journals = day.desks.items; opened = subst (λ (s : List DeskSettings). AreJournals s day.desks.items) named journals; states = refl; accepted = accepted; all = all ∙ has.2 },
+pub gathered-ends : (settings : List DeskSettings) (workers : ℕ) (config : SegmentConfig) (rows : List Row) (taken : List WorkerView) (day : OpenDay) → HaveTaken settings workers config rows taken
+    → AreJournals settings day.desks.items → IsOneHistory day.desks.items (map (λ (w : WorkerView). w.seat) taken) [] → day.report.accepted ≡ commands_in day.desks.items
+    → day.report.accepted ≡ sum_by (λ (w : WorkerView). w.report.accepted) taken → day.report.refused ≡ sum_by (λ (w : WorkerView). w.report.refused) taken
+    → DesksEnd (IsShared workers) config rows (Ok day)
+gathered-ends settings workers config rows taken day have are history commands accepted refused =
+    let named = have.opened in
+    let desks = day.desks.items in
+    let published = history.published in
+    let ours = subst (λ (js : List Journal). AreJournals settings js) (sym published) are in (
+      have.sound,
+      journals-length settings desks are ∙ ap (λ (s : List DeskSettings). length s) named ∙ length-map config.securities (settings_of config),
+      record {
+        journals = history.journals;
+        opened = subst (λ (s : List DeskSettings). AreJournals s (map unnumbered history.journals)) named ours;
+        states = ap (λ (js : List Journal). map replay js) (sym published);
+        accepted = commands ∙ ap commands_in (sym published);
+        all = omega (arith, accepted, refused, sum-both taken, have.all);
+        reports = map (λ (w : WorkerView). w.report) taken;
+        each = length-map taken (λ (w : WorkerView). w.report) ∙ have.each;
+        stand = λ number report at.
+            let w = at-map (λ (v : WorkerView). v.report) taken number report at in
+            let parts = history.of_seats number w.0.seat (map-at (λ (v : WorkerView). v.seat) taken number w.0 w.1) in
+            subst (HaveStood history.journals number (rows_of number workers rows)) w.2
+            (worker-stands settings history.journals number (rows_of number workers rows) w.0 ours parts (have.worked number w.0 w.1));
+        sum_accepted = accepted ∙ sym (sum-map (λ (w : WorkerView). w.report) (λ (r : DayReport). r.accepted) taken);
+        sum_refused = refused ∙ sym (sum-map (λ (w : WorkerView). w.report) (λ (r : DayReport). r.refused) taken);
+      },
     )

@@ -87,7 +87,7 @@ pub fn run_day<T: Threads + Wait + Sync, G: Gate + Sync, S: io::Read, R: io::Rea
     requires some { 1 ≤ workers }
     requires few { workers ≤ MAX_WORKERS }
     ensures alone { workers ≡ 1 → DayEnds InFileOrder (S.remaining segment.old) (R.remaining orders.old) (W.contents out.old) (W.contents out.new) result }
-    ensures shared { workers ≢ 1 → DayEnds IsShared (S.remaining segment.old) (R.remaining orders.old) (W.contents out.old) (W.contents out.new) result }
+    ensures shared { workers ≢ 1 → DayEnds (IsShared workers) (S.remaining segment.old) (R.remaining orders.old) (W.contents out.old) (W.contents out.new) result }
     ensures untouched { IfErr result (λ fault. fault ≢ DayFault.WriteFailed → out.new ≡ out.old) }
 {
     if workers == 1 {
@@ -114,7 +114,7 @@ fn run_shared_orders<T: Threads + Wait + Sync, G: Gate + Sync, R: io::Read, W: i
     requires some { 1 ≤ workers }
     requires few { workers ≤ MAX_WORKERS }
     requires securities { length names.now.securities ≡ length config.now.securities }
-    ensures ends { OrdersEnd IsShared config.now names.now (R.remaining orders.old) (W.contents out.old) (W.contents out.new) result }
+    ensures ends { OrdersEnd (IsShared workers) config.now names.now (R.remaining orders.old) (W.contents out.old) (W.contents out.new) result }
     ensures untouched { IfErr result (λ fault. fault ≢ DayFault.WriteFailed → out.new ≡ out.old) }
 {
     let bytes = match read_orders(storage.alloc, orders) {

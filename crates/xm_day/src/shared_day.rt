@@ -1,13 +1,14 @@
 //! A day that workers share.
-ghost use Rattle.std.specs.Prelude.{◌≡◌, ◌≢◌, ◌+◌, ◌≤◌, ◌++◌, All, List, [], IfOk, length};
+ghost use Rattle.std.specs.Prelude.{ℕ, ◌≡◌, ◌≢◌, ◌+◌, ◌≤◌, ◌++◌, List, [], IfOk, Some, length, map, slice_get, sum_by, true};
 ghost use Rattle.xm_day.specs.Answers.{DesksEnd, RowsRun};
-ghost use Rattle.xm_day.specs.Workers.{AreJournals, HasOpened, HasShared, IsShared, accepted_by, commands_in, taken_by, taken_in};
+ghost use Rattle.xm_day.specs.Workers.{AreJournals, HasOpened, HasShared, HaveWorked, IsShared, WorkerView, accepted_by, commands_in, fresh_worker, rows_of, taken_by, taken_in};
 ghost use Rattle.xm_files.specs.Batches.{text_left};
 ghost use Rattle.xm_files.specs.Orders.{max_rows};
+ghost use Rattle.xm_files.specs.Timetable.{is_one_round};
 ghost use Rattle.xm_files.specs.declared.bytes.TheConstants.{MAX_BYTES};
-ghost use Rattle.xm_segment.specs.Gathering.{AreGathered, all_sums};
-ghost use Rattle.xm_segment.specs.Ledgers.{accepted_in};
+ghost use Rattle.xm_segment.specs.Gathering.{AreGathered, IsOneHistory, all_sums};
 ghost use Rattle.xm_segment.specs.Names.{NamesSegment};
+ghost use Rattle.xm_segment.specs.Seats.{AreSeats};
 ghost use Rattle.xm_segment.specs.declared.config.SegmentConfig.{SegmentConfig};
 ghost use Rattle.xm_segment.specs.declared.gathered.GatherFault.TheVariants as GatherFault;
 ghost use Rattle.xm_segment.specs.declared.opening.TheConstants.{MAX_WORKERS};
@@ -42,7 +43,7 @@ pub(crate) fn run_shared<T: Threads + Wait + Sync, G: Gate + Sync>(
     requires some { 1 ≤ workers }
     requires few { workers ≤ MAX_WORKERS }
     requires short { length bytes.items ≤ MAX_BYTES }
-    ensures { RowsRun (DesksEnd IsShared) config.now names.now (text_left bytes.items 1) result }
+    ensures { RowsRun (DesksEnd (IsShared workers)) config.now names.now (text_left bytes.items 1) result }
 {
     let opened = Opened::new(storage, config, workers, 0);
     run_named::<Brand, T, G>(
@@ -69,11 +70,12 @@ fn run_named<S: Naming + Send + Sync, T: Threads + Wait + Sync, G: Gate + Sync>(
     bytes: Vec<u8>,
 ) -> Result<Result<OpenDay, DayFault>, FileFault>
     requires named { IfOk opened (λ o. NamesSegment S.settings S.ledgers S.boards S.workers o) }
+    requires seats { S.workers ≡ workers }
     requires opened { HasOpened config.now workers opened }
     requires some { 1 ≤ workers }
     requires few { workers ≤ MAX_WORKERS }
     requires short { length bytes.items ≤ MAX_BYTES }
-    ensures { RowsRun (DesksEnd IsShared) config.now names.now (text_left bytes.items 1) result }
+    ensures { RowsRun (DesksEnd (IsShared workers)) config.now names.now (text_left bytes.items 1) result }
 {
     let mut file = RowReader::of(bytes.as_slice());
     let day = SharedDay::<S>::open(alloc, workers, opened, config);
@@ -94,8 +96,8 @@ fn take_file<S: Naming + Send + Sync, T: Threads + Wait + Sync, G: Gate + Sync>(
     names: &SegmentNames,
     file: &mut RowReader<'_>,
 ) -> Result<Result<SharedDay<S>, DayFault>, FileFault>
-    requires { HasShared S.settings config.now [] opened }
-    ensures { RowsRun (HasShared S.settings) config.now names.now file.old result }
+    requires { HasShared S.settings S.workers config.now [] opened }
+    ensures { RowsRun (HasShared S.settings S.workers) config.now names.now file.old result }
 {
     let mut batch = Batch::new(alloc);
     let mut day = opened;
@@ -119,7 +121,8 @@ fn take_more<S: Naming + Send + Sync, T: Threads + Wait + Sync, G: Gate + Sync>(
     rows: &[Row],
 ) -> Result<SharedDay<S>, DayFault>
     requires room { IfOk day (λ d. taken_by d + length rows.now ≤ max_rows) }
-    ensures { (config : SegmentConfig) (taken : List Row) → HasShared S.settings config taken day → HasShared S.settings config (taken ++ rows.now) result }
+    requires round { is_one_round rows.now ≡ true }
+    ensures { (config : SegmentConfig) (taken : List Row) → HasShared S.settings S.workers config taken day → HasShared S.settings S.workers config (taken ++ rows.now) result }
 {
     Ok(day?.take_round(rt, gate, rows)?)
 }
@@ -129,12 +132,12 @@ fn closed<S: Naming>(
     alloc: Global,
     day: Result<SharedDay<S>, DayFault>,
 ) -> Result<OpenDay, DayFault>
-    ensures { (config : SegmentConfig) (rows : List Row) → HasShared S.settings config rows day → DesksEnd IsShared config rows result }
+    ensures { (config : SegmentConfig) (rows : List Row) → HasShared S.settings S.workers config rows day → DesksEnd (IsShared S.workers) config rows result }
 {
     Ok(day?.gathered(alloc)?)
 }
 
-/// A segment, and its workers, in the order of their numbers. A clause sees what each worker has counted.
+/// A segment, and its workers, in the order of their numbers, which are what a clause sees.
 struct SharedDay<S: Naming> {
     segment: Segment<S>,
     workers: Vec<Worker<S>>,
@@ -151,12 +154,11 @@ impl<S: Naming> Drop for SharedDay<S> {
 
 impl<S: Naming> Model for SharedDay<S> {
     ghost use Rattle.std.specs.Prelude.{◌≡◌, ◌≤◌, List, length};
-    ghost use Rattle.xm_day.specs.Workers.{taken_by};
-    ghost use Rattle.xm_day.specs.declared.report.DayReport.{DayReport};
+    ghost use Rattle.xm_day.specs.Workers.{WorkerView, taken_by};
     ghost use Rattle.xm_files.specs.Orders.{max_rows};
     ghost use Rattle.xm_segment.specs.declared.opening.TheConstants.{MAX_WORKERS};
 
-    ghost Value = { List DayReport };
+    ghost Value = { List WorkerView };
 
     ghost view = { λ d. d.workers.items };
 
@@ -180,7 +182,7 @@ impl<S: Naming> SharedDay<S> {
         requires opened { HasOpened config.now workers opened }
         requires some { 1 ≤ workers }
         requires few { workers ≤ MAX_WORKERS }
-        ensures { HasShared S.settings config.now [] result }
+        ensures { HasShared S.settings S.workers config.now [] result }
     {
         let (segment, seats, _rows) = Segment::open(alloc, opened?)?;
         let workers = seated(seats)?;
@@ -196,8 +198,10 @@ impl<S: Naming> SharedDay<S> {
     ) -> Result<SharedDay<S>, OutOfMemory>
     where
         S: Send + Sync,
-        requires { taken_by self + length rows.now ≤ max_rows }
-        ensures { IfOk result (λ day. taken_by day ≡ taken_by self + length rows.now) }
+        requires room { taken_by self + length rows.now ≤ max_rows }
+        requires round { is_one_round rows.now ≡ true }
+        ensures worked { IfOk result (λ day. HaveWorked S.settings (λ number. rows_of number S.workers rows.now) self day) }
+        ensures taken { IfOk result (λ day. taken_by day ≡ taken_by self + length rows.now) }
     {
         let SharedDay { segment, workers } = self;
         let (members, phases) = rows.split_at(first_phase(rows));
@@ -209,8 +213,10 @@ impl<S: Naming> SharedDay<S> {
     /// The desks of the segment, and what was counted.
     fn gathered(self, alloc: Global) -> Result<OpenDay, OutOfMemory>
         ensures journals { IfOk result (λ day. AreJournals S.settings day.desks.items) }
-        ensures accepted { IfOk result (λ day. day.report.accepted ≡ commands_in day.desks.items) }
-        ensures all { IfOk result (λ day. day.report.accepted + day.report.refused ≡ taken_by self) }
+        ensures history { IfOk result (λ day. IsOneHistory day.desks.items (map (λ (w : WorkerView). w.seat) self) []) }
+        ensures commands { IfOk result (λ day. day.report.accepted ≡ commands_in day.desks.items) }
+        ensures accepted { IfOk result (λ day. day.report.accepted ≡ sum_by (λ (w : WorkerView). w.report.accepted) self) }
+        ensures refused { IfOk result (λ day. day.report.refused ≡ sum_by (λ (w : WorkerView). w.report.refused) self) }
     {
         let SharedDay { segment, workers } = self;
         let (seats, report) = counted(workers)?;
@@ -226,7 +232,8 @@ fn desks_of<S: Naming>(
     seats: Vec<Seat<S>>,
 ) -> Result<Vec<Desk<Global>>, OutOfMemory>
     requires { S.workers ≤ length seats.items }
-    ensures { IfOk result (λ desks. AreGathered S.settings (all_sums seats.items) desks.items) }
+    ensures gathered { IfOk result (λ desks. AreGathered S.settings (all_sums seats.items) desks.items) }
+    ensures history { IfOk result (λ desks. IsOneHistory desks.items seats.items []) }
 {
     let mut rows = Vec::new(alloc);
     match segment.gather(alloc, seats, rows.as_mut_slice()) {
@@ -247,8 +254,9 @@ fn want_of_memory(fault: GatherFault) -> OutOfMemory
 
 /// A worker for each seat, in which nothing is counted.
 fn seated<S: Naming>(seats: Vec<Seat<S>>) -> Result<Vec<Worker<S>>, OutOfMemory>
-    requires { All (λ seat. accepted_in seat.sums ≡ 0) seats.items }
-    ensures all { IfOk result (λ workers. length workers.items ≡ length seats.items) }
+    requires { AreSeats S.settings S.workers seats.items }
+    ensures all { IfOk result (λ workers. length workers.items ≡ S.workers) }
+    ensures each { IfOk result (λ workers. (number : ℕ) (w : WorkerView) → slice_get workers.items number ≡ Some w → w ≡ fresh_worker S.settings number) }
     ensures none { IfOk result (λ workers. taken_by workers.items ≡ 0) }
 {
     let mut workers = Vec::with_capacity(*seats.allocator(), seats.len())?;
@@ -259,18 +267,19 @@ fn seated<S: Naming>(seats: Vec<Seat<S>>) -> Result<Vec<Worker<S>>, OutOfMemory>
 }
 
 /// The seats of workers, and what all of them counted.
-fn counted<S: Naming>(mut workers: Vec<Worker<S>>) -> Result<(Vec<Seat<S>>, DayReport), OutOfMemory>
+fn counted<S: Naming>(workers: Vec<Worker<S>>) -> Result<(Vec<Seat<S>>, DayReport), OutOfMemory>
     requires { taken_by workers.items ≤ max_rows }
-    ensures seats { IfOk result (λ parts. length parts.0.items ≡ length workers.items) }
-    ensures accepted { IfOk result (λ parts. parts.1.accepted ≡ accepted_by parts.0.items) }
-    ensures all { IfOk result (λ parts. taken_in parts.1 ≡ taken_by workers.items) }
+    ensures seats { IfOk result (λ parts. parts.0.items ≡ map (λ (w : WorkerView). w.seat) workers.items) }
+    ensures ledgers { IfOk result (λ parts. parts.1.accepted ≡ accepted_by parts.0.items) }
+    ensures accepted { IfOk result (λ parts. parts.1.accepted ≡ sum_by (λ (w : WorkerView). w.report.accepted) workers.items) }
+    ensures refused { IfOk result (λ parts. parts.1.refused ≡ sum_by (λ (w : WorkerView). w.report.refused) workers.items) }
 {
     let mut seats = Vec::with_capacity(*workers.allocator(), workers.len())?;
     let mut sum = DayReport {
         accepted: 0,
         refused: 0,
     };
-    while let Some(worker) = workers.pop() {
+    for worker in workers {
         let (seat, report) = worker.into_parts();
         seats.push(seat)?;
         sum.accepted += report.accepted;

@@ -1,10 +1,10 @@
 //! The members' rows of a round, which workers share.
 ghost use Rattle.std.specs.Prelude.{◌≡◌, ◌+◌, ◌<◌, ◌≤◌, IfOk, length, true};
 ghost use Rattle.std.specs.List.{list_all};
-ghost use Rattle.xm_day.specs.Standing.{will_be_taken};
-ghost use Rattle.xm_day.specs.Workers.{taken_by};
+ghost use Rattle.xm_day.specs.Standing.{TookAll, WillTakeAll, will_be_taken};
+ghost use Rattle.xm_day.specs.Workers.{HaveWorked, taken_by};
 ghost use Rattle.xm_files.specs.Orders.{max_rows};
-ghost use Rattle.xm_files.specs.Timetable.{is_of_member};
+ghost use Rattle.xm_files.specs.Timetable.{is_of_member, share_of};
 ghost use Rattle.xm_segment.specs.declared.opening.TheConstants.{MAX_WORKERS};
 
 use crate::standing::Standing;
@@ -28,7 +28,7 @@ pub(crate) fn take_members<T: Threads + Wait + Sync, G: Gate + Sync, S: Naming +
     requires some { 0 < length workers.items }
     requires few { length workers.items ≤ MAX_WORKERS }
     requires room { taken_by workers.items + length rows.now ≤ max_rows }
-    ensures all { IfOk result (λ after. length after.items ≡ length workers.items) }
+    ensures worked { IfOk result (λ after. HaveWorked S.settings (λ number. share_of number (length workers.items) rows.now) workers.items after.items) }
     ensures taken { IfOk result (λ after. taken_by after.items ≡ taken_by workers.items + length rows.now) }
 {
     if rows.is_empty() {
@@ -44,7 +44,7 @@ pub(crate) fn take_members<T: Threads + Wait + Sync, G: Gate + Sync, S: Naming +
         rt,
         move |scope| -> Result<Vec<Worker<S>>, OutOfMemory>
             requires { (list_all is_of_member rows.now ≡ true) × (0 < length workers.items) × (length workers.items ≤ MAX_WORKERS) × (taken_by workers.items + length rows.now ≤ max_rows) }
-            ensures { IfOk result (λ after. (length after.items ≡ length workers.items) × (taken_by after.items ≡ taken_by workers.items + length rows.entry.now)) }
+            ensures { IfOk result (λ after. HaveWorked S.settings (λ number. share_of number (length workers.items) rows.entry.now) workers.items after.items × (taken_by after.items ≡ taken_by workers.items + length rows.entry.now)) }
         {
             let standing = start_shares(scope, rt, gate, segment, workers, rows)?;
             join_all(rt, standing)
@@ -66,6 +66,7 @@ fn start_shares<'s, E, T: Threads + Wait + Sync, G: Gate + Sync, S: Naming + Sen
     requires few { length workers.items ≤ MAX_WORKERS }
     requires room { taken_by workers.items + length rows.now ≤ max_rows }
     ensures all { IfOk result (λ standing. length standing.items ≡ length workers.items) }
+    ensures each { IfOk result (λ standing. WillTakeAll (λ number. share_of number (length workers.items) rows.now) workers.items standing.items) }
     ensures taken { IfOk result (λ standing. will_be_taken standing.items ≡ taken_by workers.items + length rows.now) }
 {
     let alloc = *workers.allocator();
@@ -85,6 +86,7 @@ fn join_all<T: Threads, S: Naming + Send + Sync>(
     standing: Vec<Standing<S>>,
 ) -> Result<Vec<Worker<S>>, OutOfMemory>
     ensures all { IfOk result (λ workers. length workers.items ≡ length standing.items) }
+    ensures each { IfOk result (λ workers. TookAll S.settings standing.items workers.items) }
     ensures taken { IfOk result (λ workers. taken_by workers.items ≡ will_be_taken standing.items) }
 {
     let mut left = standing;

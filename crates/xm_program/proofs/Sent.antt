@@ -31,5 +31,5 @@ module _ (segment old mid new : Option (List ℕ)) {Same : Type 0} (same : Same 
     day-sent days (Err fault) kept untouched ends = subst (λ (o : Option (List ℕ)). DayEnds days segment orders old o (Err fault)) (sym (same untouched)) ends
 
     -- a day whose statement was sent out
-    pub run-sent : (workers : ℕ) (end : Result DayReport DayFault) → OnOk end (Keeps mid new) → OnErr end Same → (workers ≡ 1 → DayEnds InFileOrder segment orders old mid end) → (workers ≢ 1 → DayEnds IsShared segment orders old mid end) → DayEndsBy workers segment orders old new end
-    run-sent workers end kept untouched alone shared = record { alone = λ one. day-sent InFileOrder end kept untouched (alone one); shared = λ more. day-sent IsShared end kept untouched (shared more) }
+    pub run-sent : (workers : ℕ) (end : Result DayReport DayFault) → OnOk end (Keeps mid new) → OnErr end Same → (workers ≡ 1 → DayEnds InFileOrder segment orders old mid end) → (workers ≢ 1 → DayEnds (IsShared workers) segment orders old mid end) → DayEndsBy workers segment orders old new end
+    run-sent workers end kept untouched alone shared = record { alone = λ one. day-sent InFileOrder end kept untouched (alone one); shared = λ more. day-sent (IsShared workers) end kept untouched (shared more) }

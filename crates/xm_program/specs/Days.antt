@@ -29,7 +29,7 @@ pub record DayEndsBy (workers : ℕ) (segment orders old new : Option (List ℕ)
   -- one worker takes them in their order
   pub alone : workers ≡ 1 → DayEnds InFileOrder segment orders old new end
   -- several take each member's in their order
-  pub shared : workers ≢ 1 → DayEnds IsShared segment orders old new end
+  pub shared : workers ≢ 1 → DayEnds (IsShared workers) segment orders old new end
 
 -- how the run of two files ends by so many workers
 abbrev pub RunEnds : ℕ → Option (List ℕ) → Option (List ℕ) → Option (List ℕ) → Option (List ℕ) → Result (Unit {0}) DayFault → Type 0

@@ -1,13 +1,16 @@
-use Rattle.std.proofs.Common.{◌≡◌, ◌+◌, length}
-use Rattle.xm_day.specs.Workers.{accepted_by, taken_by, taken_in}
+use Rattle.std.proofs.Common.{◌≡◌, ◌+◌, ◌++◌}
+use Rattle.std.specs.Prelude.{map, sum_by}
+use Rattle.std.specs.Vec.Iter.{into_iter_items}
+use Rattle.xm_day.specs.Workers.{WorkerView, accepted_by}
 use Rattle.xm_day.proofs.shared_day.counted.Given as goal
 
 abbrev pub invariant-loop-worker : goal.invariant-loop-worker
-invariant-loop-worker g l = record {
-  all : length l.workers.items + length l.seats.items ≡ length l.fn.workers.items;
-  accepted : l.sum.accepted ≡ accepted_by l.seats.items;
-  taken : taken_by l.workers.items + taken_in l.sum ≡ taken_by l.fn.workers.items;
-}
-
-abbrev pub decreases-loop-worker : goal.decreases-loop-worker
-decreases-loop-worker g l = length l.workers.items
+invariant-loop-worker g l =
+    let left = into_iter_items l.worker-iterator in
+    let workers = l.fn.workers.items in
+    record {
+      seats : l.seats.items ++ map (λ (w : WorkerView). w.seat) left ≡ map (λ (w : WorkerView). w.seat) workers;
+      ledgers : l.sum.accepted ≡ accepted_by l.seats.items;
+      accepted : l.sum.accepted + sum_by (λ (w : WorkerView). w.report.accepted) left ≡ sum_by (λ (w : WorkerView). w.report.accepted) workers;
+      refused : l.sum.refused + sum_by (λ (w : WorkerView). w.report.refused) left ≡ sum_by (λ (w : WorkerView). w.report.refused) workers;
+    }

@@ -1,4 +1,4 @@
-use Rattle.std.proofs.Common.{Result, Ok, Err, refl}
+use Rattle.std.proofs.Common.{◌≡◌, ℕ, Result, Ok, Err, refl, sym}
 use Rattle.std.specs.Prelude.{IfOk}
 use Rattle.xm_day.proofs.Sharing.{opened-is}
 use Rattle.xm_day.proofs.shared_day.run_shared.Invariants.{opened_in}
@@ -6,13 +6,13 @@ use Rattle.xm_desk.specs.declared.opening.OpenFault.{OpenFault}
 use Rattle.xm_segment.specs.Names.{NamesSegment, UnnamedSegment, board_names, ledger_names}
 use Rattle.xm_day.proofs.shared_day.run_shared.Goals as goal
 
-named : (opened : Result UnnamedSegment OpenFault)
-    → IfOk opened (λ o. NamesSegment (opened_in opened).settings (ledger_names (opened_in opened).ledgers) (board_names (opened_in opened).boards) (opened_in opened).workers o)
-named (Ok o) = record { settings_are = refl; ledgers_are = refl; boards_are = refl; workers_are = refl }
-named (Err fault) = tt
+named : (workers : ℕ) (opened : Result UnnamedSegment OpenFault) → IfOk opened (λ o. o.workers ≡ workers)
+    → IfOk opened (λ o. NamesSegment (opened_in opened).settings (ledger_names (opened_in opened).ledgers) (board_names (opened_in opened).boards) workers o)
+named workers (Ok o) is = record { settings_are = refl; ledgers_are = refl; boards_are = refl; workers_are = sym is }
+named workers (Err fault) is = tt
 
 pub run_named-requires-clause-named : goal.run_named-requires-clause-named
-run_named-requires-clause-named g c = λ κs within. named c.new-opened.result
+run_named-requires-clause-named g c = λ κs within. named c.args.workers c.new-opened.result c.new-opened.ensures.workers
 
 pub run_named-requires-clause-opened : goal.run_named-requires-clause-opened
 run_named-requires-clause-opened g c = λ κs within.

@@ -13,5 +13,5 @@ ghosts-run_named g a = record {
   settings = (opened_in a.opened).settings;
   ledgers = ledger_names (opened_in a.opened).ledgers;
   boards = board_names (opened_in a.opened).boards;
-  workers = (opened_in a.opened).workers;
+  workers = a.workers;
 }

@@ -1,9 +1,8 @@
-use Rattle.std.proofs.Common.{◌≡◌, ◌+◌, length}
-use Rattle.std.specs.Prelude.{All}
+use Rattle.std.proofs.Common.{◌≡◌, ℕ, ◌+◌, length, Some}
+use Rattle.std.specs.Prelude.{slice_get}
 use Rattle.std.specs.Vec.Iter.{into_iter_items}
-use Rattle.xm_day.specs.Workers.{taken_by}
-use Rattle.xm_segment.specs.Ledgers.{accepted_in}
-use Rattle.xm_segment.specs.Seats.{SeatView}
+use Rattle.xm_day.specs.Workers.{WorkerView, fresh_worker, taken_by}
+use Rattle.xm_segment.specs.Seats.{SeatView, fresh_seat}
 use Rattle.xm_day.proofs.shared_day.seated.Given as goal
 
 abbrev pub invariant-loop-seat : goal.invariant-loop-seat
@@ -11,6 +10,7 @@ invariant-loop-seat g l =
     let left = into_iter_items l.seat-iterator in
     record {
       all : length l.workers.items + length left ≡ length l.fn.seats.items;
+      each : (number : ℕ) (w : WorkerView) → slice_get l.workers.items number ≡ Some w → w ≡ fresh_worker g.S.Naming.settings number;
+      left : (i : ℕ) (seat : SeatView) → slice_get left i ≡ Some seat → seat ≡ fresh_seat g.S.Naming.settings (length l.workers.items + i);
       none : taken_by l.workers.items ≡ 0;
-      nothing : All (λ (seat : SeatView). accepted_in seat.sums ≡ 0) left;
     }

@@ -14,7 +14,7 @@ returns-then-not-more g c =
     let joined : rows_so_far c.rounds.batch ++ c.rows.result.now ≡ rows_so_far batch = λ i. (sym c.in-Ok.ensures.earlier) i ++ c.rows.ensures i in (
       rows_so_far batch,
       c.rounds.invariant.read ∙ c.in-Ok.ensures.read ∙ c.in-Ok.ensures.ended ended,
-      subst (λ (rows : List Row). HasShared g.S.Naming.settings config rows c.take_more-day.result) joined (c.take_more-day.ensures config (rows_so_far c.rounds.batch) c.rounds.invariant.taken),
+      subst (λ (rows : List Row). HasShared g.S.Naming.settings g.S.Naming.workers config rows c.take_more-day.result) joined (c.take_more-day.ensures config (rows_so_far c.rounds.batch) c.rounds.invariant.taken),
     )
 
 pub rounds-preserved : goal.rounds-preserved
@@ -23,5 +23,5 @@ rounds-preserved g c =
     let joined : rows_so_far c.rounds.batch ++ c.rows.result.now ≡ rows_so_far c.read.new.batch = λ i. (sym c.in-Ok.ensures.earlier) i ++ c.rows.ensures i in
     record {
       read = c.rounds.invariant.read ∙ c.in-Ok.ensures.read;
-      taken = subst (λ (rows : List Row). HasShared g.S.Naming.settings config rows c.take_more-day.result) joined (c.take_more-day.ensures config (rows_so_far c.rounds.batch) c.rounds.invariant.taken);
+      taken = subst (λ (rows : List Row). HasShared g.S.Naming.settings g.S.Naming.workers config rows c.take_more-day.result) joined (c.take_more-day.ensures config (rows_so_far c.rounds.batch) c.rounds.invariant.taken);
     }

@@ -7,7 +7,7 @@ use Rattle.xm_day.proofs.shared_day.take_file.Given as goal
 abbrev pub invariant-rounds : goal.invariant-rounds
 invariant-rounds g l = record {
   read : rows_from l.names l.config l.initial.file [] ≡ rows_from l.names l.config l.file (rows_so_far l.batch);
-  taken : HasShared g.S.Naming.settings l.config (rows_so_far l.batch) l.day;
+  taken : HasShared g.S.Naming.settings g.S.Naming.workers l.config (rows_so_far l.batch) l.day;
 }
 
 abbrev pub decreases-rounds : goal.decreases-rounds

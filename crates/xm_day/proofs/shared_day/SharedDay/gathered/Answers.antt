@@ -5,10 +5,10 @@ use Rattle.xm_day.proofs.shared_day.SharedDay.gathered.Goals as goal
 
 pub returns-clause-journals : goal.returns-clause-journals
 returns-clause-journals g c =
-    gathered-journals g.S.Naming.settings (all_sums c.in_ok-seats.seats.items) c.in_ok-desks.desks.items c.in_ok-desks.ensures.0
+    gathered-journals g.S.Naming.settings (all_sums c.in_ok-seats.seats.items) c.in_ok-desks.desks.items c.in_ok-desks.ensures.gathered.0
 
-pub returns-clause-accepted : goal.returns-clause-accepted
-returns-clause-accepted g c =
+pub returns-clause-commands : goal.returns-clause-commands
+returns-clause-commands g c =
     let seats = c.in_ok-seats.seats.items in
-    let gathered = c.in_ok-desks.ensures in
-    c.in_ok-seats.ensures.accepted ∙ sym (all_sums-accepted seats) ∙ gathered-accepted g.S.Naming.settings (all_sums seats) c.in_ok-desks.desks.items gathered.0 gathered.1
+    let gathered = c.in_ok-desks.ensures.gathered in
+    c.in_ok-seats.ensures.ledgers ∙ sym (all_sums-accepted seats) ∙ gathered-accepted g.S.Naming.settings (all_sums seats) c.in_ok-desks.desks.items gathered.0 gathered.1
