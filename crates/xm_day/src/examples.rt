@@ -7,8 +7,11 @@ ghost use Rattle.xm_day.specs.Day.{day, opening_day};
 ghost use Rattle.xm_segment.specs.Opening.{segment_fault};
 ghost use Rattle.xm_day.specs.Examples.{broad_security, cascade_rows, cascade_state, cascade_text, every_phase, every_phase_word, every_restriction, every_restriction_word, every_trade_kind, every_trade_word, every_validity, every_validity_text, example_config, example_names, open_row, penny_state, sized_config};
 ghost use Rattle.xm_day.specs.Statement.{day_line, limit_text, member_line, phase_word, restriction_word, side_word, statement, stop_line, total_cash, trade_word, validity_text};
+ghost use Rattle.xm_day.specs.Workers.{rows_of};
 ghost use Rattle.xm_desk.specs.declared.opening.OpenFault.TheVariants.{BadWidths, NoSecurity, TooMany};
+ghost use Rattle.xm_files.specs.Examples.{round_rows, row_of};
 ghost use Rattle.xm_rules.specs.Examples.{stop};
+ghost use Rattle.xm_rules.specs.declared.commands.Command.TheVariants.{Cancel, CancelAll, StartClosing, StartOpening, Uncross};
 ghost use Rattle.xm_rules.specs.declared.orders.OrderKind.TheVariants.{Limit, Market};
 ghost use Rattle.xm_rules.specs.declared.orders.Side.TheVariants.{Buy, Sell};
 
@@ -61,6 +64,14 @@ pub fn unknown_security()
     ensures counted { (day example_config (open_row 1 ∷ open_row 0 ∷ [])).refused ≡ 1 }
     ensures further { (day example_config (open_row 1 ∷ open_row 0 ∷ [])).accepted ≡ 1 }
     ensures alone { day example_config (open_row 7 ∷ []) ≡ record (opening_day example_config) { refused = 1 } }
+{}
+
+/// The rows that workers take of two rounds, in the order of the file: those of their members, and the first worker those of the
+/// phases.
+pub fn rows_of_workers()
+    ensures first { rows_of 0 2 round_rows ≡ row_of 0 StartOpening ∷ row_of 1 (Cancel 2 1) ∷ row_of 0 Uncross ∷ row_of 0 StartClosing ∷ [] }
+    ensures second { rows_of 1 2 round_rows ≡ row_of 0 (Cancel 1 1) ∷ row_of 0 (CancelAll 1) ∷ [] }
+    ensures alone { rows_of 0 1 round_rows ≡ round_rows }
 {}
 
 /// A segment has one to eight securities and up to a thousand members. The first limit that it doesn't keep is told.
