@@ -31,5 +31,9 @@ module _ (segment old mid new : Option (List ℕ)) {Same : Type 0} (same : Same 
     day-sent days (Err fault) kept untouched ends = subst (λ (o : Option (List ℕ)). DayEnds days segment orders old o (Err fault)) (sym (same untouched)) ends
 
     -- a day whose statement was sent out
-    pub run-sent : (workers : ℕ) (end : Result DayReport DayFault) → OnOk end (Keeps mid new) → OnErr end Same → (workers ≡ 1 → DayEnds InFileOrder segment orders old mid end) → (workers ≢ 1 → DayEnds (IsShared workers) segment orders old mid end) → DayEndsBy workers segment orders old new end
-    run-sent workers end kept untouched alone shared = record { alone = λ one. day-sent InFileOrder end kept untouched (alone one); shared = λ more. day-sent (IsShared workers) end kept untouched (shared more) }
+    pub run-sent : (workers asked : ℕ) (end : Result DayReport DayFault) → asked ≡ workers → OnOk end (Keeps mid new) → OnErr end Same → (asked ≡ 1 → DayEnds InFileOrder segment orders old mid end) → (asked ≢ 1 → DayEnds (IsShared asked) segment orders old mid end)
+        → DayEndsBy workers segment orders old new end
+    run-sent workers asked end is kept untouched alone shared = record {
+      alone = λ one. day-sent InFileOrder end kept untouched (alone (is ∙ one));
+      shared = λ more. day-sent (IsShared workers) end kept untouched (subst (λ (n : ℕ). DayEnds (IsShared n) segment orders old mid end) is (shared (λ one. more (sym is ∙ one))));
+    }
