@@ -6,4 +6,5 @@ pub mod Incoming
 pub mod Made
 pub mod Opening
 pub mod Settled
+pub mod Shown
 pub mod Tape

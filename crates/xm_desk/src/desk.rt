@@ -1,6 +1,7 @@
 //! The desk of one security.
 ghost use Rattle.std.specs.Prelude.{◌≡◌, ◌≢◌, ◌≤◌, ◌+◌, ◌++◌, ◌∷◌, [], All, IsTrue, None, Some, Err, IfOk, IfErr, OnErr, OnOk, length, pos};
 ghost use Rattle.xm_desk.specs.Opening.{open_fault};
+ghost use Rattle.xm_desk.specs.Shown.{level_in, market_units, units_left};
 ghost use Rattle.xm_desk.specs.declared.tape.TheConstants.{MAX_TRADES};
 ghost use Rattle.xm_positions.specs.Positions.{cash_position, net_position};
 ghost use Rattle.xm_rules.specs.Refusals.{refusal_of};
@@ -176,6 +177,29 @@ impl<A: Allocator + Copy> Desk<A> {
         ensures { result ≡ best_limit (replay self.now) side }
     {
         self.market.best(side)
+    }
+
+    /// The best limit of the active orders of a side, in ticks, that is worse than this one, or the best of all where there is
+    /// none, with the units that rest at it. It costs no pass over orders.
+    pub fn level_after(&self, side: Side, after: Option<Price>) -> Option<(Price, u64)>
+        ensures { result ≡ level_in (replay self.now) side after }
+    {
+        self.market.level_after(side, after)
+    }
+
+    /// The units that rest in the active market orders of a side. It costs no pass over orders.
+    pub fn market_sum(&self, side: Side) -> u64
+        ensures { result ≡ market_units (replay self.now) side }
+    {
+        self.market.market_sum(side)
+    }
+
+    /// The units that are left of what a member entered under this reference: those that rest in the book, those of a held
+    /// stop, and 0 where it is gone. It costs no pass over orders or stops.
+    pub fn units_left(&self, member: u32, reference: u32) -> u32
+        ensures { result ≡ units_left (replay self.now) member reference }
+    {
+        self.market.units_left(member, reference)
     }
 
     /// What is shown of the security to those who watch it. It costs no pass over orders or trades.

@@ -5,6 +5,7 @@ ghost use Rattle.xm_desk.specs.Growth.{ready_for};
 ghost use Rattle.xm_desk.specs.Made.{AreSized, IsCounted, Makes};
 ghost use Rattle.xm_rules.specs.Settings.{are_widths};
 ghost use Rattle.xm_desk.specs.Settled.{places_in};
+ghost use Rattle.xm_desk.specs.Shown.{level_in, market_units, units_left};
 ghost use Rattle.xm_desk.specs.declared.tape.TheConstants.{MAX_TRADES};
 ghost use Rattle.xm_desk.specs.declared.unsettled.Ready.TheVariants.{Nothing};
 ghost use Rattle.xm_rules.specs.Quote.{best_limit, indicative};
@@ -197,6 +198,34 @@ impl<A: Allocator + Copy> Market<A> {
         ensures { result ≡ best_limit self.now.state side }
     {
         self.inside.book.best_limit(side, self.inside.phase)
+    }
+
+    /// The best limit of the active orders of a side that is worse than this one, or the best of all where there is none,
+    /// with the units that rest at it.
+    pub fn level_after(&self, side: Side, after: Option<Price>) -> Option<(Price, u64)>
+        ensures { result ≡ level_in self.now.state side after }
+    {
+        self.inside.book.level_after(side, self.inside.phase, after)
+    }
+
+    /// The units that rest in the active market orders of a side.
+    pub fn market_sum(&self, side: Side) -> u64
+        ensures { result ≡ market_units self.now.state side }
+    {
+        self.inside.book.market_sum(side, self.inside.phase)
+    }
+
+    /// The units that are left of what has this name, an order or a held stop.
+    pub fn units_left(&self, member: u32, reference: u32) -> u32
+        ensures { result ≡ units_left self.now.state member reference }
+    {
+        match self.inside.book.find(member, reference) {
+            Some(order) => order.rest,
+            None => match self.inside.stops.find(member, reference) {
+                Some(stop) => stop.quantity,
+                None => 0,
+            },
+        }
     }
 
     /// How many commands it accepted.
