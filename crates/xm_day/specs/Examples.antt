@@ -1,5 +1,5 @@
 -- The worked example of a day: three buys below one another, two stops, and a sell that reaches both.
-use Rattle.std.specs.Prelude.{codes, ℕ, List, [], ◌∷◌, ◌++◌, map, replicate}
+use Rattle.std.specs.Prelude.{codes, ℕ, ◌+◌, List, [], ◌∷◌, ◌++◌, map, replicate}
 use Rattle.xm_rules.specs.Examples.{enter, order, trade}
 use Rattle.xm_rules.specs.State.{State}
 use Rattle.xm_rules.specs.declared.commands.Command.{Command}
@@ -41,8 +41,13 @@ cascade_commands =
     ∷ enter 1 1 Sell (kind.StopMarket 990) 25 ∷ Enter 1 2 Sell (kind.StopLimit 985 985) 10 TillCancelled Free Plain ∷ enter 1 3 Sell (kind.Limit 990) 30
     ∷ Cancel 0 9 ∷ StartClosing ∷ Uncross ∷ EndDay ∷ []
 
+-- commands on the first security, one in each line from this one on
+abbrev pub rows_in_lines : ℕ → List Command → List Row
+rows_in_lines line [] = []
+rows_in_lines line (command ∷ commands) = record { line = line; security = 0; command = command } ∷ rows_in_lines (line + 1) commands
+
 abbrev pub cascade_rows : List Row
-cascade_rows = map (λ (command : Command). record { security = 0; command = command }) cascade_commands
+cascade_rows = rows_in_lines 2 cascade_commands
 
 -- the state after the day
 abbrev pub cascade_state : State
@@ -125,7 +130,7 @@ penny_state = record cascade_state {
 
 -- the begin of the opening call of a security
 abbrev pub open_row : ℕ → Row
-open_row security = record { security = security; command = StartOpening }
+open_row security = record { line = 2; security = security; command = StartOpening }
 
 -- a segment of so many securities and so many members
 abbrev pub sized_config : ℕ → ℕ → SegmentConfig

@@ -45,10 +45,10 @@ fields-if true line rows sum o h = cc
 fields-if false line rows sum o h = let added = rows-added line rows sum o h in (added.0, added.2)
 
 record-if : (t : Bool) (names : NameLists) (config : SegmentConfig) (line : ℕ) (rows sum : List Row) (fields : List (List ℕ))
-    → (if t then (if is_header First fields then Ok rows else Err (fault_at 1 BadHeader)) else (if not (length fields == length (columns_of First)) then Err (fault_at line Syntax) else with_rows line rows (rows_of_record First names config fields))) ≡ Ok sum
+    → (if t then (if is_header First fields then Ok rows else Err (fault_at 1 BadHeader)) else (if not (length fields == length (columns_of First)) then Err (fault_at line Syntax) else with_rows line rows (rows_of_record First names config line fields))) ≡ Ok sum
     → Extends rows sum
 record-if true names config line rows sum fields h = let same = header-if (is_header First fields) rows sum h in ([], same ∙ sym (append-nil rows))
-record-if false names config line rows sum fields h = fields-if (not (length fields == length (columns_of First))) line rows sum (rows_of_record First names config fields) h
+record-if false names config line rows sum fields h = fields-if (not (length fields == length (columns_of First))) line rows sum (rows_of_record First names config line fields) h
 
 record-extends : (names : NameLists) (config : SegmentConfig) (line : ℕ) (rows sum : List Row) (fields : List (List ℕ)) → with_record names config line rows fields ≡ Ok sum → Extends rows sum
 record-extends names config line rows sum fields h = record-if (line == 1) names config line rows sum fields h
@@ -113,9 +113,9 @@ ends-at : (names : NameLists) (config : SegmentConfig) (file : RowsLeft) (batch 
     → ends_before Round batch.rows (command_in First fields) ≡ true → EndsRound names config file batch
 ends-at names config file batch fields records later twelve same ends more gives =
     let tests = both (ends_with_phase batch.rows) (names_members_command (command_in First fields)) ends in
-    let rows = subst (λ (t : Bool). IfSome (rows_of_record First names config fields) (AreOfWord t)) tests.1 (record-rows First names config fields) in
+    let rows = subst (λ (t : Bool). IfSome (rows_of_record First names config file.line fields) (AreOfWord t)) tests.1 (record-rows First names config file.line fields) in
     let next = ap (λ (r : Result (List Row) FileFault). result_then r (λ sum. rows_after names config (file.line + 1) sum records)) (row-record names config file.line (rows_so_far batch) fields later twelve) in
-    ends-by names config file.line batch.rows (rows_so_far batch) more (rows_of_record First names config fields) records tests.0 rows (sym next ∙ sym same ∙ gives)
+    ends-by names config file.line batch.rows (rows_so_far batch) more (rows_of_record First names config file.line fields) records tests.0 rows (sym next ∙ sym same ∙ gives)
 
 -- the rows of a record that doesn't end a part go on it
 keeps-by : (rows more : List Row) (t u : Bool) → (u && t) ≡ false → ends_with_phase rows ≡ u → AreOfWord t more → is_one_round rows ≡ true → is_one_round (rows ++ more) ≡ true
@@ -123,20 +123,20 @@ keeps-by rows more false u goes ends of one = joined-phases rows more one of
 keeps-by rows more true true goes ends of one = cc
 keeps-by rows more true false goes ends of one = ap (λ (a : List Row). is_one_round (rows ++ a)) of.1 ∙ joined-member rows of.0 one ends of.2
 
-keeps : (part : Part) (names : NameLists) (config : SegmentConfig) (fields : List (List ℕ)) (rows more : List Row) → rows_of_record First names config fields ≡ Some more → ends_before part rows (command_in First fields) ≡ false → is_so_far part rows ≡ true
+keeps : (part : Part) (names : NameLists) (config : SegmentConfig) (line : ℕ) (fields : List (List ℕ)) (rows more : List Row) → rows_of_record First names config line fields ≡ Some more → ends_before part rows (command_in First fields) ≡ false → is_so_far part rows ≡ true
     → is_so_far part (rows ++ more) ≡ true
-keeps (Rows most) names config fields rows more gives goes one = refl
-keeps Round names config fields rows more gives goes one =
+keeps (Rows most) names config line fields rows more gives goes one = refl
+keeps Round names config line fields rows more gives goes one =
     let text = command_in First fields in
-    keeps-by rows more (names_members_command text) (ends_with_phase rows) goes refl (subst (λ (o : Option (List Row)). IfSome o (AreOfWord (names_members_command text))) gives (record-rows First names config fields)) one
+    keeps-by rows more (names_members_command text) (ends_with_phase rows) goes refl (subst (λ (o : Option (List Row)). IfSome o (AreOfWord (names_members_command text))) gives (record-rows First names config line fields)) one
 
 pub so-far-rows : (part : Part) (names : NameLists) (config : SegmentConfig) (line : ℕ) (fields : List (List ℕ)) (old new : RowsRead) → new.earlier ≡ old.earlier
-    → with_rows line (rows_so_far old) (rows_of_record First names config fields) ≡ Ok (rows_so_far new) → ends_before part old.rows (command_in First fields) ≡ false → is_so_far part old.rows ≡ true → is_so_far part new.rows ≡ true
+    → with_rows line (rows_so_far old) (rows_of_record First names config line fields) ≡ Ok (rows_so_far new) → ends_before part old.rows (command_in First fields) ≡ false → is_so_far part old.rows ≡ true → is_so_far part new.rows ≡ true
 so-far-rows part names config line fields old new before good goes one =
-    let added = rows-added line (rows_so_far old) (rows_so_far new) (rows_of_record First names config fields) good in
+    let added = rows-added line (rows_so_far old) (rows_so_far new) (rows_of_record First names config line fields) good in
     let rows : new.rows ≡ old.rows ++ added.0 =
     append_cancel_left old.earlier new.rows (old.rows ++ added.0) (ap (λ (a : List Row). a ++ new.rows) (sym before) ∙ added.2 ∙ append_assoc old.earlier old.rows added.0) in
-    ap (is_so_far part) rows ∙ keeps part names config fields old.rows added.0 added.1 goes one
+    ap (is_so_far part) rows ∙ keeps part names config line fields old.rows added.0 added.1 goes one
 
 -- the same of a record that CSV read
 other-if : (t : Bool) (ends : Bool) → t ≡ true → (if t then ends else false) ≡ false → ends ≡ false

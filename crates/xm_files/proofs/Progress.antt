@@ -26,7 +26,7 @@ pub header-record : (names : NameLists) (config : SegmentConfig) (line : ℕ) (r
 header-record names config line rows fields first = rw first refl
 
 pub row-record : (names : NameLists) (config : SegmentConfig) (line : ℕ) (rows : List Row) (fields : List (List ℕ)) → 2 ≤ line → length fields ≡ 12
-    → with_record names config line rows fields ≡ with_rows line rows (rows_of_record First names config fields)
+    → with_record names config line rows fields ≡ with_rows line rows (rows_of_record First names config line fields)
 row-record names config line rows fields later twelve = rw (not-first line later, twelve) refl
 
 pub other-record : (names : NameLists) (config : SegmentConfig) (line : ℕ) (rows : List Row) (fields : List (List ℕ)) → 2 ≤ line → (length fields == 12) ≡ false
@@ -81,15 +81,15 @@ feed-begins text more line later fed =
 -- the record behind the line feed, and what comes after it
 next-line : (names : NameLists) (config : SegmentConfig) (all : Result (List Row) FileFault) (text more : List ℕ) (line : ℕ) (rows : List Row) (format : OrderFormat) (fields : List (List ℕ)) → Lines names config all text line rows
     → ReadsLine text fields more → format ≡ First → length fields ≡ length (columns_of format)
-    → all ≡ result_then (with_rows line rows (rows_of_record format names config fields)) (λ sum. rows_after names config (line + 1) sum (records default_config (10 ∷ more)))
+    → all ≡ result_then (with_rows line rows (rows_of_record format names config line fields)) (λ sum. rows_after names config (line + 1) sum (records default_config (10 ∷ more)))
 next-line names config all text more line rows format fields p reads first count =
     p.so_far
     ∙ ap (rows_after names config line rows) (fed-records text ∙ line-records text more fields reads)
     ∙ ap (λ (r : Result (List Row) FileFault). result_then r (λ sum. rows_after names config (line + 1) sum (records default_config (10 ∷ more)))) (row-record names config line rows fields p.later (count ∙ ap (λ (f : OrderFormat). length (columns_of f)) first)
-    ∙ ap (λ (f : OrderFormat). with_rows line rows (rows_of_record f names config fields)) (sym first))
+    ∙ ap (λ (f : OrderFormat). with_rows line rows (rows_of_record f names config line fields)) (sym first))
 
 pub lines-more : (names : NameLists) (config : SegmentConfig) (all : Result (List Row) FileFault) (text more : List ℕ) (line : ℕ) (rows sum : List Row) (format : OrderFormat) (fields : List (List ℕ)) → Lines names config all text line rows
-    → ReadsLine text fields more → format ≡ First → length fields ≡ length (columns_of format) → with_rows line rows (rows_of_record format names config fields) ≡ Ok sum → Lines names config all more (line + 1) sum
+    → ReadsLine text fields more → format ≡ First → length fields ≡ length (columns_of format) → with_rows line rows (rows_of_record format names config line fields) ≡ Ok sum → Lines names config all more (line + 1) sum
 lines-more names config all text more line rows sum format fields p reads first count good =
     let shorter = line-shorter text more fields reads in
     let lines = p.lines in
@@ -101,7 +101,7 @@ lines-more names config all text more line rows sum format fields p reads first 
     }
 
 pub lines-fault : (names : NameLists) (config : SegmentConfig) (all : Result (List Row) FileFault) (text more : List ℕ) (line : ℕ) (rows : List Row) (format : OrderFormat) (fields : List (List ℕ)) (fault : FileFault) → Lines names config all text line rows
-    → ReadsLine text fields more → format ≡ First → length fields ≡ length (columns_of format) → with_rows line rows (rows_of_record format names config fields) ≡ Err fault → all ≡ Err fault
+    → ReadsLine text fields more → format ≡ First → length fields ≡ length (columns_of format) → with_rows line rows (rows_of_record format names config line fields) ≡ Err fault → all ≡ Err fault
 lines-fault names config all text more line rows format fields fault p reads first count bad = next-line names config all text more line rows format fields p reads first count ∙ rw bad refl
 
 -- CSV reads on from the line feed

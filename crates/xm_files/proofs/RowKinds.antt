@@ -40,20 +40,20 @@ abbrev IsMembers : Command → Type 0
 IsMembers c = is_some (member_of c) ≡ true
 
 abbrev IsMembersRow : RecordEntry → Type 0
-IsMembersRow (One row) = is_of_member row ≡ true
+IsMembersRow (One security made) = IsMembers made
 IsMembersRow (Each c) = ⊥
 
 -- a phase row, or one for each security
 abbrev ArePhaseRows : RecordEntry → Type 0
-ArePhaseRows (One row) = is_of_member row ≡ false
+ArePhaseRows (One security made) = is_some (member_of made) ≡ false
 ArePhaseRows (Each c) = is_some (member_of c) ≡ false
 
-made-row : (security : ℕ) (made : Option Command) → IfSome made IsMembers → IfSome (made >>= (λ c. Some (One (record { security = security; command = c })))) IsMembersRow
+made-row : (security : ℕ) (made : Option Command) → IfSome made IsMembers → IfSome (made >>= (λ c. Some (One security c))) IsMembersRow
 made-row security None of = tt
 made-row security (Some c) of = of
 
 row-by : (member security : Option ℕ) (make : ℕ → ℕ → Option Command) → ((m s : ℕ) → IfSome (make m s) IsMembers)
-    → IfSome (member >>= (λ m. security >>= (λ s. make m s >>= (λ c. Some (One (record { security = s; command = c })))))) IsMembersRow
+    → IfSome (member >>= (λ m. security >>= (λ s. make m s >>= (λ c. Some (One s c))))) IsMembersRow
 row-by None security make of = tt
 row-by (Some m) None make of = tt
 row-by (Some m) (Some s) make of = made-row s (make m s) (of m s)
@@ -87,7 +87,7 @@ members-change : (tick member : ℕ) (fields : List (List ℕ)) → IfSome (chan
 members-change tick member fields = change-by member (whole_of (field column.Reference fields)) (whole_of (field column.Quantity fields)) (given_limit tick (field column.Limit fields))
 
 phase-by : (phase : Command) (security : Option ℕ) (blank each : Bool) → is_some (member_of phase) ≡ false
-    → IfSome (if blank then (if each then Some (Each phase) else option_map (λ s. One (record { security = s; command = phase })) security) else None) ArePhaseRows
+    → IfSome (if blank then (if each then Some (Each phase) else option_map (λ s. One s phase) security) else None) ArePhaseRows
 phase-by phase security false each of = tt
 phase-by phase security true true of = of
 phase-by phase None true false of = tt
@@ -133,20 +133,20 @@ abbrev pub AreOfWord : Bool → List Row → Type 0
 AreOfWord true rows = (row : Row) × (rows ≡ row ∷ []) × (is_of_member row ≡ true)
 AreOfWord false rows = list_all (λ row. not (is_of_member row)) rows ≡ true
 
-each-phase : (c : Command) (first count : ℕ) → is_some (member_of c) ≡ false → (list_all (λ row. not (is_of_member row)) (map (λ security. record { security = security; command = c }) (range_with_len first count))) ≡ true
-each-phase c first zero of = refl
-each-phase c first (suc count) of = rw of (each-phase c (first + 1) count of)
+each-phase : (line : ℕ) (c : Command) (first count : ℕ) → is_some (member_of c) ≡ false → (list_all (λ row. not (is_of_member row)) (map (λ security. record { line = line; security = security; command = c }) (range_with_len first count))) ≡ true
+each-phase line c first zero of = refl
+each-phase line c first (suc count) of = rw of (each-phase line c (first + 1) count of)
 
-rows-of : (t : Bool) (count : ℕ) (entry : RecordEntry) → IsOfWord t entry → AreOfWord t (rows_of_entry count entry)
-rows-of true count (One row) of = (row, refl, of)
-rows-of true count (Each c) of = absurd of
-rows-of false count (One row) of = rw of refl
-rows-of false count (Each c) of = each-phase c 0 count of
+rows-of : (t : Bool) (line count : ℕ) (entry : RecordEntry) → IsOfWord t entry → AreOfWord t (rows_of_entry line count entry)
+rows-of true line count (One security made) of = (record { line = line; security = security; command = made }, refl, of)
+rows-of true line count (Each c) of = absurd of
+rows-of false line count (One security made) of = rw of refl
+rows-of false line count (Each c) of = each-phase line c 0 count of
 
-rows-if : (t : Bool) (count : ℕ) (o : Option RecordEntry) → IfSome o (IsOfWord t) → IfSome (option_map (rows_of_entry count) o) (AreOfWord t)
-rows-if t count None h = tt
-rows-if t count (Some entry) h = rows-of t count entry h
+rows-if : (t : Bool) (line count : ℕ) (o : Option RecordEntry) → IfSome o (IsOfWord t) → IfSome (option_map (rows_of_entry line count) o) (AreOfWord t)
+rows-if t line count None h = tt
+rows-if t line count (Some entry) h = rows-of t line count entry h
 
-pub record-rows : (format : OrderFormat) (names : NameLists) (config : SegmentConfig) (fields : List (List ℕ)) → IfSome (rows_of_record format names config fields) (AreOfWord (names_members_command (command_in format fields)))
-record-rows format names config fields =
-    rows-if (names_members_command (command_in format fields)) (length names.securities) _ (entry-by format (word_of (command_in format fields)) names config.securities (by_column (columns_of format) fields))
+pub record-rows : (format : OrderFormat) (names : NameLists) (config : SegmentConfig) (line : ℕ) (fields : List (List ℕ)) → IfSome (rows_of_record format names config line fields) (AreOfWord (names_members_command (command_in format fields)))
+record-rows format names config line fields =
+    rows-if (names_members_command (command_in format fields)) line (length names.securities) _ (entry-by format (word_of (command_in format fields)) names config.securities (by_column (columns_of format) fields))

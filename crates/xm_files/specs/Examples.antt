@@ -39,8 +39,9 @@ change_record word reference limit quantity = word ∷ codes "BBB" ∷ reference
 abbrev pub phase_record : List ℕ → List ℕ → List (List ℕ)
 phase_record word security = word ∷ [] ∷ [] ∷ security ∷ [] ∷ [] ∷ [] ∷ [] ∷ [] ∷ [] ∷ [] ∷ [] ∷ []
 
+-- a command on a security, in the first record behind the header
 abbrev pub row_of : ℕ → Command → Row
-row_of security command = record { security = security; command = command }
+row_of security command = record { line = 2; security = security; command = command }
 
 -- the row that `order_record` stands for
 abbrev pub entered_row : ℕ → Kind → Row

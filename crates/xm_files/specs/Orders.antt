@@ -27,7 +27,7 @@ with_rows line rows (Some more) = if nat_lt max_rows (length rows + length more)
 abbrev pub with_record : NameLists → SegmentConfig → ℕ → List Row → List (List ℕ) → Result (List Row) FileFault
 with_record names config line rows fields =
     if line == 1 then (if is_header First fields then Ok rows else Err (fault_at 1 BadHeader))
-    else (if not (length fields == length (columns_of First)) then Err (fault_at line Syntax) else with_rows line rows (rows_of_record First names config fields))
+    else (if not (length fields == length (columns_of First)) then Err (fault_at line Syntax) else with_rows line rows (rows_of_record First names config line fields))
 
 -- these rows and those of the records, of which the first has this number, or the first fault
 abbrev pub rows_after : NameLists → SegmentConfig → ℕ → List Row → List (List (List ℕ)) → Result (List Row) FileFault

@@ -203,7 +203,7 @@ member_row names fields make =
     name_index names.members (field column.Member fields) >>= (λ member.
     name_index names.securities (field column.Security fields) >>= (λ security.
     make member security >>= (λ made.
-    Some (One (record { security = security; command = made })))))
+    Some (One security made))))
 
 abbrev pub enter_entry : NameLists → List SecurityConfig → List (List ℕ) → Option RecordEntry
 enter_entry names securities fields = member_row names fields (λ member security. order_command (tick_of securities security) member fields)
@@ -252,7 +252,7 @@ abbrev pub phase_entry : Command → NameLists → List (List ℕ) → Option Re
 phase_entry phase names fields =
     if are_empty phase_blank fields
     then (if bytes_eq (field column.Security fields) (codes "*") then Some (Each phase)
-    else option_map (λ security. One (record { security = security; command = phase })) (name_index names.securities (field column.Security fields)))
+    else option_map (λ security. One security phase) (name_index names.securities (field column.Security fields)))
     else None
 
 -- the command words
@@ -308,12 +308,12 @@ kind_in format text = word_of text >>= (λ kind. if has_word format kind then So
 abbrev pub record_entry : OrderFormat → NameLists → List SecurityConfig → List (List ℕ) → Option RecordEntry
 record_entry format names securities fields = entry_with (kind_in format (field column.Command fields)) names securities fields
 
--- the rows of an entry in a segment of so many securities: one, or one per security in index order
-abbrev pub rows_of_entry : ℕ → RecordEntry → List Row
-rows_of_entry count (One row) = row ∷ []
-rows_of_entry count (Each phase) = map (λ security. record { security = security; command = phase }) (range_with_len 0 count)
+-- the rows of an entry that stands in this line, in a segment of so many securities: one, or one per security in index order
+abbrev pub rows_of_entry : ℕ → ℕ → RecordEntry → List Row
+rows_of_entry line count (One security made) = record { line = line; security = security; command = made } ∷ []
+rows_of_entry line count (Each phase) = map (λ security. record { line = line; security = security; command = phase }) (range_with_len 0 count)
 
--- the rows of a record of a format, if it is lawful
-abbrev pub rows_of_record : OrderFormat → NameLists → SegmentConfig → List (List ℕ) → Option (List Row)
-rows_of_record format names config fields =
-    option_map (rows_of_entry (length names.securities)) (record_entry format names config.securities (by_column (columns_of format) fields))
+-- the rows of a record of a format, which has this number, if it is lawful
+abbrev pub rows_of_record : OrderFormat → NameLists → SegmentConfig → ℕ → List (List ℕ) → Option (List Row)
+rows_of_record format names config line fields =
+    option_map (rows_of_entry line (length names.securities)) (record_entry format names config.securities (by_column (columns_of format) fields))

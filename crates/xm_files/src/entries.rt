@@ -8,13 +8,13 @@ use crate::fields::{condition, is_word, price, restriction, side, validity, whol
 use crate::names::SegmentNames;
 use crate::records::Fields;
 use xm_rules::{Command, Kind};
-use xm_segment::{Row, SecurityConfig, SegmentConfig};
+use xm_segment::{SecurityConfig, SegmentConfig};
 use xm_ticks::TickSize;
 
-/// What a record says: one row, or a command for each security.
+/// What a record says: a command on one security, or on each.
 #[derive(Clone, Copy, PartialEq, Eq, Debug)]
 pub(crate) enum RecordEntry {
-    One(Row),
+    One(u32, Command),
     Each(Command),
 }
 
@@ -144,7 +144,7 @@ fn enter(
     let member = member(fields, names)?;
     let security = security(fields, names)?;
     let command = order(fields, member, tick(securities, security))?;
-    Some(RecordEntry::One(Row { security, command }))
+    Some(RecordEntry::One(security, command))
 }
 
 /// The tick of a security, and the finest one where the security is unknown.
@@ -260,7 +260,7 @@ fn change(
     let member = member(fields, names)?;
     let security = security(fields, names)?;
     let command = changed(fields, member, tick(securities, security))?;
-    Some(RecordEntry::One(Row { security, command }))
+    Some(RecordEntry::One(security, command))
 }
 
 /// The change that a member makes in a security with this tick.
@@ -311,10 +311,7 @@ fn cancel(fields: &Fields, names: &SegmentNames) -> Option<RecordEntry>
     let member = member(fields, names)?;
     let security = security(fields, names)?;
     let reference = whole(fields.text(Column::Reference))?;
-    Some(RecordEntry::One(Row {
-        security,
-        command: Command::Cancel { member, reference },
-    }))
+    Some(RecordEntry::One(security, Command::Cancel { member, reference }))
 }
 
 /// The cancellation of all orders of a member that a record is.
@@ -326,10 +323,7 @@ fn cancel_all(fields: &Fields, names: &SegmentNames) -> Option<RecordEntry>
     }
     let member = member(fields, names)?;
     let security = security(fields, names)?;
-    Some(RecordEntry::One(Row {
-        security,
-        command: Command::CancelAll { member },
-    }))
+    Some(RecordEntry::One(security, Command::CancelAll { member }))
 }
 
 /// The phase command that a record gives to one security, or by `*` to each.
@@ -343,5 +337,5 @@ fn phase(fields: &Fields, names: &SegmentNames, command: Command) -> Option<Reco
         return Some(RecordEntry::Each(command));
     }
     let security = security(fields, names)?;
-    Some(RecordEntry::One(Row { security, command }))
+    Some(RecordEntry::One(security, command))
 }

@@ -79,46 +79,46 @@ pub fn names()
 
 /// The rows of records that enter an order or a stop, at ticks of 50 in the first security.
 pub fn orders_entered()
-    ensures limit { rows_of_record First record_names record_settings (order_record (codes "XYZ") (codes "limit") (codes "1.005") (codes "")) ≡ Some (entered_row 0 (Limit 201) ∷ []) }
-    ensures market { rows_of_record First record_names record_settings (order_record (codes "UVW") (codes "market") (codes "") (codes "")) ≡ Some (entered_row 1 Market ∷ []) }
-    ensures stop_market { rows_of_record First record_names record_settings (order_record (codes "XYZ") (codes "stop-market") (codes "") (codes "1")) ≡ Some (entered_row 0 (StopMarket 200) ∷ []) }
-    ensures stop_limit { rows_of_record First record_names record_settings (order_record (codes "XYZ") (codes "stop-limit") (codes "1.005") (codes "1")) ≡ Some (entered_row 0 (StopLimit 200 201) ∷ []) }
-    ensures off_tick { rows_of_record First record_names record_settings (order_record (codes "XYZ") (codes "limit") (codes "1.001") (codes "")) ≡ Some (entered_row 0 (Limit 0) ∷ []) }
-    ensures unknown_security { rows_of_record First record_names record_settings (order_record (codes "ABC") (codes "limit") (codes "1.001") (codes "")) ≡ Some (entered_row 2 (Limit 10010) ∷ []) }
-    ensures no_number { rows_of_record First record_names record_settings (order_record (codes "XYZ") (codes "limit") (codes "a") (codes "")) ≡ None }
-    ensures no_limit { rows_of_record First record_names record_settings (order_record (codes "XYZ") (codes "limit") (codes "") (codes "")) ≡ None }
-    ensures trigger { rows_of_record First record_names record_settings (order_record (codes "XYZ") (codes "limit") (codes "1") (codes "1")) ≡ None }
-    ensures market_limit { rows_of_record First record_names record_settings (order_record (codes "XYZ") (codes "market") (codes "1") (codes "")) ≡ None }
-    ensures kind { rows_of_record First record_names record_settings (order_record (codes "XYZ") (codes "stop") (codes "") (codes "1")) ≡ None }
+    ensures limit { rows_of_record First record_names record_settings 2 (order_record (codes "XYZ") (codes "limit") (codes "1.005") (codes "")) ≡ Some (entered_row 0 (Limit 201) ∷ []) }
+    ensures market { rows_of_record First record_names record_settings 2 (order_record (codes "UVW") (codes "market") (codes "") (codes "")) ≡ Some (entered_row 1 Market ∷ []) }
+    ensures stop_market { rows_of_record First record_names record_settings 2 (order_record (codes "XYZ") (codes "stop-market") (codes "") (codes "1")) ≡ Some (entered_row 0 (StopMarket 200) ∷ []) }
+    ensures stop_limit { rows_of_record First record_names record_settings 2 (order_record (codes "XYZ") (codes "stop-limit") (codes "1.005") (codes "1")) ≡ Some (entered_row 0 (StopLimit 200 201) ∷ []) }
+    ensures off_tick { rows_of_record First record_names record_settings 2 (order_record (codes "XYZ") (codes "limit") (codes "1.001") (codes "")) ≡ Some (entered_row 0 (Limit 0) ∷ []) }
+    ensures unknown_security { rows_of_record First record_names record_settings 2 (order_record (codes "ABC") (codes "limit") (codes "1.001") (codes "")) ≡ Some (entered_row 2 (Limit 10010) ∷ []) }
+    ensures no_number { rows_of_record First record_names record_settings 2 (order_record (codes "XYZ") (codes "limit") (codes "a") (codes "")) ≡ None }
+    ensures no_limit { rows_of_record First record_names record_settings 2 (order_record (codes "XYZ") (codes "limit") (codes "") (codes "")) ≡ None }
+    ensures trigger { rows_of_record First record_names record_settings 2 (order_record (codes "XYZ") (codes "limit") (codes "1") (codes "1")) ≡ None }
+    ensures market_limit { rows_of_record First record_names record_settings 2 (order_record (codes "XYZ") (codes "market") (codes "1") (codes "")) ≡ None }
+    ensures kind { rows_of_record First record_names record_settings 2 (order_record (codes "XYZ") (codes "stop") (codes "") (codes "1")) ≡ None }
 {}
 
 /// The rows of records that change or cancel.
 pub fn changes_and_cancellations()
-    ensures limited { rows_of_record First record_names record_settings (change_record (codes "change") (codes "7") (codes "1") (codes "20")) ≡ Some (row_of 0 (Change 1 7 20 (Some 200)) ∷ []) }
-    ensures unlimited { rows_of_record First record_names record_settings (change_record (codes "change") (codes "7") (codes "") (codes "20")) ≡ Some (row_of 0 (Change 1 7 20 None) ∷ []) }
-    ensures no_quantity { rows_of_record First record_names record_settings (change_record (codes "change") (codes "7") (codes "1") (codes "")) ≡ None }
-    ensures cancelled { rows_of_record First record_names record_settings (change_record (codes "cancel") (codes "7") (codes "") (codes "")) ≡ Some (row_of 0 (Cancel 1 7) ∷ []) }
-    ensures too_much { rows_of_record First record_names record_settings (change_record (codes "cancel") (codes "7") (codes "") (codes "20")) ≡ None }
-    ensures all { rows_of_record First record_names record_settings (change_record (codes "cancel-all") (codes "") (codes "") (codes "")) ≡ Some (row_of 0 (CancelAll 1) ∷ []) }
-    ensures one_of_all { rows_of_record First record_names record_settings (change_record (codes "cancel-all") (codes "7") (codes "") (codes "")) ≡ None }
+    ensures limited { rows_of_record First record_names record_settings 2 (change_record (codes "change") (codes "7") (codes "1") (codes "20")) ≡ Some (row_of 0 (Change 1 7 20 (Some 200)) ∷ []) }
+    ensures unlimited { rows_of_record First record_names record_settings 2 (change_record (codes "change") (codes "7") (codes "") (codes "20")) ≡ Some (row_of 0 (Change 1 7 20 None) ∷ []) }
+    ensures no_quantity { rows_of_record First record_names record_settings 2 (change_record (codes "change") (codes "7") (codes "1") (codes "")) ≡ None }
+    ensures cancelled { rows_of_record First record_names record_settings 2 (change_record (codes "cancel") (codes "7") (codes "") (codes "")) ≡ Some (row_of 0 (Cancel 1 7) ∷ []) }
+    ensures too_much { rows_of_record First record_names record_settings 2 (change_record (codes "cancel") (codes "7") (codes "") (codes "20")) ≡ None }
+    ensures all { rows_of_record First record_names record_settings 2 (change_record (codes "cancel-all") (codes "") (codes "") (codes "")) ≡ Some (row_of 0 (CancelAll 1) ∷ []) }
+    ensures one_of_all { rows_of_record First record_names record_settings 2 (change_record (codes "cancel-all") (codes "7") (codes "") (codes "")) ≡ None }
 {}
 
 /// The rows of the phases: in one security, or one for each in index order.
 pub fn phases()
-    ensures open { rows_of_record First record_names record_settings (phase_record (codes "open") (codes "*")) ≡ Some (row_of 0 StartOpening ∷ row_of 1 StartOpening ∷ []) }
-    ensures intraday { rows_of_record First record_names record_settings (phase_record (codes "intraday") (codes "UVW")) ≡ Some (row_of 1 StartIntraday ∷ []) }
-    ensures close { rows_of_record First record_names record_settings (phase_record (codes "close") (codes "XYZ")) ≡ Some (row_of 0 StartClosing ∷ []) }
-    ensures uncross { rows_of_record First record_names record_settings (phase_record (codes "uncross") (codes "XYZ")) ≡ Some (row_of 0 Uncross ∷ []) }
-    ensures end { rows_of_record First record_names record_settings (phase_record (codes "end") (codes "ABC")) ≡ Some (row_of 2 EndDay ∷ []) }
-    ensures nowhere { rows_of_record First record_names record_settings (phase_record (codes "end") (codes "")) ≡ None }
-    ensures word { rows_of_record First record_names record_settings (phase_record (codes "begin") (codes "*")) ≡ None }
+    ensures open { rows_of_record First record_names record_settings 2 (phase_record (codes "open") (codes "*")) ≡ Some (row_of 0 StartOpening ∷ row_of 1 StartOpening ∷ []) }
+    ensures intraday { rows_of_record First record_names record_settings 2 (phase_record (codes "intraday") (codes "UVW")) ≡ Some (row_of 1 StartIntraday ∷ []) }
+    ensures close { rows_of_record First record_names record_settings 2 (phase_record (codes "close") (codes "XYZ")) ≡ Some (row_of 0 StartClosing ∷ []) }
+    ensures uncross { rows_of_record First record_names record_settings 2 (phase_record (codes "uncross") (codes "XYZ")) ≡ Some (row_of 0 Uncross ∷ []) }
+    ensures end { rows_of_record First record_names record_settings 2 (phase_record (codes "end") (codes "ABC")) ≡ Some (row_of 2 EndDay ∷ []) }
+    ensures nowhere { rows_of_record First record_names record_settings 2 (phase_record (codes "end") (codes "")) ≡ None }
+    ensures word { rows_of_record First record_names record_settings 2 (phase_record (codes "begin") (codes "*")) ≡ None }
 {}
 
 /// The first record is the header, and each other one has as many fields; a fault has the number of its record.
 pub fn numbers_of_records()
     ensures header { with_record record_names record_settings 1 [] every_title ≡ Ok [] }
     ensures no_header { with_record record_names record_settings 1 [] (phase_record (codes "open") (codes "*")) ≡ Err (record { line = 1; cause = BadHeader }) }
-    ensures more { with_record record_names record_settings 2 (row_of 0 Uncross ∷ []) (phase_record (codes "close") (codes "XYZ")) ≡ Ok (row_of 0 Uncross ∷ row_of 0 StartClosing ∷ []) }
+    ensures more { with_record record_names record_settings 3 (row_of 0 Uncross ∷ []) (phase_record (codes "close") (codes "XYZ")) ≡ Ok (row_of 0 Uncross ∷ record (row_of 0 StartClosing) { line = 3 } ∷ []) }
     ensures short { with_record record_names record_settings 3 [] (codes "open" ∷ []) ≡ Err (record { line = 3; cause = Syntax }) }
     ensures bad { with_record record_names record_settings 4 [] (phase_record (codes "begin") (codes "*")) ≡ Err (record { line = 4; cause = BadField }) }
 {}

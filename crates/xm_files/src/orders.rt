@@ -1,5 +1,5 @@
 //! The order file.
-ghost use Rattle.std.specs.Prelude.{◌≡◌, ◌≢◌, ◌==◌, ◌+◌, ◌<◌, ◌≤◌, ◌∷◌, ◌++◌, List, [], length, map, true, false, OnOk, OnErr, IfOk, IfErr, IfSome, Ok, Err, if◌then◌else◌};
+ghost use Rattle.std.specs.Prelude.{ℕ, ◌≡◌, ◌≢◌, ◌==◌, ◌+◌, ◌<◌, ◌≤◌, ◌∷◌, ◌++◌, List, [], length, map, true, false, OnOk, OnErr, IfOk, IfErr, IfSome, Ok, Err, if◌then◌else◌};
 ghost use Rattle.std.specs.Bool.{OnTrue, OnFalse};
 ghost use Rattle.std.specs.List.{list_all, range_with_len};
 ghost use Rattle.csv.specs.Reading.{default_config, records, strip_bom};
@@ -451,50 +451,68 @@ fn add_record(
     names: &SegmentNames,
     config: &SegmentConfig,
 ) -> Result<(), FileFault>
-    ensures ok { OnOk result (with_rows line (rows_so_far batch.old) (rows_of_record fields.now.format names.now config.now (record_of fields.now)) ≡ Ok (rows_so_far batch.new)) }
+    ensures ok { OnOk result (with_rows line (rows_so_far batch.old) (rows_of_record fields.now.format names.now config.now line (record_of fields.now)) ≡ Ok (rows_so_far batch.new)) }
     ensures earlier { OnOk result (batch.new.earlier ≡ batch.old.earlier) }
-    ensures err { IfErr result (λ fault. fault.cause ≢ FileCause.OutOfMemory tt → with_rows line (rows_so_far batch.old) (rows_of_record fields.now.format names.now config.now (record_of fields.now)) ≡ Err fault) }
+    ensures err { IfErr result (λ fault. fault.cause ≢ FileCause.OutOfMemory tt → with_rows line (rows_so_far batch.old) (rows_of_record fields.now.format names.now config.now line (record_of fields.now)) ≡ Err fault) }
     ensures memory { IfErr result (λ fault. OnTrue (is_from_outside fault.cause) (fault.line ≡ 0)) }
 {
     let entry = parse_entry(fields, names, config).ok_or(fault_at(line, FileCause::BadField))?;
     if MAX_ROWS - batch.total() < count_of(entry, names.securities()) as usize {
         return Err(fault_at(line, FileCause::TooManyRows));
     }
-    add_entry(batch, entry, names.securities())?;
+    add_entry(batch, line, entry, names.securities())?;
     Ok(())
 }
 
 /// How many rows an entry stands for in a segment of so many securities.
 fn count_of(entry: RecordEntry, securities: u32) -> u32
-    ensures { result ≡ length (rows_of_entry securities entry) }
+    ensures { (line : ℕ) → result ≡ length (rows_of_entry line securities entry) }
 {
     match entry {
-        RecordEntry::One(_) => 1,
+        RecordEntry::One(..) => 1,
         RecordEntry::Each(_) => securities,
     }
 }
 
-/// Adds the rows of an entry in a segment of so many securities.
-fn add_entry(batch: &mut Batch, entry: RecordEntry, securities: u32) -> Result<(), OutOfMemory>
-    requires { length (rows_so_far batch.old) + length (rows_of_entry securities entry) ≤ MAX_ROWS }
-    ensures { OnOk result (batch.new ≡ record batch.old { rows = batch.old.rows ++ rows_of_entry securities entry }) }
+/// Adds the rows of an entry that stands in this line, in a segment of so many securities.
+fn add_entry(
+    batch: &mut Batch,
+    line: u32,
+    entry: RecordEntry,
+    securities: u32,
+) -> Result<(), OutOfMemory>
+    requires { length (rows_so_far batch.old) + length (rows_of_entry line securities entry) ≤ MAX_ROWS }
+    ensures { OnOk result (batch.new ≡ record batch.old { rows = batch.old.rows ++ rows_of_entry line securities entry }) }
 {
     match entry {
-        RecordEntry::One(row) => {
-            batch.push(row)?;
+        RecordEntry::One(security, command) => {
+            batch.push(Row {
+                line,
+                security,
+                command,
+            })?;
             Ok(())
         }
-        RecordEntry::Each(command) => add_each(batch, command, securities),
+        RecordEntry::Each(command) => add_each(batch, line, command, securities),
     }
 }
 
 /// Adds one row per security.
-fn add_each(batch: &mut Batch, command: Command, securities: u32) -> Result<(), OutOfMemory>
+fn add_each(
+    batch: &mut Batch,
+    line: u32,
+    command: Command,
+    securities: u32,
+) -> Result<(), OutOfMemory>
     requires { length (rows_so_far batch.old) + securities ≤ MAX_ROWS }
-    ensures { OnOk result (batch.new ≡ record batch.old { rows = batch.old.rows ++ map (λ security. record { security = security; command = command }) (range_with_len 0 securities) }) }
+    ensures { OnOk result (batch.new ≡ record batch.old { rows = batch.old.rows ++ map (λ security. record { line = line; security = security; command = command }) (range_with_len 0 securities) }) }
 {
     for security in 0..securities {
-        batch.push(Row { security, command })?;
+        batch.push(Row {
+            line,
+            security,
+            command,
+        })?;
     }
     Ok(())
 }

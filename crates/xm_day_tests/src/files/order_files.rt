@@ -52,8 +52,9 @@ fn bytes_are(rt: &(impl Abort + AllocGlobal), orders: &[u8], expected: &[Row]) {
 
 /// A row of the first security.
 macro_rules! first {
-    ($command:expr) => {
+    ($line:expr, $command:expr) => {
         Row {
+            line: $line,
             security: 0,
             command: $command,
         }
@@ -62,8 +63,9 @@ macro_rules! first {
 
 /// A row of the second security, or of an unknown one where there is one security.
 macro_rules! second {
-    ($command:expr) => {
+    ($line:expr, $command:expr) => {
         Row {
+            line: $line,
             security: 1,
             command: $command,
         }
@@ -113,11 +115,11 @@ macro_rules! cancel {
 
 /// The rows of `ORDERS`.
 const OPENING_CALL: [Row; 5] = [
-    first!(limited!(0, 1, Buy, 1000, 10)),
-    first!(limited!(1, 1, Sell, 1010, 5)),
-    first!(Command::StartOpening),
-    first!(limited!(0, 2, Buy, 995, 7)),
-    first!(cancel!(0, 1)),
+    first!(2, limited!(0, 1, Buy, 1000, 10)),
+    first!(3, limited!(1, 1, Sell, 1010, 5)),
+    first!(4, Command::StartOpening),
+    first!(5, limited!(0, 2, Buy, 995, 7)),
+    first!(6, cancel!(0, 1)),
 ];
 
 #[test]
@@ -301,26 +303,29 @@ end,,,*,,,,,,,,
 
 /// An order of the first member in the first security.
 macro_rules! entered {
-    ($($field:tt)*) => {
-        first!(entry!(0, $($field)*))
+    ($line:expr; $($field:tt)*) => {
+        first!($line, entry!(0, $($field)*))
     };
 }
 
 /// A change of an order of the first member in the first security.
 macro_rules! changed {
-    ($reference:expr, $limit:expr) => {
-        first!(Command::Change {
-            member: 0,
-            reference: $reference,
-            quantity: 5,
-            limit: $limit,
-        })
+    ($line:expr, $reference:expr, $limit:expr) => {
+        first!(
+            $line,
+            Command::Change {
+                member: 0,
+                reference: $reference,
+                quantity: 5,
+                limit: $limit,
+            }
+        )
     };
 }
 
 const EVERY_COMMAND: [Row; 15] = [
-    entered!(1, Buy, Kind::Market, 10, Validity::Day, Free, Plain),
-    entered!(
+    entered!(2; 1, Buy, Kind::Market, 10, Validity::Day, Free, Plain),
+    entered!(3; 
         2,
         Sell,
         Kind::Limit(1000),
@@ -329,7 +334,7 @@ const EVERY_COMMAND: [Row; 15] = [
         OpeningOnly,
         Ioc
     ),
-    entered!(
+    entered!(4; 
         3,
         Buy,
         Kind::Limit(990),
@@ -338,7 +343,7 @@ const EVERY_COMMAND: [Row; 15] = [
         AuctionsOnly,
         Fok
     ),
-    entered!(
+    entered!(5; 
         4,
         Buy,
         Kind::Limit(990),
@@ -347,7 +352,7 @@ const EVERY_COMMAND: [Row; 15] = [
         ClosingOnly,
         Plain
     ),
-    entered!(
+    entered!(6; 
         5,
         Sell,
         Kind::StopMarket(990),
@@ -356,7 +361,7 @@ const EVERY_COMMAND: [Row; 15] = [
         Free,
         Plain
     ),
-    entered!(
+    entered!(7; 
         6,
         Sell,
         Kind::StopLimit {
@@ -368,7 +373,7 @@ const EVERY_COMMAND: [Row; 15] = [
         Free,
         Plain
     ),
-    entered!(
+    entered!(8; 
         7,
         Buy,
         Kind::StopLimit {
@@ -380,14 +385,14 @@ const EVERY_COMMAND: [Row; 15] = [
         Free,
         Plain
     ),
-    changed!(1, None),
-    changed!(2, Some(1001)),
-    changed!(2, Some(0)),
-    first!(Command::CancelAll { member: 0 }),
-    first!(Command::StartIntraday),
-    first!(Command::StartClosing),
-    first!(Command::Uncross),
-    first!(Command::EndDay),
+    changed!(9, 1, None),
+    changed!(10, 2, Some(1001)),
+    changed!(11, 2, Some(0)),
+    first!(12, Command::CancelAll { member: 0 }),
+    first!(13, Command::StartIntraday),
+    first!(14, Command::StartClosing),
+    first!(15, Command::Uncross),
+    first!(16, Command::EndDay),
 ];
 
 #[test]
@@ -425,13 +430,13 @@ Z\",,,,,,,,";
 
 /// The rows of `UNKNOWN_AND_BAD`.
 const REFUSED: [Row; 7] = [
-    first!(Command::StartOpening),
-    second!(limited!(2, 1, Buy, 1, u32::MAX)),
-    first!(limited!(1, 1, Sell, 0, 0)),
-    first!(limited!(1, 1, Sell, 0, 0)),
-    first!(limited!(1, 1, Sell, 0, 0)),
-    first!(limited!(1, 1, Sell, 0, 0)),
-    second!(cancel!(2, 1)),
+    first!(2, Command::StartOpening),
+    second!(3, limited!(2, 1, Buy, 1, u32::MAX)),
+    first!(4, limited!(1, 1, Sell, 0, 0)),
+    first!(5, limited!(1, 1, Sell, 0, 0)),
+    first!(6, limited!(1, 1, Sell, 0, 0)),
+    first!(7, limited!(1, 1, Sell, 0, 0)),
+    second!(8, cancel!(2, 1)),
 ];
 
 #[test]
@@ -442,13 +447,13 @@ fn unknown_names_and_bad_prices(rt: HostRuntime) {
 #[test]
 fn a_name_that_is_no_text(rt: HostRuntime) {
     let text = file_of(&rt, b"cancel,A\xffA,1,XYZ,,,,,,,,");
-    bytes_are(&rt, text.as_slice(), &[first!(cancel!(2, 1))]);
+    bytes_are(&rt, text.as_slice(), &[first!(2, cancel!(2, 1))]);
 }
 
 /// An opening of all securities, where there are two.
 const ALL: [Row; 2] = [
-    first!(Command::StartOpening),
-    second!(Command::StartOpening),
+    first!(2, Command::StartOpening),
+    second!(2, Command::StartOpening),
 ];
 
 #[test]

@@ -68,6 +68,7 @@ fn look_beside<S: Naming + Send + Sync, R: AllocGlobal + Threads + Wait + Abort 
     row: &mut WatchRow<S>,
 ) -> Option<u64> {
     let rows = [Row {
+        line: 2,
         security: 0,
         command: Command::StartOpening,
     }];

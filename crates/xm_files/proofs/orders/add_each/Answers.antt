@@ -8,7 +8,7 @@ use Rattle.xm_files.proofs.orders.add_each.Goals as goal
 
 pub push-requires : goal.push-requires
 push-requires c =
-    let row : ℕ → Row = λ security. record { security = security; command = c.args.command } in
+    let row : ℕ → Row = λ security. record { line = c.args.line; security = security; command = c.args.command } in
     let n = c.loop-security.security in
     let size = ap (λ (b : RowsRead). length (rows_so_far b)) c.loop-security.invariant in
     let more = joined-length c.args.batch.now (map row (range_with_len 0 n)) in
@@ -17,7 +17,7 @@ push-requires c =
 
 pub loop-security-preserved : goal.loop-security-preserved
 loop-security-preserved c =
-    let row : ℕ → Row = λ security. record { security = security; command = c.args.command } in
+    let row : ℕ → Row = λ security. record { line = c.args.line; security = security; command = c.args.command } in
     let old = c.args.batch.now in
     let n = c.loop-security.security in
     let rows = append_assoc old.rows (map row (range_with_len 0 n)) (row n ∷ [])

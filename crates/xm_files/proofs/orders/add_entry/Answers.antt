@@ -5,7 +5,7 @@ use Rattle.xm_files.proofs.orders.add_entry.Goals as goal
 
 pub add_each-requires : goal.add_each-requires
 add_each-requires c =
-    let row : ℕ → Row = λ security. record { security = security; command = c.in-Each.command } in
+    let row : ℕ → Row = λ security. record { line = c.args.line; security = security; command = c.in-Each.command } in
     let count = length-map-range_with_len row 0 c.args.securities in
     let few = rw c.in-Each.is at c.requires in
     omega (arith, count, few)

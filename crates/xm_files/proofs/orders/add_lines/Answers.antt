@@ -77,8 +77,8 @@ lines-preserved c =
     let onward = c.lines.invariant.onward in
     let text = ap (λ (f : OrderFormat). command_in f fields) first in
     let goes : ends_before c.args.part c.lines.batch.rows (command_in First fields) ≡ false = ap (ends_before c.args.part c.lines.batch.rows) (sym text) ∙ sym c.ends_before.ensures ∙ c.if-ends_before.false in
-    let good : with_rows c.lines.line (rows_so_far c.lines.batch) (rows_of_record First c.args.names.now c.args.config.now fields) ≡ Ok (rows_so_far c.add_record.new.batch) =
-    ap (λ (f : OrderFormat). with_rows c.lines.line (rows_so_far c.lines.batch) (rows_of_record f c.args.names.now c.args.config.now fields)) (sym first) ∙ c.in-Ok.ensures.ok in
+    let good : with_rows c.lines.line (rows_so_far c.lines.batch) (rows_of_record First c.args.names.now c.args.config.now c.lines.line fields) ≡ Ok (rows_so_far c.add_record.new.batch) =
+    ap (λ (f : OrderFormat). with_rows c.lines.line (rows_so_far c.lines.batch) (rows_of_record f c.args.names.now c.args.config.now c.lines.line fields)) (sym first) ∙ c.in-Ok.ensures.ok in
     record {
       read = lines-more c.args.names.now c.args.config.now _ (rest_of c.lines.marks) (rest_of c.read_line.new.line) c.lines.line (rows_so_far c.lines.batch) (rows_so_far c.add_record.new.batch) c.read_line.new.self.format fields c.lines.invariant.read read.ensures.line first count
           c.in-Ok.ensures.ok;

@@ -21,12 +21,12 @@ returns-clause-ok c =
     let rows = rows_so_far c.args.batch.now in
     let entry = c.in_ok-entry.entry in
     let parsed : c.parse_entry.result ≡ Some entry = search rules in
-    let more = rows_of_entry (length c.args.names.now.securities) entry in
-    let count : c.count_of.result ≡ length more = search rules in
+    let more = rows_of_entry c.args.line (length c.args.names.now.securities) entry in
+    let count : c.count_of.result ≡ length more = c.count_of.ensures c.args.line ∙ ap (λ (n : ℕ). length (rows_of_entry c.args.line n entry)) c.securities.ensures in
     let fits : length rows + length more ≤ 1000000 = omega (arith, count, c.total.ensures.total, c.total.ensures.few, c.if-total-count_of.false) in
     let old = c.args.batch.now in
     let added : rows_so_far c.add_entry.new.batch ≡ rows ++ more =
-    ap rows_so_far c.in_ok-add_entry.ensures ∙ ap (λ (n : ℕ). rows_so_far (record old { rows = old.rows ++ rows_of_entry n entry })) c.securities-2.ensures ∙ joined old more in
-    ap (λ parsed. with_rows c.args.line rows (option_map (rows_of_entry (length c.args.names.now.securities)) parsed)) (sym c.parse_entry.ensures ∙ parsed)
+    ap rows_so_far c.in_ok-add_entry.ensures ∙ ap (λ (n : ℕ). rows_so_far (record old { rows = old.rows ++ rows_of_entry c.args.line n entry })) c.securities-2.ensures ∙ joined old more in
+    ap (λ parsed. with_rows c.args.line rows (option_map (rows_of_entry c.args.line (length c.args.names.now.securities)) parsed)) (sym c.parse_entry.ensures ∙ parsed)
     ∙ rows-fit c.args.line rows more fits
     ∙ ap Ok (sym added)

@@ -5,5 +5,5 @@ use Rattle.xm_segment.specs.declared.rows.Row.{Row}
 use Rattle.std.proofs.Common.{ℕ}
 
 pub returns-in-Each : goal.returns-in-Each
-returns-in-Each c =
-    rw c.in-Each.is (sym (length-map-range_with_len (let each : ℕ → Row = λ security. record { security = security; command = c.in-Each.field-0 } in each) 0 c.args.securities))
+returns-in-Each c = λ line.
+    rw c.in-Each.is (sym (length-map-range_with_len (let each : ℕ → Row = λ security. record { line = line; security = security; command = c.in-Each.field-0 } in each) 0 c.args.securities))
