@@ -1,5 +1,5 @@
 -- The day of desks that take rows.
-use Rattle.std.proofs.Common.{◌≡◌, ℕ, ◌+◌, ◌<◌, ◌≤◌, List, [], ◌∷◌, ◌++◌, length, map, slice_get, set, get_or, take, drop, take-append-drop, suc, arith, Some, None, option_map, refl, ap, sym, subst, ◌∙◌}
+use Rattle.std.proofs.Common.{◌≡◌, ℕ, ◌+◌, ◌<◌, ◌≤◌, List, [], ◌∷◌, ◌++◌, length, map, slice_get, set, get_or, take, drop, take-append-drop, suc, arith, Some, None, Ok, Err, option_map, refl, ap, sym, subst, ◌∙◌}
 use Rattle.std.proofs.Math.Seq.{drop-cons, take-length}
 use Rattle.std.proofs.Math.ListN.{drop_of_length-le}
 use Rattle.std.proofs.lemmas.List.{append-nil, append_assoc, map-set, take_more}
@@ -7,11 +7,11 @@ use Rattle.std.proofs.lemmas.Option.{slice_get-map, slice_get_past}
 use Rattle.xm_rules.proofs.Journals.{replay-opening, replay-push}
 use Rattle.xm_rules.specs.Refusals.{refusal_of}
 use Rattle.xm_rules.specs.State.{State, opening}
-use Rattle.xm_rules.specs.Step.{Journal, replay, step}
+use Rattle.xm_rules.specs.Step.{Journal, replay, reply, step}
 use Rattle.xm_rules.specs.declared.commands.Command.{Command}
 use Rattle.xm_rules.specs.declared.replies.Refusal.{Refusal}
 use Rattle.xm_rules.specs.declared.replies.Refusal.TheVariants.{UnknownSecurity}
-use Rattle.xm_day.specs.Day.{Accepts, Day as TheDay, LacksMemoryAt, after_row, after_rows, answered, day, day_of, on_security, refusal_on, row_refusal}
+use Rattle.xm_day.specs.Day.{Accepts, Day as TheDay, LacksMemoryAt, after_row, after_rows, answer_by, answer_on, answered, day, day_of, on_security, row_answer}
 use Rattle.xm_segment.specs.Opening.{journal_of, settings_of}
 use Rattle.xm_segment.specs.declared.config.SecurityConfig.{SecurityConfig}
 use Rattle.xm_segment.specs.declared.config.SegmentConfig.{SegmentConfig}
@@ -20,12 +20,21 @@ use Rattle.xm_segment.specs.declared.rows.Row.{Row}
 abbrev pub with_command : Journal → Command → Journal
 with_command j c = record j { commands = j.commands ++ c ∷ [] }
 
--- a row of an unknown security is refused as such, and one of a known security as its desk refuses the command
-pub refuses-unknown : (js : List Journal) (row : Row) → length js ≤ row.security → row_refusal (map replay js) row ≡ Some UnknownSecurity
-refuses-unknown js row past = ap (refusal_on row) (slice_get-map replay js row.security ∙ ap (option_map replay) (slice_get_past js row.security past))
+-- a row of an unknown security is refused as such
+pub answers-unknown : (js : List Journal) (row : Row) → length js ≤ row.security → row_answer (map replay js) row ≡ Err UnknownSecurity
+answers-unknown js row past = ap (answer_on row) (slice_get-map replay js row.security ∙ ap (option_map replay) (slice_get_past js row.security past))
 
-pub refuses-known : (js : List Journal) (row : Row) (j : Journal) → slice_get js row.security ≡ Some j → row_refusal (map replay js) row ≡ refusal_of (replay j) row.command
-refuses-known js row j is = ap (refusal_on row) (slice_get-map replay js row.security ∙ ap (option_map replay) is)
+-- one of a known security is answered as its desk answers the command
+answers-known : (js : List Journal) (row : Row) (j : Journal) → slice_get js row.security ≡ Some j → row_answer (map replay js) row ≡ answer_by (replay j) row.command (refusal_of (replay j) row.command)
+answers-known js row j is = ap (answer_on row) (slice_get-map replay js row.security ∙ ap (option_map replay) is)
+
+pub answers-accepted : (js : List Journal) (row : Row) (j next : Journal) → slice_get js row.security ≡ Some j → refusal_of (replay j) row.command ≡ None → next ≡ with_command j row.command
+    → row_answer (map replay js) row ≡ Ok (reply (replay j) (replay next))
+answers-accepted js row j next is passes journal =
+    answers-known js row j is ∙ ap (answer_by (replay j) row.command) passes ∙ ap (λ (t : State). Ok (reply (replay j) t)) (sym (ap replay journal ∙ replay-push j row.command))
+
+pub answers-refused : (js : List Journal) (row : Row) (j : Journal) (refusal : Refusal) → slice_get js row.security ≡ Some j → refusal_of (replay j) row.command ≡ Some refusal → row_answer (map replay js) row ≡ Err refusal
+answers-refused js row j refusal is refuses = answers-known js row j is ∙ ap (answer_by (replay j) row.command) refuses
 
 pub on_unknown : (js : List Journal) (row : Row) (a r : ℕ) → length js ≤ row.security → after_row (day_of js a r) row ≡ day_of js a (r + 1)
 on_unknown js row a r past =

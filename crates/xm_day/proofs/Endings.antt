@@ -1,11 +1,11 @@
 -- How a run of a day ends.
-use Rattle.std.proofs.Common.{◌≡◌, refl, ℕ, ◌≤◌, nat_lt, false, List, [], length, Option, None, Some, Result, Ok, Err, IfSome, sym, subst}
+use Rattle.std.proofs.Common.{◌≡◌, refl, ℕ, ◌≤◌, nat_lt, Bool, false, List, [], length, Option, None, Some, Result, Ok, Err, IfSome, sym, subst}
 use Rattle.std.specs.Result.{IsErrAnd}
 use Rattle.std.proofs.lemmas.Bool.{le-ltb}
-use Rattle.xm_day.specs.Answers.{AreRowsOf, DesksEnd, HasTaken, InFileOrder, IsSegmentOf, OrdersEnd, RowsRun, WritesPart}
+use Rattle.xm_day.specs.Answers.{AreRowsOf, DesksEnd, HasTaken, InFileOrder, IsSegmentOf, OrdersEnd, WritesPart}
 use Rattle.xm_day.specs.Checks.{CheckEnds, OpeningEnds}
 use Rattle.xm_day.specs.declared.desks.OpenDay.{OpenDay}
-use Rattle.xm_files.specs.Batches.{RowsLeft, rows_from, text_left}
+use Rattle.xm_files.specs.Batches.{rows_from, text_left}
 use Rattle.xm_files.specs.Orders.{orders_of}
 use Rattle.xm_files.specs.declared.file_faults.FileFault.{FileFault}
 use Rattle.xm_day.specs.Day.{Day, LacksMemoryAt, opening_day}
@@ -29,22 +29,19 @@ OrdersEnd-of_writing days config names rows orders old new (Orders fault) read s
 OrdersEnd-of_writing days config names rows orders old new (Open fault) read sound is failed = absurd is
 
 -- want of memory is told as such
-pub if_memory : (config : SegmentConfig) (rows : List Row) (result : Result OpenDay DayFault) → IsErrAnd result (λ fault. fault ≡ OutOfMemory tt) → segment_fault config ≡ None → LacksMemoryAt (opening_day config) rows → HasTaken config rows result
-if_memory config rows (Ok d) is sound lacks = absurd is
-if_memory config rows (Err fault) is sound lacks = subst (λ (f : DayFault). HasTaken config rows (Err f)) (sym is) (sound, lacks)
+pub if_memory : (asked : Bool) (names : NameLists) (config : SegmentConfig) (rows : List Row) (result : Result OpenDay DayFault) → IsErrAnd result (λ fault. fault ≡ OutOfMemory tt) → segment_fault config ≡ None
+    → (asked ≡ false → LacksMemoryAt (opening_day config) rows) → HasTaken asked names config rows result
+if_memory asked names config rows (Ok d) is sound lacks = absurd is
+if_memory asked names config rows (Err fault) is sound lacks = subst (λ (f : DayFault). HasTaken asked names config rows (Err f)) (sym is) (sound, lacks)
 
 -- the desks that took the rows in their order are those of their one day
-taken-ends : (config : SegmentConfig) (rows : List Row) (result : Result OpenDay DayFault) → HasTaken config rows result → DesksEnd InFileOrder config rows result
-taken-ends config rows (Ok d) has = (has.0, has.1, has.2)
-taken-ends config rows (Err (Open fault)) has = has
-taken-ends config rows (Err (OutOfMemory _)) has = has.0
-taken-ends config rows (Err WriteFailed) has = absurd has
-taken-ends config rows (Err (Segment fault)) has = absurd has
-taken-ends config rows (Err (Orders fault)) has = absurd has
-
-pub RowsRun-in_order : (config : SegmentConfig) (names : NameLists) (file : RowsLeft) (result : Result (Result OpenDay DayFault) FileFault) → RowsRun HasTaken config names file result → RowsRun (DesksEnd InFileOrder) config names file result
-RowsRun-in_order config names file (Ok day) read = (read.0, read.1, taken-ends config read.0 day read.2)
-RowsRun-in_order config names file (Err fault) read = read
+pub taken-ends : (asked : Bool) (names : NameLists) (config : SegmentConfig) (rows : List Row) (result : Result OpenDay DayFault) → HasTaken asked names config rows result → DesksEnd InFileOrder config rows result
+taken-ends asked names config rows (Ok d) has = (has.sound, has.each, has.day_is)
+taken-ends asked names config rows (Err (Open fault)) has = has
+taken-ends asked names config rows (Err (OutOfMemory _)) has = has.0
+taken-ends asked names config rows (Err WriteFailed) has = absurd has
+taken-ends asked names config rows (Err (Segment fault)) has = absurd has
+taken-ends asked names config rows (Err (Orders fault)) has = absurd has
 
 -- what the bytes of an order file give
 pub orders-read : (names : NameLists) (config : SegmentConfig) (file : Option (List ℕ)) (read : List ℕ) (rows : Result (List Row) FileFault) → IfSome file (λ bytes. read ≡ bytes) → length read ≤ 16777216

@@ -10,3 +10,4 @@ mod Chains
 mod RoundRows
 mod Stands
 mod Worked
+mod Tells

@@ -1,10 +1,12 @@
 -- The day of a segment: its rows taken one after another.
-use Rattle.std.specs.Prelude.{◌≡◌, ℕ, ◌+◌, List, [], ◌∷◌, ◌++◌, map, slice_get, slice_set, Option, Some, None}
+use Rattle.std.specs.Prelude.{◌≡◌, ℕ, ◌+◌, List, [], ◌∷◌, ◌++◌, map, slice_get, slice_set, Option, Some, None, Result, Ok, Err}
 use Rattle.xm_rules.specs.Refusals.{refusal_of}
 use Rattle.xm_rules.specs.State.{State, opening}
-use Rattle.xm_rules.specs.Step.{Journal, replay, step}
+use Rattle.xm_rules.specs.Step.{Journal, replay, reply, step}
+use Rattle.xm_rules.specs.declared.commands.Command.{Command}
 use Rattle.xm_rules.specs.declared.replies.Refusal.{Refusal}
 use Rattle.xm_rules.specs.declared.replies.Refusal.TheVariants.{UnknownSecurity}
+use Rattle.xm_rules.specs.declared.replies.Reply.{Reply}
 use Rattle.xm_segment.specs.Opening.{settings_of}
 use Rattle.xm_segment.specs.declared.config.SecurityConfig.{SecurityConfig}
 use Rattle.xm_segment.specs.declared.config.SegmentConfig.{SegmentConfig}
@@ -36,18 +38,23 @@ abbrev pub after_rows : Day → List Row → Day
 after_rows d [] = d
 after_rows d (row ∷ rows) = after_rows (after_row d row) rows
 
-abbrev pub refusal_on : Row → Option State → Option Refusal
-refusal_on row None = Some UnknownSecurity
-refusal_on row (Some s) = refusal_of s row.command
+-- what a state answers to a command that it refuses for this reason, if it does: else the reply to its step
+abbrev pub answer_by : State → Command → Option Refusal → Result Reply Refusal
+answer_by s command None = Ok (reply s (step s command))
+answer_by s command (Some refusal) = Err refusal
 
--- why these securities refuse a row, if they do
-abbrev pub row_refusal : List State → Row → Option Refusal
-row_refusal states row = refusal_on row (slice_get states row.security)
+abbrev pub answer_on : Row → Option State → Result Reply Refusal
+answer_on row None = Err UnknownSecurity
+answer_on row (Some s) = answer_by s row.command (refusal_of s row.command)
 
--- the day with one row more counted, which met this refusal, if any
-abbrev pub counted : Day → Option Refusal → Day
-counted d None = record d { accepted = d.accepted + 1 }
-counted d (Some refusal) = record d { refused = d.refused + 1 }
+-- what these securities answer to a row
+abbrev pub row_answer : List State → Row → Result Reply Refusal
+row_answer states row = answer_on row (slice_get states row.security)
+
+-- the day with one row more counted, which was answered so
+abbrev pub counted : Day → Result Reply Refusal → Day
+counted d (Ok reply) = record d { accepted = d.accepted + 1 }
+counted d (Err refusal) = record d { refused = d.refused + 1 }
 
 -- the day would accept the row: its security is known, and nothing refuses its command
 pub record Accepts (d : Day) (row : Row) : Type 0 where

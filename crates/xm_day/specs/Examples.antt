@@ -1,12 +1,12 @@
 -- The worked example of a day: three buys below one another, two stops, and a sell that reaches both.
-use Rattle.std.specs.Prelude.{codes, ℕ, ◌+◌, List, [], ◌∷◌, ◌++◌, map, replicate}
+use Rattle.std.specs.Prelude.{codes, ℕ, ◌+◌, List, [], ◌∷◌, ◌++◌, replicate}
 use Rattle.xm_rules.specs.Examples.{enter, order, trade}
 use Rattle.xm_rules.specs.State.{State}
 use Rattle.xm_rules.specs.declared.commands.Command.{Command}
 use Rattle.xm_rules.specs.declared.commands.Command.TheVariants.{Cancel, EndDay, Enter, StartClosing, StartOpening, Uncross}
 use Rattle.xm_rules.specs.declared.commands.Condition.TheVariants.{Plain}
 use Rattle.xm_rules.specs.declared.commands.Kind.TheVariants as kind
-use Rattle.xm_rules.specs.declared.orders.OrderKind.TheVariants.{Limit}
+use Rattle.xm_rules.specs.declared.orders.OrderKind.TheVariants.{Limit, Market}
 use Rattle.xm_rules.specs.declared.orders.Restriction.{Restriction}
 use Rattle.xm_rules.specs.declared.orders.Restriction.TheVariants.{Free, OpeningOnly, AuctionsOnly, ClosingOnly}
 use Rattle.xm_rules.specs.declared.orders.Side.TheVariants.{Buy, Sell}
@@ -18,7 +18,10 @@ use Rattle.xm_rules.specs.declared.phases.Auction.TheVariants as auction
 use Rattle.xm_rules.specs.declared.phases.CallStage.TheVariants.{Ordinary, Interrupted, Extended}
 use Rattle.xm_rules.specs.declared.phases.Phase.{Phase}
 use Rattle.xm_rules.specs.declared.phases.Phase.TheVariants.{PreTrading, Call, Continuous, PostTrading, Ended}
+use Rattle.xm_rules.specs.declared.replies.Refusal.{Refusal}
+use Rattle.xm_rules.specs.declared.replies.Refusal.TheVariants as refused
 use Rattle.xm_segment.specs.Opening.{settings_of}
+use Rattle.xm_day.specs.RowAnswers.{answers_header}
 use Rattle.xm_files.specs.Names.{NameLists}
 use Rattle.xm_segment.specs.declared.config.SecurityConfig.{SecurityConfig}
 use Rattle.xm_segment.specs.declared.config.SegmentConfig.{SegmentConfig}
@@ -70,6 +73,44 @@ cascade_text =
     ++ codes "TRADE 5 continuous 9.8500 25 AAA 3 BBB 1\n" ++ codes "TRADE 6 continuous 9.8500 5 AAA 3 BBB 2\n"
     ++ codes "ORDER BBB 2 sell 9.8500 5 gtc free\n" ++ codes "NET AAA 60 -593.5000\n" ++ codes "NET BBB -60 593.5000\n"
     ++ codes "TOTAL 60 593.5000\n" ++ codes "MEMBER AAA -593.5000\n" ++ codes "MEMBER BBB 593.5000\n" ++ codes "ROWS 11 1\n"
+
+-- the answers to the rows of that day
+abbrev pub cascade_answers : List ℕ
+cascade_answers =
+    answers_header
+    ++ codes "2,XYZ,accepted,1,opening-call,0,0,0,0.0000,,,,,,10.0000,10.0000,,\n"
+    ++ codes "3,XYZ,accepted,2,continuous,0,0,0,0.0000,,,,,,10.0000,10.0000,,\n"
+    ++ codes "4,XYZ,accepted,3,continuous,0,0,0,0.0000,10,10.0000,10,,,10.0000,10.0000,,\n"
+    ++ codes "5,XYZ,accepted,4,continuous,0,0,0,0.0000,20,10.0000,10,,,10.0000,10.0000,,\n"
+    ++ codes "6,XYZ,accepted,5,continuous,0,0,0,0.0000,30,10.0000,10,,,10.0000,10.0000,,\n"
+    ++ codes "7,XYZ,accepted,6,continuous,0,0,0,0.0000,25,10.0000,10,,,10.0000,10.0000,,\n"
+    ++ codes "8,XYZ,accepted,7,continuous,0,0,0,0.0000,10,10.0000,10,,,10.0000,10.0000,,\n"
+    ++ codes "9,XYZ,accepted,8,continuous,0,4,60,593.5000,0,,,9.8500,5,9.8500,10.0000,,\n"
+    ++ codes "10,XYZ,unknown-order,,,,,,,,,,9.8500,5,9.8500,10.0000,,\n"
+    ++ codes "11,XYZ,accepted,9,closing-call,4,0,0,0.0000,,,,9.8500,5,9.8500,10.0000,,\n"
+    ++ codes "12,XYZ,accepted,10,post-trading,4,0,0,0.0000,,,,,,9.8500,10.0000,,\n"
+    ++ codes "13,XYZ,accepted,11,ended,4,0,0,0.0000,,,,,,9.8500,10.0000,,\n"
+
+-- two sells at one limit, of which one is for auctions alone, and a market buy for the closing auction alone
+abbrev pub restricted_state : Phase → State
+restricted_state phase = record cascade_state {
+  phase = phase;
+  orders =
+      order 1 2 Sell (Limit 985) 5 ∷ record (order 1 3 Sell (Limit 985) 7) { restriction = AuctionsOnly }
+      ∷ record (order 0 9 Buy Market 3) { restriction = ClosingOnly } ∷ [];
+}
+
+-- all refusals by rules, and their words
+abbrev pub every_refusal : List Refusal
+every_refusal =
+    refused.UnknownSecurity ∷ refused.UnknownMember ∷ refused.DayEnded ∷ refused.BadQuantity ∷ refused.BadPrice ∷ refused.BadValidity ∷ refused.BadCombination
+    ∷ refused.WrongPhase ∷ refused.DuplicateReference ∷ refused.UnknownOrder ∷ refused.NotChangeable ∷ refused.TriggerReached ∷ refused.JournalFull ∷ []
+
+abbrev pub every_refusal_word : List (List ℕ)
+every_refusal_word =
+    codes "unknown-security" ∷ codes "unknown-member" ∷ codes "day-ended" ∷ codes "bad-quantity" ∷ codes "bad-price" ∷ codes "bad-validity"
+    ∷ codes "bad-combination" ∷ codes "wrong-phase" ∷ codes "duplicate-reference" ∷ codes "unknown-order" ∷ codes "not-changeable"
+    ∷ codes "trigger-reached" ∷ codes "journal-full" ∷ []
 
 -- all phases, and their words
 abbrev pub every_phase : List Phase

@@ -1,11 +1,11 @@
 //! The day of a segment, from its files to its statement.
-ghost use Rattle.std.specs.Prelude.{◌≡◌, ◌≢◌, ◌≤◌, IfErr, length};
-ghost use Rattle.xm_day.specs.Answers.{DayEnds, InFileOrder, OrdersEnd};
+ghost use Rattle.std.specs.Prelude.{◌≡◌, ◌≢◌, ◌≤◌, IfErr, IfOk, length, true};
+ghost use Rattle.xm_day.specs.Answers.{AreAnswers, AreAnswersOf, DayEnds, InFileOrder, OrdersEnd, report_in};
 ghost use Rattle.xm_day.specs.Workers.{IsShared};
 ghost use Rattle.xm_segment.specs.declared.opening.TheConstants.{MAX_WORKERS};
 
 use crate::faults::DayFault;
-use crate::report::DayReport;
+use crate::report::{AnsweredDay, DayReport};
 use crate::runs::run_rows;
 use crate::shared_day::run_shared;
 use crate::statements::statement;
@@ -35,16 +35,41 @@ pub fn run_orders<R: io::Read, W: io::Write>(
     ensures ends { OrdersEnd InFileOrder config.now names.now (R.remaining orders.old) (W.contents out.old) (W.contents out.new) result }
     ensures untouched { IfErr result (λ fault. fault ≢ DayFault.WriteFailed → out.new ≡ out.old) }
 {
+    match tell_orders(storage, config, names, orders, out, false) {
+        Ok(day) => Ok(day.report),
+        Err(fault) => Err(fault),
+    }
+}
+
+/// Runs the day of a segment whose file is read, as `run_orders` does. The answers to its rows are
+/// told, if they are asked for.
+fn tell_orders<R: io::Read, W: io::Write>(
+    storage: Storage<Global>,
+    config: &SegmentConfig,
+    names: &SegmentNames,
+    orders: &mut R,
+    out: &mut W,
+    asked: bool,
+) -> Result<AnsweredDay, DayFault>
+    requires securities { length names.now.securities ≡ length config.now.securities }
+    requires members { length names.now.members ≡ config.now.members }
+    ensures ends { OrdersEnd InFileOrder config.now names.now (R.remaining orders.old) (W.contents out.old) (W.contents out.new) (report_in result) }
+    ensures answers { IfOk result (λ day. asked ≡ true → AreAnswersOf (R.remaining orders.old) config.now names.now day.answers.items) }
+    ensures untouched { IfErr result (λ fault. fault ≢ DayFault.WriteFailed → out.new ≡ out.old) }
+{
     let bytes = match read_orders(storage.alloc, orders) {
         Ok(bytes) => bytes,
         Err(fault) => return Err(DayFault::Orders(fault)),
     };
-    let day = match run_rows(storage, config, names, bytes) {
+    let day = match run_rows(storage, config, names, bytes, asked) {
         Ok(day) => day?,
         Err(fault) => return Err(DayFault::Orders(fault)),
     };
     statement(storage.alloc, day.desks.as_slice(), names, &day.report, out)?;
-    Ok(day.report)
+    Ok(AnsweredDay {
+        report: day.report,
+        answers: day.answers.into_text(storage.alloc),
+    })
 }
 
 /// Runs the day of a segment file and an order file: reads both, takes the rows on the calling
@@ -61,11 +86,47 @@ pub fn run_alone<S: io::Read, R: io::Read, W: io::Write>(
     ensures ends { DayEnds InFileOrder (S.remaining segment.old) (R.remaining orders.old) (W.contents out.old) (W.contents out.new) result }
     ensures untouched { IfErr result (λ fault. fault ≢ DayFault.WriteFailed → out.new ≡ out.old) }
 {
+    match tell_files(storage, segment, orders, out, false) {
+        Ok(day) => Ok(day.report),
+        Err(fault) => Err(fault),
+    }
+}
+
+/// Runs the day of a segment file and an order file as `run_alone` does, and gives the text of the answers to its rows, a CSV
+/// file: of each row the answer, and the market after it.
+///
+/// The faults are those of `run_alone`, in their order.
+pub fn run_answered<S: io::Read, R: io::Read, W: io::Write>(
+    storage: Storage<Global>,
+    segment: &mut S,
+    orders: &mut R,
+    out: &mut W,
+) -> Result<AnsweredDay, DayFault>
+    ensures ends { DayEnds InFileOrder (S.remaining segment.old) (R.remaining orders.old) (W.contents out.old) (W.contents out.new) (report_in result) }
+    ensures answers { IfOk result (λ day. AreAnswers (S.remaining segment.old) (R.remaining orders.old) day.answers.items) }
+    ensures untouched { IfErr result (λ fault. fault ≢ DayFault.WriteFailed → out.new ≡ out.old) }
+{
+    tell_files(storage, segment, orders, out, true)
+}
+
+/// Runs the day of a segment file and an order file, as `run_alone` does. The answers to its rows are
+/// told, if they are asked for.
+fn tell_files<S: io::Read, R: io::Read, W: io::Write>(
+    storage: Storage<Global>,
+    segment: &mut S,
+    orders: &mut R,
+    out: &mut W,
+    asked: bool,
+) -> Result<AnsweredDay, DayFault>
+    ensures ends { DayEnds InFileOrder (S.remaining segment.old) (R.remaining orders.old) (W.contents out.old) (W.contents out.new) (report_in result) }
+    ensures answers { IfOk result (λ day. asked ≡ true → AreAnswers (S.remaining segment.old) (R.remaining orders.old) day.answers.items) }
+    ensures untouched { IfErr result (λ fault. fault ≢ DayFault.WriteFailed → out.new ≡ out.old) }
+{
     let (config, names) = match read_segment(storage.alloc, segment) {
         Ok(segment) => segment,
         Err(fault) => return Err(DayFault::Segment(fault)),
     };
-    run_orders(storage, &config, &names, orders, out)
+    tell_orders(storage, &config, &names, orders, out, asked)
 }
 
 /// Runs the day of a segment file and an order file with so many workers. One takes the rows as `run_alone` does.

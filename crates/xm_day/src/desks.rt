@@ -1,88 +1,116 @@
 //! The rows that the desks of a segment take.
-ghost use Rattle.std.specs.Prelude.{ℕ, ◌≡◌, ◌≢◌, ◌+◌, ◌<◌, ◌^◌, ◌++◌, List, [], All, Err, IfErr, IfOk, None, OnErr, OnOk, Some, false, length, map, true};
+ghost use Rattle.std.specs.Prelude.{ℕ, Bool, ◌≡◌, ◌≢◌, ◌+◌, ◌<◌, ◌^◌, ◌++◌, List, [], All, Err, IfErr, IfOk, None, OnErr, OnOk, Some, false, length, map, true};
 ghost use Rattle.xm_day.specs.Answers.{HasTaken};
-ghost use Rattle.xm_day.specs.Day.{Accepts, LacksMemoryAt, after_row, after_rows, counted, day_of, row_refusal};
+ghost use Rattle.xm_day.specs.Day.{Accepts, LacksMemoryAt, after_row, after_rows, counted, day_of, row_answer};
+ghost use Rattle.xm_day.specs.RowAnswers.{answers_of, with_text};
+ghost use Rattle.xm_files.specs.Names.{NameLists};
 ghost use Rattle.xm_rules.specs.Step.{replay};
 ghost use Rattle.xm_segment.specs.declared.config.SegmentConfig.{SegmentConfig};
 ghost use Rattle.xm_segment.specs.declared.rows.Row.{Row};
 
+use crate::answers::Answers;
 use crate::faults::DayFault;
 use crate::report::DayReport;
 use std::alloc::{Allocator, Global};
 use xm_desk::Desk;
+use xm_files::SegmentNames;
 use xm_memory::OutOfMemory;
 use xm_names::Storage;
-use xm_rules::Refusal;
+use xm_rules::{Refusal, Reply};
 use xm_segment::{Row, SegmentConfig, open_desks};
 
-/// The desks of a segment, and how many rows they accepted and refused.
+/// The desks of a segment, how many rows they accepted and refused, and what is told of these rows.
 #[derive(Drop)]
 pub(crate) struct OpenDay {
     pub(crate) desks: Vec<Desk<Global>>,
     pub(crate) report: DayReport,
+    pub(crate) answers: Answers,
 }
 
-/// Opens the desks of a segment for its day.
+/// Opens the desks of a segment for its day, of which answers are told if they are asked for.
 pub(crate) fn open_day(
     storage: Storage<Global>,
     config: &SegmentConfig,
+    asked: bool,
 ) -> Result<OpenDay, DayFault>
-    ensures { HasTaken config.now [] result }
+    ensures { (names : NameLists) → HasTaken asked names config.now [] result }
 {
     let desks = open_desks(storage, config)?;
+    let answers = Answers::of(storage.alloc, asked)?;
     let report = DayReport {
         accepted: 0,
         refused: 0,
     };
-    Ok(OpenDay { desks, report })
+    Ok(OpenDay {
+        desks,
+        report,
+        answers,
+    })
 }
 
 /// Takes more rows, where nothing went wrong before.
-pub(crate) fn take_more(day: Result<OpenDay, DayFault>, rows: &[Row]) -> Result<OpenDay, DayFault>
+pub(crate) fn take_more(
+    day: Result<OpenDay, DayFault>,
+    names: &SegmentNames,
+    rows: &[Row],
+) -> Result<OpenDay, DayFault>
     requires room { IfOk day (λ d. d.report.accepted + d.report.refused + length rows.now < 2 ^ 64) }
-    ensures { (config : SegmentConfig) (taken : List Row) → HasTaken config taken day → HasTaken config (taken ++ rows.now) result }
+    ensures { (asked : Bool) (config : SegmentConfig) (taken : List Row) → HasTaken asked names.now config taken day → HasTaken asked names.now config (taken ++ rows.now) result }
 {
-    let OpenDay { mut desks, report } = day?;
-    let report = take_rows(desks.as_mut_slice(), rows, report)?;
-    Ok(OpenDay { desks, report })
+    let OpenDay {
+        mut desks,
+        report,
+        mut answers,
+    } = day?;
+    let report = take_rows(desks.as_mut_slice(), names, rows, report, &mut answers)?;
+    Ok(OpenDay {
+        desks,
+        report,
+        answers,
+    })
 }
 
-/// Takes rows in their order, and counts which were accepted and refused. `OutOfMemory` comes only
-/// at a row that nothing else refuses.
+/// Takes rows in their order, counts which were accepted and refused, and tells the answers. `OutOfMemory` comes only where
+/// answers are asked for, or at a row that nothing else refuses.
 fn take_rows<A: Allocator + Copy>(
     desks: &mut [Desk<A>],
+    names: &SegmentNames,
     rows: &[Row],
     before: DayReport,
+    answers: &mut Answers,
 ) -> Result<DayReport, OutOfMemory>
     requires room { before.accepted + before.refused + length rows.now < 2 ^ 64 }
     ensures taken { IfOk result (λ report. day_of desks.new report.accepted report.refused ≡ after_rows (day_of desks.old before.accepted before.refused) rows.now) }
     ensures counted { IfOk result (λ report. report.accepted + report.refused ≡ before.accepted + before.refused + length rows.now) }
-    ensures memory { OnErr result (LacksMemoryAt (day_of desks.old before.accepted before.refused) rows.now) }
+    ensures told { OnOk result (answers.new ≡ with_text (answers_of names.now (day_of desks.old before.accepted before.refused) rows.now) answers.old) }
+    ensures memory { OnErr result (answers.old ≡ None → LacksMemoryAt (day_of desks.old before.accepted before.refused) rows.now) }
 {
     let mut report = before;
     for row in rows {
-        report = report.counted(take_row(desks, row)?);
+        let answer = take_row(desks, row)?;
+        answers.tell(names, desks, row, &answer)?;
+        report = report.counted(&answer);
     }
     Ok(report)
 }
 
-/// Takes a row, and answers why it is refused, if it is. `OutOfMemory` comes only where nothing else refuses it.
+/// Takes a row, and gives the answer of its security. `OutOfMemory` comes only where nothing else refuses it.
 #[inline(always)]
 fn take_row<A: Allocator + Copy>(
     desks: &mut [Desk<A>],
     row: &Row,
-) -> Result<Option<Refusal>, OutOfMemory>
-    ensures refusal { IfOk result (λ refusal. refusal ≡ row_refusal (map replay desks.old) row.now) }
-    ensures taken { IfOk result (λ refusal. (accepted refused : ℕ) → after_row (day_of desks.old accepted refused) row.now ≡ counted (day_of desks.new accepted refused) refusal) }
+) -> Result<Result<Reply, Refusal>, OutOfMemory>
+    ensures answer { IfOk result (λ answer. answer ≡ row_answer (map replay desks.old) row.now) }
+    ensures taken { IfOk result (λ answer. (accepted refused : ℕ) → after_row (day_of desks.old accepted refused) row.now ≡ counted (day_of desks.new accepted refused) answer) }
     ensures memory { OnErr result ((accepted refused : ℕ) → Accepts (day_of desks.old accepted refused) row.now) }
 {
     let index = row.security as usize;
     if index >= desks.len() {
-        return Ok(Some(Refusal::UnknownSecurity));
+        return Ok(Err(Refusal::UnknownSecurity));
     }
     match desks[index].apply(&row.command) {
-        Ok(_) => Ok(None),
-        Err(refusal) => Ok(Some(by_rule(refusal)?)),
+        Ok(reply) => Ok(Ok(reply)),
+        Err(refusal) => Ok(Err(by_rule(refusal)?)),
     }
 }
 

@@ -5,7 +5,8 @@ ghost use Rattle.std.specs.Prelude.{◌≡◌, codes, map, negsuc, pos, None, So
 ghost use Rattle.xm_day.specs.Checks.{check_line};
 ghost use Rattle.xm_day.specs.Day.{day, opening_day};
 ghost use Rattle.xm_segment.specs.Opening.{segment_fault};
-ghost use Rattle.xm_day.specs.Examples.{broad_security, cascade_rows, cascade_state, cascade_text, every_phase, every_phase_word, every_restriction, every_restriction_word, every_trade_kind, every_trade_word, every_validity, every_validity_text, example_config, example_names, open_row, penny_state, sized_config};
+ghost use Rattle.xm_day.specs.Examples.{broad_security, cascade_answers, cascade_rows, cascade_state, cascade_text, every_phase, every_phase_word, every_refusal, every_refusal_word, every_restriction, every_restriction_word, every_trade_kind, every_trade_word, every_validity, every_validity_text, example_config, example_names, open_row, penny_state, restricted_state, sized_config};
+ghost use Rattle.xm_day.specs.RowAnswers.{answers_of, answers_text, market_fields, priced_fields, refusal_word};
 ghost use Rattle.xm_day.specs.Statement.{day_line, limit_text, member_line, phase_word, restriction_word, side_word, statement, stop_line, total_cash, trade_word, validity_text};
 ghost use Rattle.xm_day.specs.Workers.{rows_of};
 ghost use Rattle.xm_desk.specs.declared.opening.OpenFault.TheVariants.{BadWidths, NoSecurity, TooMany};
@@ -13,6 +14,9 @@ ghost use Rattle.xm_files.specs.Examples.{round_rows, row_of};
 ghost use Rattle.xm_rules.specs.Examples.{stop};
 ghost use Rattle.xm_rules.specs.declared.commands.Command.TheVariants.{Cancel, CancelAll, StartClosing, StartOpening, Uncross};
 ghost use Rattle.xm_rules.specs.declared.orders.OrderKind.TheVariants.{Limit, Market};
+ghost use Rattle.xm_rules.specs.declared.phases.Auction.TheVariants.{Closing, Opening};
+ghost use Rattle.xm_rules.specs.declared.phases.CallStage.TheVariants.{Ordinary};
+ghost use Rattle.xm_rules.specs.declared.phases.Phase.TheVariants.{Call, Continuous};
 ghost use Rattle.xm_rules.specs.declared.orders.Side.TheVariants.{Buy, Sell};
 
 /// The rows of `examples/cascade.orders.csv` lead to this state, of which eleven are accepted.
@@ -23,6 +27,26 @@ pub fn cascade_day()
 /// The statement of that day is `examples/cascade.statement`.
 pub fn cascade_statement()
     ensures { statement example_names (cascade_state ∷ []) 11 1 ≡ cascade_text }
+{}
+
+/// The answers to the rows of that day are `examples/cascade.answers.csv`.
+pub fn cascade_answers()
+    ensures { answers_text example_names example_config cascade_rows ≡ cascade_answers }
+{}
+
+/// The answer to a row of an unknown security, and to one that a call takes.
+pub fn answers_to_rows()
+    ensures unknown { answers_of example_names (opening_day example_config) (open_row 7 ∷ []) ≡ codes "2,,unknown-security,,,,,,,,,,,,,,,\n" }
+    ensures words { map refusal_word every_refusal ≡ every_refusal_word }
+    ensures priced { priced_fields 50 (Some (201, 7)) ≡ codes "1.0050,7" }
+    ensures unpriced { priced_fields 50 None ≡ codes "," }
+{}
+
+/// The market that is told of a state: a level has the rests of active orders alone, and a call its price.
+pub fn markets()
+    ensures continuous { market_fields (restricted_state Continuous) ≡ codes ",,9.8500,5,9.8500,10.0000,," }
+    ensures opening { market_fields (restricted_state (Call Opening Ordinary)) ≡ codes ",,9.8500,12,9.8500,10.0000,," }
+    ensures closing { market_fields (restricted_state (Call Closing Ordinary)) ≡ codes ",,9.8500,12,9.8500,10.0000,9.8500,3" }
 {}
 
 /// The line of a held stop.

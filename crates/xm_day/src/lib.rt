@@ -1,6 +1,7 @@
 //! The day of a segment: its rows run on desks, and its statement.
 #![tactic(auto)]
 
+mod answers;
 mod checks;
 mod day;
 mod desks;
@@ -20,7 +21,7 @@ mod words;
 mod worker;
 
 pub use crate::checks::check;
-pub use crate::day::{run_alone, run_day, run_orders};
+pub use crate::day::{run_alone, run_answered, run_day, run_orders};
 pub use crate::faults::DayFault;
-pub use crate::report::DayReport;
+pub use crate::report::{AnsweredDay, DayReport};
 pub use crate::statements::statement;

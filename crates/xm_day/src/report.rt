@@ -3,7 +3,7 @@ ghost use Rattle.std.specs.Prelude.{List, ◌≡◌, ◌+◌, ◌<◌, ◌^◌};
 ghost use Rattle.xm_day.specs.Day.{counted};
 ghost use Rattle.xm_rules.specs.State.{State};
 
-use xm_rules::Refusal;
+use xm_rules::{Refusal, Reply};
 
 /// How many rows of a day were accepted and refused.
 #[derive(Clone, Copy, PartialEq, Eq, Debug)]
@@ -12,20 +12,27 @@ pub struct DayReport {
     pub refused: u64,
 }
 
+/// What a day counts, and the text of the answers to its rows.
+#[derive(Debug, Drop)]
+pub struct AnsweredDay {
+    pub report: DayReport,
+    pub answers: Vec<u8>,
+}
+
 impl DayReport {
-    /// The report with one row more, which met this refusal, if any.
+    /// The report with one row more, which was answered so.
     #[inline(always)]
-    pub(crate) fn counted(self, refusal: Option<Refusal>) -> DayReport
+    pub(crate) fn counted(self, answer: &Result<Reply, Refusal>) -> DayReport
         requires room { self.accepted + self.refused + 1 < 2 ^ 64 }
-        ensures counted { (states : List State) → record { states = states; accepted = result.accepted; refused = result.refused } ≡ counted (record { states = states; accepted = self.accepted; refused = self.refused }) refusal }
+        ensures counted { (states : List State) → record { states = states; accepted = result.accepted; refused = result.refused } ≡ counted (record { states = states; accepted = self.accepted; refused = self.refused }) answer.now }
         ensures one { result.accepted + result.refused ≡ self.accepted + self.refused + 1 }
     {
-        match refusal {
-            None => DayReport {
+        match answer {
+            Ok(_) => DayReport {
                 accepted: self.accepted + 1,
                 refused: self.refused,
             },
-            Some(_) => DayReport {
+            Err(_) => DayReport {
                 accepted: self.accepted,
                 refused: self.refused + 1,
             },

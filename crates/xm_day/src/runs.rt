@@ -1,6 +1,6 @@
 //! The rows of an order file, run in their order.
-ghost use Rattle.std.specs.Prelude.{◌≤◌, [], length};
-ghost use Rattle.xm_day.specs.Answers.{DesksEnd, HasTaken, InFileOrder, RowsRun};
+ghost use Rattle.std.specs.Prelude.{◌≤◌, length};
+ghost use Rattle.xm_day.specs.Answers.{HasTaken, RowsRun};
 ghost use Rattle.xm_files.specs.Batches.{text_left};
 ghost use Rattle.xm_files.specs.declared.bytes.TheConstants.{MAX_BYTES};
 
@@ -14,42 +14,41 @@ use xm_segment::SegmentConfig;
 /// How many rows are read before they are taken, so that they are still in a near cache.
 const BATCH: Part = Part::Rows(512);
 
-/// Reads the rows of an order file of these bytes, batch by batch, and has the desks of a segment take them. The fault of the
-/// file is answered, if it has one, and else what came of its rows.
+/// Reads the rows of an order file of these bytes, batch by batch, and has the desks of a segment take them, which tell the
+/// answers if they are asked for. The fault of the file is answered, if it has one, and else what came of its rows.
 pub(crate) fn run_rows(
     storage: Storage<Global>,
     config: &SegmentConfig,
     names: &SegmentNames,
     bytes: Vec<u8>,
+    asked: bool,
 ) -> Result<Result<OpenDay, DayFault>, FileFault>
     requires { length bytes.items ≤ MAX_BYTES }
-    ensures { RowsRun (DesksEnd InFileOrder) config.now names.now (text_left bytes.items 1) result }
+    ensures { RowsRun (HasTaken asked names.now) config.now names.now (text_left bytes.items 1) result }
 {
     let mut file = RowReader::of(bytes.as_slice());
-    let opened = open_day(storage, config);
-    take_file(storage.alloc, opened, config, names, &mut file)
+    take_file(storage, config, names, &mut file, asked)
 }
 
-/// Reads the rows of an order file, and has them taken. A fault of the file comes before any other: where the segment can't be
-/// opened or memory is wanting, the rest is read all the same.
+/// Reads the rows of an order file, and has the desks of a segment take them. A fault of the file comes before any other:
+/// where the segment can't be opened or memory is wanting, the rest is read all the same.
 fn take_file(
-    alloc: Global,
-    opened: Result<OpenDay, DayFault>,
+    storage: Storage<Global>,
     config: &SegmentConfig,
     names: &SegmentNames,
     file: &mut RowReader<'_>,
+    asked: bool,
 ) -> Result<Result<OpenDay, DayFault>, FileFault>
-    requires { HasTaken config.now [] opened }
-    ensures { RowsRun HasTaken config.now names.now file.old result }
+    ensures { RowsRun (HasTaken asked names.now) config.now names.now file.old result }
 {
-    let mut batch = Batch::new(alloc);
-    let mut day = opened;
+    let mut batch = Batch::new(storage.alloc);
+    let mut day = open_day(storage, config, asked);
     'parts: loop {
-        let more = match file.read(alloc, &mut batch, BATCH, names, config) {
+        let more = match file.read(storage.alloc, &mut batch, BATCH, names, config) {
             Ok(more) => more,
             Err(fault) => return Err(fault),
         };
-        day = take_more(day, batch.rows());
+        day = take_more(day, names, batch.rows());
         if !more {
             return Ok(day);
         }

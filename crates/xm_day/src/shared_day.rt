@@ -14,6 +14,7 @@ ghost use Rattle.xm_segment.specs.declared.gathered.GatherFault.TheVariants as G
 ghost use Rattle.xm_segment.specs.declared.opening.TheConstants.{MAX_WORKERS};
 ghost use Rattle.xm_segment.specs.declared.rows.Row.{Row};
 
+use crate::answers::Answers;
 use crate::desks::OpenDay;
 use crate::faults::DayFault;
 use crate::report::DayReport;
@@ -221,7 +222,12 @@ impl<S: Naming> SharedDay<S> {
         let SharedDay { segment, workers } = self;
         let (seats, report) = counted(workers)?;
         let desks = desks_of(segment, alloc, seats)?;
-        Ok(OpenDay { desks, report })
+        let answers = Answers::unasked();
+        Ok(OpenDay {
+            desks,
+            report,
+            answers,
+        })
     }
 }
 

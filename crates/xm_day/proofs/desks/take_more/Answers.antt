@@ -1,40 +1,46 @@
-use Rattle.std.proofs.Common.{List, ◌++◌, length, ap, sym, subst, ◌∙◌, arith}
+use Rattle.std.proofs.Common.{Bool, List, ◌++◌, length, ap, sym, subst, ◌∙◌, arith}
 use Rattle.std.proofs.lemmas.List.{length-append}
 use Rattle.xm_rules.specs.Step.{Journal}
 use Rattle.xm_day.proofs.Days.{after_rows-append, lacks-later, lent_back}
 use Rattle.xm_day.proofs.Endings.{if_memory}
+use Rattle.xm_day.proofs.Tells.{answers-joined}
 use Rattle.xm_day.specs.Answers.{HasTaken}
 use Rattle.xm_day.specs.Day.{Day, LacksMemoryAt, after_rows, day_of, opening_day}
+use Rattle.xm_day.specs.RowAnswers.{answers_text, where_asked}
 use Rattle.xm_day.proofs.desks.take_more.Goals as goal
 
 pub returns : goal.returns
-returns c = λ config taken has.
+returns c = λ asked config taken has.
     let old = c.in_ok-desks.field-0 in
     let new = c.take_rows.new.desks in
+    let names = c.args.names.now in
     let report = c.in_ok-report.report in
     let rows = c.args.rows.now in
-    let before = subst (HasTaken config taken) c.in_ok-desks.was has in
+    let before = subst (HasTaken asked names config taken) c.in_ok-desks.was has in
     let kept = c.take_rows.auto.desks ∙ ap length c.as_mut_slice.ensures.value in
     let lent = lent_back new old.desks.items old.desks.len kept old.desks.ok.0 in
+    let day = ap (λ (js : List Journal). day_of js old.report.accepted old.report.refused) c.as_mut_slice.ensures.value ∙ before.day_is in
     let both = length-append taken rows in
     let counted = c.in_ok-report.ensures.counted in
-    let count = before.3 in (
-      before.0,
-      ap length lent ∙ kept ∙ before.1,
-      ap (λ (js : List Journal). day_of js report.accepted report.refused) lent
+    let count = before.all in
+    record {
+      sound = before.sound;
+      each = ap length lent ∙ kept ∙ before.each;
+      day_is = ap (λ (js : List Journal). day_of js report.accepted report.refused) lent
           ∙ c.in_ok-report.ensures.taken
-          ∙ ap (λ (js : List Journal). after_rows (day_of js old.report.accepted old.report.refused) rows) c.as_mut_slice.ensures.value
-          ∙ ap (λ (d : Day). after_rows d rows) before.2
-          ∙ sym (after_rows-append (opening_day config) taken rows),
-      omega (arith, both, counted, count),
-    )
+          ∙ ap (λ (d : Day). after_rows d rows) day
+          ∙ sym (after_rows-append (opening_day config) taken rows);
+      all = omega (arith, both, counted, count);
+      answers_are = answers-joined asked names config taken rows _ _ _ before.answers_are day c.in_ok-report.ensures.told;
+    }
 
 pub returns-in_err-report : goal.returns-in_err-report
-returns-in_err-report c = λ config taken has.
+returns-in_err-report c = λ asked config taken has.
     let old = c.in_ok-desks.field-0 in
     let rows = c.args.rows.now in
-    let before = subst (HasTaken config taken) c.in_ok-desks.was has in
-    let day = ap (λ (js : List Journal). day_of js old.report.accepted old.report.refused) c.as_mut_slice.ensures.value ∙ before.2 in
+    let names = c.args.names.now in
+    let before = subst (HasTaken asked names config taken) c.in_ok-desks.was has in
+    let day = ap (λ (js : List Journal). day_of js old.report.accepted old.report.refused) c.as_mut_slice.ensures.value ∙ before.day_is in
     let Lacks : Day → Type 0 = λ d. LacksMemoryAt d rows in
-    let lacks = lacks-later (opening_day config) taken rows (subst Lacks day c.in_err-report.ensures.memory) in
-    if_memory config (taken ++ rows) c.from_residual-in_err-report.result c.from_residual-in_err-report.ensures.1 before.0 lacks
+    if_memory asked names config (taken ++ rows) c.from_residual-in_err-report.result c.from_residual-in_err-report.ensures.1 before.sound
+    (λ unasked. lacks-later (opening_day config) taken rows (subst Lacks day (c.in_err-report.ensures.memory (before.answers_are ∙ ap (λ (b : Bool). where_asked b (answers_text names config taken)) unasked))))

@@ -1,32 +1,55 @@
-use Rattle.std.proofs.Common.{◌∙◌, ◌<◌, length, map, ap, sym, arith}
+use Rattle.std.proofs.Common.{◌∙◌, ◌<◌, List, length, map, refl, ap, sym, arith}
 use Rattle.std.proofs.lemmas.List.{take_all}
 use Rattle.xm_day.proofs.Days.{rows-lack, rows-step}
+use Rattle.xm_day.proofs.Tells.{told-more, told-row, with_text-nil}
 use Rattle.xm_rules.specs.Step.{replay}
 use Rattle.xm_files.proofs.PassedErrors.{on_err}
 use Rattle.xm_day.specs.Day.{after_rows, day_of}
+use Rattle.xm_day.specs.RowAnswers.{answers_of, with_text}
+use Rattle.xm_segment.specs.declared.rows.Row.{Row}
 use Rattle.xm_day.proofs.desks.take_rows.Goals as goal
+
+pub loop-row-init : goal.loop-row-init
+loop-row-init g c = record {
+  so_far = refl;
+  told = with_text-nil c.args.answers.now;
+  counted = omega arith;
+}
 
 pub loop-row-preserved : goal.loop-row-preserved
 loop-row-preserved g c =
     let rows = c.args.rows.now in
+    let names = c.args.names.now in
     let old = c.loop-row.report in
     let new = c.counted-report.result in
-    let within : c.loop-row.row-index < length rows = omega arith in
-    let step = c.in_ok-take_row.ensures.taken old.accepted old.refused ∙ sym (c.counted-report.ensures.counted (map replay c.take_row.new.desks)) in
+    let begun = day_of c.args.desks.now c.args.before.accepted c.args.before.refused in
+    let at = day_of c.loop-row.desks old.accepted old.refused in
+    let i = c.loop-row.row-index in
+    let within : i < length rows = omega arith in
+    let took = c.in_ok-answer.ensures.taken old.accepted old.refused in
+    let step = took ∙ sym (c.counted-report.ensures.counted (map replay c.take_row.new.desks)) in
+    let told = told-row names c.loop-row.desks c.take_row.new.desks old.accepted old.refused _ c.in_ok-answer.answer c.in_ok-answer.ensures.answer took in
     record {
-      so_far = rows-step (day_of c.args.desks.now c.args.before.accepted c.args.before.refused) c.loop-row.desks rows c.loop-row.row-index _ old.accepted old.refused (day_of c.take_row.new.desks new.accepted new.refused) within c.loop-row.invariant.so_far step;
+      so_far = rows-step begun c.loop-row.desks rows i _ old.accepted old.refused (day_of c.take_row.new.desks new.accepted new.refused) within c.loop-row.invariant.so_far step;
+      told = told-more names begun at rows i _ _ c.args.answers.now _ c.tell.new.self within c.loop-row.invariant.so_far c.loop-row.invariant.told c.in_ok-tell.ensures.told told;
       counted = omega (arith, c.counted-report.ensures.one, c.loop-row.invariant.counted);
     }
 
-pub returns-in_err-take_row-clause-memory : goal.returns-in_err-take_row-clause-memory
-returns-in_err-take_row-clause-memory g c =
+pub returns-in_err-answer-clause-memory : goal.returns-in_err-answer-clause-memory
+returns-in_err-answer-clause-memory g c =
     let rows = c.args.rows.now in
     let old = c.loop-row.report in
     let within : c.loop-row.row-index < length rows = omega arith in
     on_err c.from_residual.result
-    (rows-lack (day_of c.args.desks.now c.args.before.accepted c.args.before.refused) c.loop-row.desks rows c.loop-row.row-index _ old.accepted old.refused within c.loop-row.invariant.so_far (c.in_err-take_row.ensures.memory old.accepted old.refused))
+    (λ unasked. rows-lack (day_of c.args.desks.now c.args.before.accepted c.args.before.refused) c.loop-row.desks rows c.loop-row.row-index _ old.accepted old.refused within c.loop-row.invariant.so_far (c.in_err-answer.ensures.memory old.accepted old.refused))
 
 pub returns-clause-taken : goal.returns-clause-taken
 returns-clause-taken g c =
     let rows = c.args.rows.now in
     c.loop-row.invariant.so_far ∙ ap (after_rows (day_of c.args.desks.now c.args.before.accepted c.args.before.refused)) (take_all c.loop-row.row-index rows (omega arith))
+
+pub returns-clause-told : goal.returns-clause-told
+returns-clause-told g c =
+    let rows = c.args.rows.now in
+    c.loop-row.invariant.told
+    ∙ ap (λ (rs : List Row). with_text (answers_of c.args.names.now (day_of c.args.desks.now c.args.before.accepted c.args.before.refused) rs) c.args.answers.now) (take_all c.loop-row.row-index rows (omega arith))

@@ -1,0 +1,11 @@
+use Rattle.std.proofs.Common.{refl}
+use Rattle.std.specs.Fmt.{digits}
+use Rattle.xm_day.proofs.examples.answers_to_rows.Goals as goal
+
+pub returns-clause-unknown : goal.returns-clause-unknown
+unfolding digits
+returns-clause-unknown c = refl
+
+pub returns-clause-priced : goal.returns-clause-priced
+unfolding digits
+returns-clause-priced c = refl
