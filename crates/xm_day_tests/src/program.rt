@@ -8,6 +8,7 @@ macro_rules! prints {
             status: 0,
             printed: $printed,
             complained: Printed::Nothing,
+            written: Printed::Nothing,
         }
     };
 }
@@ -20,6 +21,7 @@ macro_rules! complains {
             status: $status,
             printed: Printed::Nothing,
             complained: $complained,
+            written: Printed::Nothing,
         }
     };
 }
@@ -29,9 +31,9 @@ mod ends;
 mod help;
 mod runtime;
 
-use crate::files::fixtures::{HEADER, SEGMENT};
+use crate::files::fixtures::{CASCADE, HEADER, SEGMENT};
 use crate::memory::want_of_memory;
-use ends::Printed;
+use ends::{CANNOT_ANSWER, Printed};
 use std::alloc::Global;
 use std::fs::File;
 use std::io::{Read, Write};
@@ -44,7 +46,7 @@ use xm_desk::OpenFault;
 use xm_files::{FileCause, FileFault};
 use xm_names::Storage;
 use xm_program::{
-    Failure, Input, Request, Workers, check, fault_line, open_input, read_words, run,
+    Failure, Input, Request, Workers, check, fault_line, open_input, read_words, run, run_answered,
 };
 
 /// A fault of a file, in this line.
@@ -159,6 +161,13 @@ fn answer_to(rt: &(impl Abort + AllocGlobal), line: &[String]) -> String {
             let workers = workers.get();
             format!(in alloc; "run {segment} and {orders} by {workers}")
         }
+        Ok(
+            Request::RunAnswered {
+                segment,
+                orders,
+                answers,
+            },
+        ) => { format!(in alloc; "run {segment} and {orders}, answers to {answers}") }
         Ok(Request::Check { segment }) => format!(in alloc; "check {segment}"),
         Ok(Request::Help(text)) => format!(in alloc; "help {text}"),
         Err(Failure::Day(fault)) => format!(in alloc; "fault {fault}"),
@@ -170,7 +179,7 @@ fn answer_to(rt: &(impl Abort + AllocGlobal), line: &[String]) -> String {
 /// The words of a command line, without the program's name, with what they are answered.
 type Answered = (&'static [&'static str], Printed);
 
-const RUNS: [Answered; 6] = [
+const RUNS: [Answered; 8] = [
     (
         &["run", "day.toml", "day.csv"],
         Printed::Text("run day.toml and day.csv by 1"),
@@ -191,6 +200,14 @@ const RUNS: [Answered; 6] = [
     (
         &["run", "day.toml", "--workers=+08", "day.csv"],
         Printed::Text("run day.toml and day.csv by 8"),
+    ),
+    (
+        &["run", "day.toml", "day.csv", "--answers", "a file"],
+        Printed::Text("run day.toml and day.csv, answers to a file"),
+    ),
+    (
+        &["run", "--answers=-", "day.toml", "day.csv"],
+        CANNOT_ANSWER,
     ),
 ];
 
@@ -359,6 +376,18 @@ fn run_day(
     run(rt, storage, segment, orders, workers, out)
 }
 
+/// Runs the day of two texts, and writes its statement and its answers to two writers. A clause sees nothing of it.
+fn answer_day(
+    rt: &impl AllocGlobal,
+    orders: &str,
+    out: &mut impl Write,
+    answers: &mut impl Write,
+) -> Result<(), DayFault> {
+    let storage = Storage::with_fixed_seed(rt.alloc());
+    let (mut segment, mut orders) = (SEGMENT.as_bytes(), orders.as_bytes());
+    run_answered(storage, &mut segment, &mut orders, out, answers)
+}
+
 /// Checks a segment file. A clause sees nothing of it.
 fn check_file(
     alloc: Global,
@@ -418,4 +447,40 @@ fn an_unflushed_statement_is_not_written(rt: HostRuntime) {
 fn an_unflushed_line_is_not_written(rt: HostRuntime) {
     let answer = check_file(rt.alloc(), &mut SEGMENT.as_bytes(), &mut Unflushed);
     assert!(rt; answer == Err(DayFault::WriteFailed));
+}
+
+/// The answers to the rows of `CASCADE`.
+const CASCADE_ANSWERS: &str =
+    "record,security,answer,version,phase,first_trade,trades,quantity,money,rest,best_buy,buy_quantity,best_sell,sell_quantity,last,auction,indicative,indicative_quantity
+2,XYZ,accepted,1,opening-call,0,0,0,0.0000,,,,,,10.0000,10.0000,,
+3,XYZ,accepted,2,continuous,0,0,0,0.0000,,,,,,10.0000,10.0000,,
+4,XYZ,accepted,3,continuous,0,0,0,0.0000,10,10.0000,10,,,10.0000,10.0000,,
+5,XYZ,accepted,4,continuous,0,0,0,0.0000,20,10.0000,10,,,10.0000,10.0000,,
+6,XYZ,accepted,5,continuous,0,0,0,0.0000,30,10.0000,10,,,10.0000,10.0000,,
+7,XYZ,accepted,6,continuous,0,0,0,0.0000,25,10.0000,10,,,10.0000,10.0000,,
+8,XYZ,accepted,7,continuous,0,0,0,0.0000,10,10.0000,10,,,10.0000,10.0000,,
+9,XYZ,accepted,8,continuous,0,4,60,593.5000,0,,,9.8500,5,9.8500,10.0000,,
+10,XYZ,unknown-order,,,,,,,,,,9.8500,5,9.8500,10.0000,,
+11,XYZ,accepted,9,closing-call,4,0,0,0.0000,,,,9.8500,5,9.8500,10.0000,,
+12,XYZ,accepted,10,post-trading,4,0,0,0.0000,,,,,,9.8500,10.0000,,
+13,XYZ,accepted,11,ended,4,0,0,0.0000,,,,,,9.8500,10.0000,,
+";
+
+#[test]
+fn answers_of_a_day(rt: HostRuntime) {
+    let (mut out, mut answers) = (Vec::new(rt.alloc()), Vec::new(rt.alloc()));
+    let ended = answer_day(&rt, CASCADE, &mut out, &mut answers);
+    assert!(rt; ended == Ok(()) && answers.as_slice() == CASCADE_ANSWERS.as_bytes());
+    assert!(rt; out == statement_of(&rt, SEGMENT, CASCADE, 1));
+}
+
+#[test]
+fn answers_go_out_behind_a_whole_statement(rt: HostRuntime) {
+    let failed = Err(DayFault::WriteFailed);
+    let mut answers = Vec::new(rt.alloc());
+    assert!(rt; answer_day(&rt, CASCADE, &mut Unflushed, &mut answers) == failed);
+    assert!(rt; answers.is_empty());
+    let mut out = Vec::new(rt.alloc());
+    assert!(rt; answer_day(&rt, CASCADE, &mut out, &mut Unflushed) == failed);
+    assert!(rt; out == statement_of(&rt, SEGMENT, CASCADE, 1));
 }

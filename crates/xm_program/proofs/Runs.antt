@@ -1,5 +1,5 @@
 -- Words that ask for a run or a check are answered with it.
-use Rattle.std.proofs.Common.{ℕ, pos, ◌≡◌, ◌≤◌, ◌&&◌, unwrap_or, slice_get, ◌==◌, List, [], ◌∷◌, Option, Some, None, Err, true, false, not, codes, refl, sym, ap, ◌∙◌, Bool, Result, Ok, IfErr, IsErrAnd, inl, inr, ◌⊎◌}
+use Rattle.std.proofs.Common.{ℕ, pos, ◌≡◌, ◌≤◌, ◌&&◌, unwrap_or, slice_get, ◌==◌, if◌then◌else◌, List, [], ◌∷◌, Option, Some, None, Err, true, false, not, codes, refl, sym, ap, ◌∙◌, Bool, Result, Ok, IfErr, IsErrAnd, inl, inr, ◌⊎◌}
 use Rattle.std.specs.Str.{bytes_eq}
 use Rattle.clap.specs.Lexer.{strip_byte, without_minus}
 use Rattle.clap.specs.ValueTests.{is_signed_in}
@@ -18,8 +18,8 @@ use Rattle.clap.proofs.OnLiterals.{clap_on_literals}
 use Rattle.xm_day.specs.declared.faults.DayFault.TheVariants as day
 use Rattle.xm_program.specs.declared.requests.Failure.TheVariants.{Day}
 use Rattle.xm_program.specs.declared.requests.Request.{Request}
-use Rattle.xm_program.specs.declared.requests.Request.TheVariants.{Run, Check, Help}
-use Rattle.xm_program.specs.Requests.{AnswersWords, Asked, Asks, IsRequest, IsOfWords, answer_at, answer_of, asked_in, asked_of, check, day_app, is_plain_word, run, run_of, workers_in, workers_words}
+use Rattle.xm_program.specs.declared.requests.Request.TheVariants.{Run, RunAnswered, Check, Help}
+use Rattle.xm_program.specs.Requests.{AnswersWords, Asked, Asks, IsRequest, IsOfWords, answer_at, answer_of, asked_in, asked_of, check, day_app, is_mistake, is_plain_word, run, run_answered, run_of, workers_in, workers_words}
 use Rattle.xm_program.proofs.Numbers.{number-text}
 
 false_of : (b : Bool) → not b ≡ true → b ≡ false
@@ -47,6 +47,10 @@ no_hyphens : (word : Text) → is_plain_word word ≡ true → bytes_eq word (45
 no_hyphens [] h = refl
 no_hyphens (x ∷ word) h = rw (false_of (x == 45) h) refl
 
+no_dash : (word : Text) → is_plain_word word ≡ true → bytes_eq word (codes "-") ≡ false
+no_dash [] h = refl
+no_dash (x ∷ word) h = rw (false_of (x == 45) h) refl
+
 plain : (word : Text) → is_plain_word word ≡ true → IsPlain word
 plain word h = record { no_hyphen = no_hyphen word h; no_hyphens = no_hyphens word h }
 
@@ -58,10 +62,10 @@ run_shape = unwrap_or (slice_get (built day_app).subs 0) day_app.top
 abbrev given : Text → Text → Row
 given id value = record { id = id; values = value ∷ []; count = None; source = Some CommandLine; reading = AsWritten }
 
--- where the walk over two paths and a number of workers stands
-abbrev walked_to : Text → Text → Text → Walk
-walked_to s o n = record {
-  held = record { rows = given (codes "SEGMENT") s ∷ given (codes "ORDERS") o ∷ []; pending = Some (codes "workers", n ∷ []); skip = 0 };
+-- where the walk over two paths and the value of an option stands
+abbrev walked_to : Text → Text → Text → Text → Walk
+walked_to option s o n = record {
+  held = record { rows = given (codes "SEGMENT") s ∷ given (codes "ORDERS") o ∷ []; pending = Some (option, n ∷ []); skip = 0 };
   waiting = idle;
   position = 3;
   is_trailing = false;
@@ -99,7 +103,7 @@ module _ (program s o : Text) (a : strip_byte 45 s ≡ None) (b : bytes_eq s (45
     numbered = s ∷ o ∷ codes "--workers" ∷ n ∷ []
 
     -- what the walk over these words has come to
-    numbered-walked : walk run_shape.rules [] nothing_held numbered ≡ walked_to s o n
+    numbered-walked : walk run_shape.rules [] nothing_held numbered ≡ walked_to (codes "workers") s o n
     unfolding clap_on_literals
     numbered-walked = simp (a, b, c, d, e, f)
 
@@ -121,7 +125,36 @@ module _ (program s o : Text) (a : strip_byte 45 s ≡ None) (b : bytes_eq s (45
     unfolding clap_on_literals
     asks-run-by number same is =
         ap (λ (w : Walk). asked_in (Some (codes "run", finished run_shape.rules w.held))) numbered-walked
-        ∙ ap (λ (text : Text). run_of (Some s) (Some o) (workers_in text)) same ∙ ap (run_of (Some s) (Some o)) is
+        ∙ ap (λ (text : Text). run_of (Some s) (Some o) (workers_in text) None) same ∙ ap (λ (workers : Option ℕ). run_of (Some s) (Some o) workers None) is
+
+    abbrev answered_words : List Text
+    answered_words = s ∷ o ∷ codes "--answers" ∷ n ∷ []
+
+    answered-walked : walk run_shape.rules [] nothing_held answered_words ≡ walked_to (codes "answers") s o n
+    unfolding clap_on_literals
+    answered-walked = simp (a, b, c, d, e, f)
+
+    answered-pass : walk_passes run_shape [] (walk_from nothing_held) answered_words ≡ true
+    unfolding clap_on_literals
+    answered-pass = simp (a, b, c, d, e, f)
+
+    answered-level : level_passes run_shape [] nothing_held answered_words false ≡ true
+    unfolding clap_on_literals
+    answered-level = both-true _ _ answered-pass (ap (λ (w : Walk). end_passes w.held) answered-walked)
+
+    takes-answered : takes day_app (program ∷ codes "run" ∷ answered_words) ≡ true
+    unfolding clap_on_literals
+    takes-answered = both-true _ _ answered-level refl
+
+    -- what the values of these words ask for
+    answers-asked : asked_in (Some (codes "run", finished run_shape.rules (walked_to (codes "answers") s o n).held)) ≡ (if not (bytes_eq n (codes "-")) then Some (run_answered s o n) else None)
+    unfolding clap_on_literals
+    answers-asked = refl
+
+    asks-answered : bytes_eq n (codes "-") ≡ false → asked_of (program ∷ codes "run" ∷ answered_words) ≡ Some (run_answered s o n)
+    unfolding clap_on_literals
+    asks-answered file =
+        ap (λ (w : Walk). asked_in (Some (codes "run", finished run_shape.rules w.held))) answered-walked ∙ answers-asked ∙ rw file refl
 
 -- the words that ask for it are taken
 taken-run : (words : List Text) (program s o : Text) (number : Option ℕ) → words ≡ program ∷ codes "run" ∷ s ∷ o ∷ workers_words number → IsPlain s → IsPlain o → 1 ≤ unwrap_or number 1 → unwrap_or number 1 ≤ 64 → IsTaken words (run s o (unwrap_or number 1))
@@ -141,6 +174,14 @@ taken-run words program s o (Some k) are p q some few =
 pub taken : (words : List Text) (asked : Asked) → Asks words asked → IsTaken words asked
 taken words (run segment orders workers) asks =
     rw asks.workers_are (taken-run words asks.program segment orders asks.number asks.words_are (plain segment asks.segment_is_plain) (plain orders asks.orders_is_plain) (rw asks.workers_are at asks.some) (rw asks.workers_are at asks.few))
+taken words (run_answered segment orders answers) asks =
+    let p = plain segment asks.segment_is_plain in
+    let q = plain orders asks.orders_is_plain in
+    let r = plain answers asks.answers_is_plain in
+    rw asks.words_are (record {
+      taken = takes-answered asks.program segment orders p.no_hyphen p.no_hyphens q.no_hyphen q.no_hyphens answers r.no_hyphen r.no_hyphens;
+      asks = asks-answered asks.program segment orders p.no_hyphen p.no_hyphens q.no_hyphen q.no_hyphens answers r.no_hyphen r.no_hyphens (no_dash answers asks.answers_is_plain);
+    })
 taken words (check segment) asks =
     let p = plain segment asks.segment_is_plain in
     rw asks.words_are (record {
@@ -165,8 +206,8 @@ among : (faults : Kinds) (asked : Option Asked) (error : Error) → (kind_of err
 among faults asked error is (inr (inl fault)) = fault
 among faults asked error (inl help) (inl memory) = let bad : kind.DisplayHelp ≡ kind.OutOfMemory = sym help ∙ memory in absurd (cc)
 among faults asked error (inr version) (inl memory) = let bad : kind.DisplayVersion ≡ kind.OutOfMemory = sym version ∙ memory in absurd (cc)
-among faults asked error (inl help) (inr (inr none)) = let bad : kind.DisplayHelp ≡ kind.MissingSubcommand = sym help ∙ none.0 in absurd (cc)
-among faults asked error (inr version) (inr (inr none)) = let bad : kind.DisplayVersion ≡ kind.MissingSubcommand = sym version ∙ none.0 in absurd (cc)
+among faults asked error (inl help) (inr (inr none)) = let bad : false ≡ true = ap is_mistake (sym help) ∙ none.0 in absurd (cc)
+among faults asked error (inr version) (inr (inr none)) = let bad : false ≡ true = ap is_mistake (sym version) ∙ none.0 in absurd (cc)
 
 -- what the answer to an error of the words is
 pub answered : (faults : Kinds) (asked : Option Asked) (error : Error) → IsOfWords faults asked error → AnswersWords faults asked (answer_of error)
@@ -186,5 +227,6 @@ err_from (Err e) v P h p = rw h p
 -- what was asked for is the answer to words without a fault
 pub requested : (faults : Kinds) (asked : Option Asked) (request : Request) → faults ≡ [] → IsRequest asked request → AnswersWords faults asked (Ok request)
 requested faults asked (Run segment orders workers) none is = (none, is)
+requested faults asked (RunAnswered segment orders answers) none is = (none, is)
 requested faults asked (Check segment) none is = (none, is)
 requested faults asked (Help error) none is = absurd is

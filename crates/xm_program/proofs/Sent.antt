@@ -11,7 +11,7 @@ use Rattle.xm_program.specs.Days.{DayEndsBy}
 use Rattle.xm_segment.specs.declared.config.SegmentConfig.{SegmentConfig}
 use Rattle.xm_segment.specs.declared.rows.Row.{Row}
 
-appended : (old mid new : Option (List ℕ)) (text : List ℕ) → Appends old mid text → Keeps mid new → Appends old new text
+pub appended : (old mid new : Option (List ℕ)) (text : List ℕ) → Appends old mid text → Keeps mid new → Appends old new text
 appended None mid new text a k = tt
 appended (Some xs) None new text a k = absurd a
 appended (Some xs) (Some ys) None text a k = absurd k
@@ -24,7 +24,7 @@ module _ (segment old mid new : Option (List ℕ)) {Same : Type 0} (same : Same 
   check-sent (Err fault) kept untouched ends = subst (λ (o : Option (List ℕ)). CheckEnds segment old o (Err fault)) (sym (same untouched)) ends
 
   module _ (orders : Option (List ℕ)) where
-    day-sent : (days : SegmentConfig → List Row → Day → Type 0) (end : Result DayReport DayFault) → OnOk end (Keeps mid new) → OnErr end Same → DayEnds days segment orders old mid end → DayEnds days segment orders old new end
+    pub day-sent : (days : SegmentConfig → List Row → Day → Type 0) (end : Result DayReport DayFault) → OnOk end (Keeps mid new) → OnErr end Same → DayEnds days segment orders old mid end → DayEnds days segment orders old new end
     day-sent days (Ok report) kept untouched ends =
         let w = ends.3.2.1 in
         (ends.0, ends.1, ends.2, (ends.3.0, ends.3.1, (ends.3.2.0, record { day = w.day; is_of_rows = w.is_of_rows; written = appended old mid new _ w.written kept; accepted = w.accepted; refused = w.refused })))

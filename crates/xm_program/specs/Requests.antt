@@ -1,5 +1,5 @@
 -- How the words of a command line are answered.
-use Rattle.std.specs.Prelude.{◌≡◌, ◌≤◌, ◌==◌, ℕ, pos, Bool, false, true, not, if◌then◌else◌, ◌⊎◌, List, [], ◌∷◌, Option, Some, None, Result, Ok, Err, ⊤, codes, option_and_then, option_map, unwrap_or}
+use Rattle.std.specs.Prelude.{◌≡◌, ◌≤◌, ◌==◌, ℕ, pos, Bool, false, true, ◌&&◌, not, if◌then◌else◌, ◌⊎◌, List, [], ◌∷◌, Option, Some, None, Result, Ok, Err, ⊤, codes, option_and_then, option_map, unwrap_or}
 use Rattle.std.specs.Fmt.{decimal}
 use Rattle.std.specs.Str.{bytes_eq}
 use Rattle.std.specs.Str.Parse.{digits_value, without_leading_plus}
@@ -17,7 +17,7 @@ use Rattle.std_io.specs.declared.io.kind.ErrorKind.TheVariants as reading
 use Rattle.xm_day.specs.declared.faults.DayFault.TheVariants as day
 use Rattle.xm_segment.specs.Opening.{max_workers}
 use Rattle.xm_program.specs.declared.requests.Request.{Request}
-use Rattle.xm_program.specs.declared.requests.Request.TheVariants.{Run, Check, Help}
+use Rattle.xm_program.specs.declared.requests.Request.TheVariants.{Run, RunAnswered, Check, Help}
 use Rattle.xm_program.specs.declared.requests.Failure.{Failure}
 use Rattle.xm_program.specs.declared.requests.Failure.TheVariants.{Day, Words}
 
@@ -37,9 +37,14 @@ workers_rule = record (new_rule (codes "workers")) {
   parser = Some (Signed (pos 1) (pos max_workers));
 }
 
--- `run SEGMENT ORDERS --workers N`
+-- `--answers FILE`, which may be left out
+abbrev pub answers_rule : Rule
+answers_rule = record (new_rule (codes "answers")) { long = Some (codes "answers"); action = Some Set; value_names = 1 }
+
+-- `run SEGMENT ORDERS --workers N --answers FILE`
 abbrev pub run_app : App
-run_app = with_rule (with_rule (with_rule (new_app (codes "run")) (path_rule (codes "SEGMENT"))) (path_rule (codes "ORDERS"))) workers_rule
+run_app =
+    with_rule (with_rule (with_rule (with_rule (new_app (codes "run")) (path_rule (codes "SEGMENT"))) (path_rule (codes "ORDERS"))) workers_rule) answers_rule
 
 -- `check SEGMENT`
 abbrev pub check_app : App
@@ -52,27 +57,38 @@ day_app = with_subcommand (with_subcommand (on_top (λ s. record s { has_version
 
 -- ---- what the words ask for
 
--- the run of a segment file and an order file by so many workers, or the check of a segment file
+-- the run of a segment file and an order file by so many workers, or by one that also writes the answers to a file, or the check
+-- of a segment file
 pub data Asked : Type 0 where
   run : Text → Text → ℕ → Asked
+  run_answered : Text → Text → Text → Asked
   check : Text → Asked
 
 -- a number of workers, by its decimal digits
 abbrev pub workers_in : Text → Option ℕ
 workers_in text = if is_unsigned_in 1 max_workers text then Some (digits_value 10 (without_leading_plus text)) else None
 
+-- answers are those of one worker, and go to a file, not to standard output
+abbrev pub can_answer : ℕ → Text → Bool
+can_answer workers answers = (workers == 1) && not (bytes_eq answers (codes "-"))
+
+-- the run of two files
+abbrev pub run_to : Text → Text → ℕ → Option Text → Option Asked
+run_to segment orders workers None = Some (run segment orders workers)
+run_to segment orders workers (Some answers) = if can_answer workers answers then Some (run_answered segment orders answers) else None
+
 -- the run that the values of a subcommand ask for
-abbrev pub run_of : Option Text → Option Text → Option ℕ → Option Asked
-run_of (Some segment) (Some orders) (Some workers) = Some (run segment orders workers)
-run_of (Some segment) (Some orders) None = None
-run_of (Some segment) None workers = None
-run_of None orders workers = None
+abbrev pub run_of : Option Text → Option Text → Option ℕ → Option Text → Option Asked
+run_of (Some segment) (Some orders) (Some workers) answers = run_to segment orders workers answers
+run_of (Some segment) (Some orders) None answers = None
+run_of (Some segment) None workers answers = None
+run_of None orders workers answers = None
 
 abbrev pub asked_in : Option (Text × List Row) → Option Asked
 asked_in None = None
 asked_in (Some p) =
     if bytes_eq p.0 (codes "run")
-    then run_of (first_of (codes "SEGMENT") p.1) (first_of (codes "ORDERS") p.1) (option_and_then workers_in (one_of (codes "workers") p.1))
+    then run_of (first_of (codes "SEGMENT") p.1) (first_of (codes "ORDERS") p.1) (option_and_then workers_in (one_of (codes "workers") p.1)) (first_of (codes "answers") p.1)
     else (if bytes_eq p.0 (codes "check") then option_map check (first_of (codes "SEGMENT") p.1) else None)
 
 -- the run or the check that the words ask for
@@ -100,6 +116,14 @@ pub record AsksRun (words : List Text) (segment orders : Text) (workers : ℕ) :
   pub some : 1 ≤ workers
   pub few : workers ≤ max_workers
 
+-- the words are the program's name, `run`, two paths, `--answers` and a path of a file
+pub record AsksAnswers (words : List Text) (segment orders answers : Text) : Type 0 where
+  pub program : Text
+  pub words_are : words ≡ program ∷ codes "run" ∷ segment ∷ orders ∷ codes "--answers" ∷ answers ∷ []
+  pub segment_is_plain : is_plain_word segment ≡ true
+  pub orders_is_plain : is_plain_word orders ≡ true
+  pub answers_is_plain : is_plain_word answers ≡ true
+
 -- the words are the program's name, `check` and a path
 pub record AsksCheck (words : List Text) (segment : Text) : Type 0 where
   pub program : Text
@@ -109,6 +133,7 @@ pub record AsksCheck (words : List Text) (segment : Text) : Type 0 where
 -- the words ask for it in a form that is always taken
 abbrev pub Asks : List Text → Asked → Type 0
 Asks words (run segment orders workers) = AsksRun words segment orders workers
+Asks words (run_answered segment orders answers) = AsksAnswers words segment orders answers
 Asks words (check segment) = AsksCheck words segment
 
 -- ---- the answer
@@ -116,6 +141,7 @@ Asks words (check segment) = AsksCheck words segment
 -- the request is what was asked for, and not a help text
 abbrev pub IsRequest : Option Asked → Request → Type 0
 IsRequest asked (Run segment orders workers) = asked ≡ Some (run segment.now orders.now workers)
+IsRequest asked (RunAnswered segment orders answers) = asked ≡ Some (run_answered segment.now orders.now answers.now)
 IsRequest asked (Check segment) = asked ≡ Some (check segment.now)
 IsRequest asked (Help error) = ⊥
 
@@ -146,11 +172,11 @@ abbrev pub IsTold : Failure → Type 0
 IsTold (Day fault) = ⊤
 IsTold (Words error) = is_mistake (kind_of error) ≡ true
 
--- what an error is of words with these faults, which ask for this: want of memory, one of the faults, or that nothing is asked
--- for where there is no fault
+-- what an error is of words with these faults, which ask for this: want of memory, one of the faults, or, where there is none, a
+-- mistake of words that ask for nothing that can be done
 abbrev pub IsOfWords : Kinds → Option Asked → Error → Type 0
 IsOfWords faults asked error = (kind_of error ≡ kind.OutOfMemory) ⊎ (IsAmong (kind_of error) faults
-    ⊎ ((kind_of error ≡ kind.MissingSubcommand) × (faults ≡ []) × (asked ≡ None)))
+    ⊎ ((is_mistake (kind_of error) ≡ true) × (faults ≡ []) × (asked ≡ None)))
 
 -- the answer to words with these faults, which ask for this: what they ask for only where there is no fault, help or the
 -- version only where they ask for it, a mistake only for a fault of theirs, or where they ask for nothing

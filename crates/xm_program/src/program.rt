@@ -1,17 +1,17 @@
 //! A call of the program, over any runtime.
 ghost use Rattle.std.specs.Prelude.{◌≡◌, ◌≢◌, ◌≤◌, ℕ, List, Option, Err, IfErr, OnErr, OnOk, map, string_bytes};
-ghost use Rattle.std.specs.Io.KnownBytes.{Keeps};
+ghost use Rattle.std.specs.Io.KnownBytes.{Appends, Keeps};
 ghost use Rattle.std.specs.Process.{exit_status};
 ghost use Rattle.clap.specs.Words.{fault_of};
-ghost use Rattle.xm_program.specs.Days.{FileCheckEnds, IsEnd, RunEnds};
+ghost use Rattle.xm_program.specs.Days.{AnsweredRunEnds, AppendsBeginning, FileCheckEnds, FileRunEnds, IsEnd, RunEnds};
 ghost use Rattle.xm_program.specs.Ends.{CallEnds, IsDone, IsToldAs};
 ghost use Rattle.xm_program.specs.Requests.{RefusesBytes, asked_of, day_app, end_status};
 
 use crate::complaints::Complaints;
 use crate::fault_lines::{fault_line, told};
-use crate::inputs;
 use crate::requests::{self, Failure, Request};
 use crate::workers::Workers;
+use crate::{inputs, outputs};
 use clap::Error;
 use std::alloc::Global;
 use std::io::{Read, Write};
@@ -69,6 +69,11 @@ fn answer<R: AllocGlobal + Files + RandomSource + Threads + Wait + Sync, W: Writ
             orders,
             workers,
         } => Ok(run_files(rt, segment, orders, workers, out)?),
+        Request::RunAnswered {
+            segment,
+            orders,
+            answers,
+        } => Ok(answer_files(rt, segment, orders, answers, out)?),
         Request::Check { segment } => Ok(check_file(rt, segment, out)?),
         Request::Help(text) => Ok(print_help(text, out)?),
     }
@@ -88,6 +93,27 @@ fn run_files<R: AllocGlobal + Files + RandomSource + Threads + Wait + Sync, W: W
     let mut segment = inputs::open_input(|path| fs::open(rt, path), segment);
     let mut orders = inputs::open_input(|path| fs::open(rt, path), orders);
     run(rt, storage(rt), &mut segment, &mut orders, workers, out)
+}
+
+/// Writes the statement of the day in the files at two paths, and the answers to its rows to a file at a third, which is made
+/// before any is read.
+fn answer_files<R: AllocGlobal + Files + RandomSource, W: Write>(
+    rt: &R,
+    segment: &str,
+    orders: &str,
+    answers: &str,
+    out: &mut W,
+) -> Result<(), DayFault>
+    ensures ends { FileRunEnds (W.contents out.old) (W.contents out.new) result }
+    ensures untouched { IfErr result (λ fault. fault ≢ DayFault.WriteFailed → out.new ≡ out.old) }
+{
+    let mut answers = match outputs::make_file(rt, answers, segment, orders) {
+        Ok(file) => file,
+        Err(_) => return Err(DayFault::WriteFailed),
+    };
+    let mut segment = inputs::open_input(|path| fs::open(rt, path), segment);
+    let mut orders = inputs::open_input(|path| fs::open(rt, path), orders);
+    run_answered(storage(rt), &mut segment, &mut orders, out, &mut answers)
 }
 
 /// Checks the segment file at a path, and writes its line.
@@ -143,6 +169,40 @@ pub fn run<R: Threads + Wait + Sync, S: Read, O: Read, W: Write>(
 {
     let ended = run_day(rt, storage, segment, orders, out, workers.get(), &NoGate);
     sent_out(ended, out)
+}
+
+/// Writes the statement of the day in two files, sees that all of it went out, and then does so with the answers to its rows.
+///
+/// `WriteFailed` tells that either writer failed. That of the answers got nothing where the statement didn't go out whole.
+pub fn run_answered<S: Read, O: Read, W: Write, A: Write>(
+    storage: Storage<Global>,
+    segment: &mut S,
+    orders: &mut O,
+    out: &mut W,
+    answers: &mut A,
+) -> Result<(), DayFault>
+    ensures ends { AnsweredRunEnds (S.remaining segment.old) (O.remaining orders.old) (W.contents out.old) (W.contents out.new) (A.contents answers.old) (A.contents answers.new) result }
+    ensures untouched { IfErr result (λ fault. fault ≢ DayFault.WriteFailed → out.new ≡ out.old) }
+{
+    let day = match xm_day::run_answered(storage, segment, orders, out) {
+        Ok(day) => day,
+        Err(fault) => return Err(told(fault)),
+    };
+    match out.flush() {
+        Ok(()) => send(answers, day.answers.as_slice()),
+        Err(_) => Err(DayFault::WriteFailed),
+    }
+}
+
+/// Writes a text, and sees that all of it went out.
+fn send<W: Write>(out: &mut W, text: &[u8]) -> Result<(), DayFault>
+    ensures sent { OnOk result (Appends (W.contents out.old) (W.contents out.new) text.now) }
+    ensures failed { IfErr result (λ fault. (fault ≡ DayFault.WriteFailed) × AppendsBeginning (W.contents out.old) (W.contents out.new) text.now) }
+{
+    match write_whole(out, text) {
+        Ok(()) => out.flush().map_err(|_| DayFault::WriteFailed),
+        Err(_) => Err(DayFault::WriteFailed),
+    }
 }
 
 /// Writes the line of a segment file that opens, and sees that all of it went out.

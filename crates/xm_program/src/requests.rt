@@ -1,9 +1,9 @@
 //! What the words of the command line ask for.
 ghost use Rattle.std.specs.Prelude.{◌≡◌, [], IfOk, IfErr, IfSome, IsSome, None, codes, map, option_and_then, string_bytes, false, true};
-ghost use Rattle.clap.specs.Words.{app_of, fault_of, found_of, kind_of, one_of, rows_of, rule_of, subcommand_rows_of, takes};
+ghost use Rattle.clap.specs.Words.{app_of, fault_of, first_of, found_of, kind_of, one_of, rows_of, rule_of, subcommand_rows_of, takes};
 ghost use Rattle.clap.specs.declared.builder.command.Command.TheViews.{out-Command as fields_of};
 ghost use Rattle.clap.specs.declared.error.kind.ErrorKind.TheVariants as kind;
-ghost use Rattle.xm_program.specs.Requests.{AnswersWords, Asked, Asks, IsGranted, IsOfWords, IsRequest, IsTold, IsUnread, answer_of, asked_in, asked_of, check_app, day_app, failure_status, path_rule, run_app, workers_in, workers_rule};
+ghost use Rattle.xm_program.specs.Requests.{AnswersWords, Asked, Asks, IsGranted, IsOfWords, IsRequest, IsTold, IsUnread, answer_of, answers_rule, asked_in, asked_of, can_answer, check_app, day_app, failure_status, path_rule, run_app, run_to, workers_in, workers_rule};
 
 use crate::workers::Workers;
 use clap::error::ErrorKind;
@@ -64,6 +64,20 @@ orders.csv
   uncross,,,*,,,,,,,,
   end,,,*,,,,,,,,";
 
+const ANSWERS: &str = "answers";
+
+/// By this word a file is standard output, where the statement goes.
+const STANDARD_OUTPUT: &str = "-";
+
+const CANNOT_ANSWER: &str =
+    "--answers goes with one worker, and with a file: standard output has the statement";
+
+const ANSWERS_HELP: &str =
+    "Writes the answer to each row, and the market after it, to this file (CSV)
+
+The file is made before any file is read, and written behind the statement. docs/FORMATS.md tells
+of each field. It goes with one worker.";
+
 const WORKERS_HELP: &str = "How many workers take the rows of members, side by side: 1 to 64
 
 One worker takes all rows in the order of the file. More take each member's rows in their order,
@@ -89,6 +103,12 @@ pub enum Request<'a> {
         segment: &'a str,
         orders: &'a str,
         workers: Workers,
+    },
+    /// The same by one worker, and the answers to the rows in a file at a path.
+    RunAnswered {
+        segment: &'a str,
+        orders: &'a str,
+        answers: &'a str,
     },
     /// The check of a segment file, which is given by its path.
     Check {
@@ -177,7 +197,7 @@ fn read_request<'a>(mut command: Command<'a>, words: &'a [String]) -> Result<Req
     let matches = command.try_get_matches_from_mut(words)?;
     match request_in(&matches) {
         Some(request) => Ok(request),
-        None => Err(command.error(ErrorKind::MissingSubcommand, "nothing is asked for")?),
+        None => Err(command.error(ErrorKind::ArgumentConflict, CANNOT_ANSWER)?),
     }
 }
 
@@ -189,14 +209,52 @@ fn request_in<'a>(matches: &ArgMatches<'a>) -> Option<Request<'a>>
     let (name, values) = matches.subcommand()?;
     let segment = values.get_str(SEGMENT)?;
     match name {
-        RUN => Some(Request::Run {
+        RUN => run_in(
+            values,
             segment,
-            orders: values.get_str(ORDERS)?,
-            workers: workers_in(values)?,
-        }),
+            values.get_str(ORDERS)?,
+            workers_in(values)?,
+        ),
         CHECK => Some(Request::Check { segment }),
         _ => None,
     }
+}
+
+/// The run of two files among the values of a run.
+fn run_in<'a>(
+    values: &ArgMatches<'a>,
+    segment: &'a str,
+    orders: &'a str,
+    workers: Workers,
+) -> Option<Request<'a>>
+    ensures some { IfSome result (IsRequest (run_to segment.now orders.now workers (first_of (codes "answers") (rows_of (found_of values.now))))) }
+    ensures none { result ≡ None → run_to segment.now orders.now workers (first_of (codes "answers") (rows_of (found_of values.now))) ≡ None }
+{
+    match values.get_str(ANSWERS) {
+        None => Some(Request::Run {
+            segment,
+            orders,
+            workers,
+        }),
+        Some(answers) => {
+            if can_answer(workers, answers) {
+                Some(Request::RunAnswered {
+                    segment,
+                    orders,
+                    answers,
+                })
+            } else {
+                None
+            }
+        }
+    }
+}
+
+/// Whether so many workers can write answers there: one alone, and not to standard output.
+fn can_answer(workers: Workers, answers: &str) -> bool
+    ensures { result ≡ can_answer workers answers.now }
+{
+    workers.get() == 1 && answers != STANDARD_OUTPUT
 }
 
 /// The number of workers among the values of a run.
@@ -256,7 +314,8 @@ fn run_command<'a>(alloc: Global) -> Result<Command<'a>, OutOfMemory>
         .after_help(STATUS_HELP)
         .arg(path(alloc, SEGMENT).help(SEGMENT_HELP))?
         .arg(path(alloc, ORDERS).help(ORDERS_HELP))?
-        .arg(workers(alloc))?;
+        .arg(workers(alloc))?
+        .arg(answers(alloc))?;
     Ok(command)
 }
 
@@ -294,4 +353,17 @@ fn workers<'a>(alloc: Global) -> Arg<'a>
         .default_value("1")
         .help("How many workers take the rows of members, side by side")
         .long_help(WORKERS_HELP)
+}
+
+/// The file of the answers, which may be left out.
+fn answers<'a>(alloc: Global) -> Arg<'a>
+    ensures rule { rule_of result ≡ answers_rule }
+    ensures local { result.global ≡ false }
+{
+    Arg::new(alloc, ANSWERS)
+        .long(ANSWERS)
+        .value_name("FILE")
+        .action(ArgAction::Set)
+        .help("Writes the answer to each row, and the market after it, to this file (CSV)")
+        .long_help(ANSWERS_HELP)
 }

@@ -3,7 +3,7 @@
 use super::runtime::{Call, Stream};
 use crate::files::fixtures::{BAD_WIDTHS, HEADER, NO_SECURITY, SEGMENT};
 use std::process::{Abort, ExitCode};
-use std::sync::Wait;
+use std::sync::{Mutex, Wait};
 use std::thread::Threads;
 use xm_program::run_program;
 
@@ -52,21 +52,24 @@ impl Printed {
     }
 }
 
-/// A command line with its status, and what is then on standard output and on standard error.
+/// A command line with its status, and what is then on standard output, on standard error, and in the file that it made.
 #[derive(Clone, Copy)]
 pub struct End {
     pub words: &'static [&'static [u8]],
     pub status: u8,
     pub printed: Printed,
     pub complained: Printed,
+    pub written: Printed,
 }
 
 /// Compares how the program ends.
 fn is_end(rt: &(impl Abort + AllocGlobal + Threads + Wait + Sync), output: Stream, end: &End) {
-    let mut call = Call::new(rt, end.words, FILES, output);
+    let mut made = Mutex::new(String::new(rt.alloc()));
+    let mut call = Call::new(rt, end.words, FILES, &made, output);
     let status = run_program(&call);
     let is_told = end.printed.is(call.printed.get_mut().as_str())
         && end.complained.is(call.complained.get_mut().as_str());
+    let is_told = is_told && end.written.is(made.get_mut().as_str());
     assert!(rt;
         status == ExitCode::from(end.status) && is_told,
         "of {:?}",
@@ -110,6 +113,105 @@ const STATEMENTS: [End; 4] = [
         b"run",
         b" spaced.toml\t",
         b"\n spaced.csv "
+    ),
+];
+
+/// The answers to the rows of a file that has none.
+const ANSWERS: &str =
+    "record,security,answer,version,phase,first_trade,trades,quantity,money,rest,best_buy,buy_quantity,best_sell,sell_quantity,last,auction,indicative,indicative_quantity\n";
+
+/// A command line that prints the statement, and writes the answers to a file.
+macro_rules! answers {
+    ($($word:expr),*) => {
+        End {
+            words: &[b"xetra-day", $($word),*],
+            status: 0,
+            printed: Printed::Text(STATEMENT),
+            complained: Printed::Nothing,
+            written: Printed::Text(ANSWERS),
+        }
+    };
+}
+
+const ANSWERED: [End; 2] = [
+    answers!(
+        b"run",
+        b"day.toml",
+        b"day.csv",
+        b"--answers",
+        b"answers.csv"
+    ),
+    answers!(
+        b"run",
+        b"--answers=answers.csv",
+        b"--workers=1",
+        b"day.toml",
+        b"day.csv"
+    ),
+];
+
+/// What is told where the answers can't be written as the words ask.
+pub const CANNOT_ANSWER: Printed = Printed::Text(
+    "error: --answers goes with one worker, and with a file: standard output has the statement\n\nUsage: xetra-day <COMMAND>\n\nFor more information, try '--help'.\n",
+);
+
+/// Runs that write no answers: the order file is at fault, the file is one that is read, or it can't be made, and mistakes.
+const UNANSWERED: [End; 6] = [
+    complains!(
+        1,
+        Printed::Text("xetra-day: orders: line 2: BadField\n"),
+        b"run",
+        b"day.toml",
+        b"bad.csv",
+        b"--answers",
+        b"answers.csv"
+    ),
+    complains!(
+        1,
+        UNWRITTEN,
+        b"run",
+        b"day.toml",
+        b"day.csv",
+        b"--answers",
+        b"day.toml"
+    ),
+    complains!(
+        1,
+        UNWRITTEN,
+        b"run",
+        b"day.toml",
+        b"day.csv",
+        b"--answers",
+        b"day.csv"
+    ),
+    complains!(
+        1,
+        UNWRITTEN,
+        b"run",
+        b"day.toml",
+        b"day.csv",
+        b"--answers",
+        b"none/answers.csv"
+    ),
+    complains!(
+        2,
+        CANNOT_ANSWER,
+        b"run",
+        b"day.toml",
+        b"day.csv",
+        b"--answers",
+        b"-"
+    ),
+    complains!(
+        2,
+        CANNOT_ANSWER,
+        b"run",
+        b"day.toml",
+        b"day.csv",
+        b"--workers",
+        b"2",
+        b"--answers",
+        b"answers.csv"
     ),
 ];
 
@@ -207,6 +309,8 @@ const MISTAKES: [End; 4] = [
 #[test]
 fn ends_of_runs(rt: HostRuntime) {
     are_ends(&rt, Stream::Kept, &STATEMENTS);
+    are_ends(&rt, Stream::Kept, &ANSWERED);
+    are_ends(&rt, Stream::Kept, &UNANSWERED);
     are_ends(&rt, Stream::Kept, &CHECKED);
     are_ends(&rt, Stream::Kept, &FAULTS);
     are_ends(&rt, Stream::Kept, &MISTAKES);
@@ -214,9 +318,18 @@ fn ends_of_runs(rt: HostRuntime) {
 
 const UNWRITTEN: Printed = Printed::Text("xetra-day: write failed\n");
 
-const REFUSED: [End; 4] = [
+const REFUSED: [End; 5] = [
     complains!(1, UNWRITTEN, b"check", b"day.toml"),
     complains!(1, UNWRITTEN, b"run", b"day.toml", b"day.csv"),
+    complains!(
+        1,
+        UNWRITTEN,
+        b"run",
+        b"day.toml",
+        b"day.csv",
+        b"--answers",
+        b"answers.csv"
+    ),
     complains!(1, UNWRITTEN, b"--help"),
     complains!(1, UNWRITTEN, b"--version"),
 ];
@@ -228,7 +341,8 @@ fn refused_output(rt: HostRuntime) {
 
 #[test]
 fn a_run_draws_its_seed(rt: HostRuntime) {
-    let mut call = Call::new(&rt, STATEMENTS[0].words, FILES, Stream::Kept);
+    let made = Mutex::new(String::new(rt.alloc()));
+    let mut call = Call::new(&rt, STATEMENTS[0].words, FILES, &made, Stream::Kept);
     assert!(rt; run_program(&call) == ExitCode::SUCCESS);
     assert!(rt; *call.draws.get_mut() == 2);
 }

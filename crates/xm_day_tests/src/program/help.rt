@@ -52,6 +52,12 @@ Options:
           
           [default: 1]
 
+      --answers <FILE>
+          Writes the answer to each row, and the market after it, to this file (CSV)
+          
+          The file is made before any file is read, and written behind the statement. docs/FORMATS.md tells
+          of each field. It goes with one worker.
+
   -h, --help
           Print help (see a summary with '-h')
 

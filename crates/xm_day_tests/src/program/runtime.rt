@@ -20,6 +20,9 @@ pub enum Stream {
     Refused,
 }
 
+/// The path of the file that can be made.
+pub const MADE: &str = "answers.csv";
+
 /// The command line and the files of a call of the program, and what it printed. Threads are those of another runtime.
 #[derive(Drop)]
 pub struct Call<'a, R> {
@@ -27,6 +30,8 @@ pub struct Call<'a, R> {
     pub alloc: Global,
     pub words: &'a [&'a [u8]],
     pub files: &'a [(&'a str, &'a str)],
+    /// What was written to the one file that can be made, `MADE`.
+    pub made: &'a Mutex<String>,
     pub output: Stream,
     pub printed: Mutex<String>,
     pub complained: Mutex<String>,
@@ -39,6 +44,7 @@ impl<'a, R: AllocGlobal> Call<'a, R> {
         rt: &'a R,
         words: &'a [&'a [u8]],
         files: &'a [(&'a str, &'a str)],
+        made: &'a Mutex<String>,
         output: Stream,
     ) -> Call<'a, R> {
         Call {
@@ -46,6 +52,7 @@ impl<'a, R: AllocGlobal> Call<'a, R> {
             alloc: rt.alloc(),
             words,
             files,
+            made,
             output,
             printed: Mutex::new(String::new(rt.alloc())),
             complained: Mutex::new(String::new(rt.alloc())),
@@ -141,10 +148,11 @@ impl<R> Eprint for Call<'_, R> {
     }
 }
 
-/// A file that can be read, and nothing else.
+/// A file that can be read, or one that was made and can be written to, and nothing else.
 #[derive(Drop)]
-pub struct Opened<'a> {
-    left: &'a [u8],
+pub enum Opened<'a> {
+    Read(&'a [u8]),
+    Made(&'a Mutex<String>),
 }
 
 fn unsupported<T>() -> io::Result<T>
@@ -155,17 +163,26 @@ fn unsupported<T>() -> io::Result<T>
 
 impl Read for Opened<'_> {
     fn read(&mut self, buf: &mut [u8]) -> io::Result<usize> {
-        self.left.read(buf)
+        match self {
+            Opened::Read(left) => left.read(buf),
+            Opened::Made(_) => unsupported(),
+        }
     }
 }
 
 impl Write for Opened<'_> {
-    fn write(&mut self, _bytes: &[u8]) -> io::Result<usize> {
-        unsupported()
+    fn write(&mut self, bytes: &[u8]) -> io::Result<usize> {
+        match (self, str::from_utf8(bytes)) {
+            (Opened::Made(kept), Ok(text)) => {
+                keep(kept, text)?;
+                Ok(bytes.len())
+            }
+            _ => unsupported(),
+        }
     }
 
     fn flush(&mut self) -> io::Result<()> {
-        unsupported()
+        Ok(())
     }
 }
 
@@ -201,9 +218,11 @@ impl<'a, R> Files for Call<'a, R> {
     fn open_file(&self, _how: &OpenOptions, path: &str) -> io::Result<Opened<'a>> {
         for (name, text) in self.files {
             if *name == path {
-                let left = text.as_bytes();
-                return Ok(Opened { left });
+                return Ok(Opened::Read(text.as_bytes()));
             }
+        }
+        if path == MADE {
+            return Ok(Opened::Made(self.made));
         }
         Err(io::Error::from(io::ErrorKind::NotFound))
     }
@@ -212,8 +231,14 @@ impl<'a, R> Files for Call<'a, R> {
         unsupported()
     }
 
-    fn metadata(&self, _path: &str) -> io::Result<Metadata> {
-        unsupported()
+    // All files that can be read are one to who asks for their device and their number there.
+    fn metadata(&self, path: &str) -> io::Result<Metadata> {
+        for (name, text) in self.files {
+            if *name == path {
+                return Ok(Metadata::of_file(text.len() as u64));
+            }
+        }
+        Err(io::Error::from(io::ErrorKind::NotFound))
     }
 
     fn symlink_metadata(&self, _path: &str) -> io::Result<Metadata> {

@@ -1,9 +1,9 @@
 use Rattle.std.proofs.Common.{rules, ap, ◌≡◌, Ok, Err, inr, map, string_bytes}
 use Rattle.clap.specs.Words.{fault_of}
 use Rattle.xm_day.specs.declared.faults.DayFault.TheVariants.{WriteFailed}
-use Rattle.xm_program.specs.Requests.{AnswersWords, asked_of, check, day_app, run}
+use Rattle.xm_program.specs.Requests.{AnswersWords, asked_of, check, day_app, run, run_answered}
 use Rattle.xm_program.specs.declared.requests.Failure.TheVariants.{Day}
-use Rattle.xm_program.specs.declared.requests.Request.TheVariants.{Run, Check, Help}
+use Rattle.xm_program.specs.declared.requests.Request.TheVariants.{Run, RunAnswered, Check, Help}
 use Rattle.xm_program.proofs.Ends.{all-done, asks-help, fault-done, refused-done}
 use Rattle.xm_program.proofs.program.answer.Goals as goal
 
@@ -19,6 +19,15 @@ returns-in_err-run_files-in-Run g c =
     let answered : AnswersWords (fault_of day_app words) (asked_of words) (Ok (Run c.in-Run.segment c.in-Run.orders c.in-Run.workers)) = search rules in
     let is : c.from_residual-in_err-run_files-in-Run.result ≡ Err (Day met.field-0.0) = search rules in
     rw is (fault-done _ _ (run c.in-Run.segment.now c.in-Run.orders.now c.in-Run.workers) _ _ met.field-0.0 answered.0 answered.1 met.ensures.ends (λ h. ap g.W.Write.contents (met.ensures.untouched h)))
+
+pub returns-in_err-answer_files-in-RunAnswered : goal.returns-in_err-answer_files-in-RunAnswered
+returns-in_err-answer_files-in-RunAnswered g c =
+    let words = map string_bytes c.args.words.now in
+    let met = c.in_err-answer_files-in-RunAnswered in
+    let it = c.in-RunAnswered in
+    let answered : AnswersWords (fault_of day_app words) (asked_of words) (Ok (RunAnswered it.segment it.orders it.answers)) = search rules in
+    let is : c.from_residual-in_err-answer_files-in-RunAnswered.result ≡ Err (Day met.field-0.0) = search rules in
+    rw is (fault-done _ _ (run_answered it.segment.now it.orders.now it.answers.now) _ _ met.field-0.0 answered.0 answered.1 met.ensures.ends (λ h. ap g.W.Write.contents (met.ensures.untouched h)))
 
 pub returns-in_err-check_file-in-Check : goal.returns-in_err-check_file-in-Check
 returns-in_err-check_file-in-Check g c =
@@ -40,6 +49,13 @@ returns-in_ok-run_files-in-Run g c =
     let words = map string_bytes c.args.words.now in
     let answered : AnswersWords (fault_of day_app words) (asked_of words) (Ok (Run c.in-Run.segment c.in-Run.orders c.in-Run.workers)) = search rules in
     all-done _ _ (run c.in-Run.segment.now c.in-Run.orders.now c.in-Run.workers) _ _ answered.0 answered.1 c.in_ok-run_files-in-Run.ensures.ends
+
+pub returns-in_ok-answer_files-in-RunAnswered : goal.returns-in_ok-answer_files-in-RunAnswered
+returns-in_ok-answer_files-in-RunAnswered g c =
+    let words = map string_bytes c.args.words.now in
+    let it = c.in-RunAnswered in
+    let answered : AnswersWords (fault_of day_app words) (asked_of words) (Ok (RunAnswered it.segment it.orders it.answers)) = search rules in
+    all-done _ _ (run_answered it.segment.now it.orders.now it.answers.now) _ _ answered.0 answered.1 c.in_ok-answer_files-in-RunAnswered.ensures.ends
 
 pub returns-in_ok-check_file-in-Check : goal.returns-in_ok-check_file-in-Check
 returns-in_ok-check_file-in-Check g c =
