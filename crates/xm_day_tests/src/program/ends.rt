@@ -62,16 +62,26 @@ pub struct End {
     pub written: Printed,
 }
 
+/// Whether the program ends so, what it writes to the file that it makes aside.
+fn has_told<'a>(
+    rt: &'a (impl Abort + AllocGlobal + Threads + Wait + Sync),
+    output: Stream,
+    end: &End,
+    made: &'a Mutex<String>,
+) -> bool {
+    let mut call = Call::new(rt, end.words, FILES, made, output);
+    let status = run_program(&call);
+    status == ExitCode::from(end.status)
+        && end.printed.is(call.printed.get_mut().as_str())
+        && end.complained.is(call.complained.get_mut().as_str())
+}
+
 /// Compares how the program ends.
 fn is_end(rt: &(impl Abort + AllocGlobal + Threads + Wait + Sync), output: Stream, end: &End) {
     let mut made = Mutex::new(String::new(rt.alloc()));
-    let mut call = Call::new(rt, end.words, FILES, &made, output);
-    let status = run_program(&call);
-    let is_told = end.printed.is(call.printed.get_mut().as_str())
-        && end.complained.is(call.complained.get_mut().as_str());
-    let is_told = is_told && end.written.is(made.get_mut().as_str());
+    let has_told = has_told(rt, output, end, &made);
     assert!(rt;
-        status == ExitCode::from(end.status) && is_told,
+        has_told && end.written.is(made.get_mut().as_str()),
         "of {:?}",
         end.words
     );
