@@ -1,0 +1,61 @@
+//! The day of a case, and what it gives.
+
+use crate::differences;
+use crate::texts::{self, CaseFault};
+use std::fs;
+use std::rt::Files;
+use xm_day::DayFault;
+use xm_names::Storage;
+use xm_program::{Input, fault_line, open_input, run_answered};
+
+/// Runs the day of a case, prints whether it gives what is stored, and tells it.
+pub fn is_as_stored<R: AllocGlobal + Files + Print>(rt: &R, name: &str) -> Result<bool, CaseFault> {
+    let mut statement = Vec::new(rt.alloc());
+    let mut answers = Vec::new(rt.alloc());
+    let ended = run_day(rt, name, &mut statement, &mut answers)?;
+    match ended {
+        Ok(()) => compare(rt, name, b"", statement.as_slice(), answers.as_slice()),
+        Err(fault) => compare(rt, name, fault_line(fault).as_slice(), b"", b""),
+    }
+}
+
+/// Writes the statement and the answers of the day of a case.
+fn run_day<R: AllocGlobal + Files>(
+    rt: &R,
+    name: &str,
+    statement: &mut Vec<u8>,
+    answers: &mut Vec<u8>,
+) -> Result<Result<(), DayFault>, CaseFault> {
+    let own = texts::path(rt, name, "segment.toml")?;
+    let orders = texts::path(rt, name, "orders.csv")?;
+    let mut segment = open_segment(rt, own.as_str());
+    let mut orders = open_input(|path| fs::open(rt, path), orders.as_str());
+    let storage = Storage::with_fixed_seed(rt.alloc());
+    Ok(run_answered(storage, &mut segment, &mut orders, statement, answers))
+}
+
+/// The segment file of a case: its own, or the one that all others have.
+fn open_segment<R: Files>(rt: &R, own: &str) -> Input<R::File> {
+    match open_input(|path| fs::open(rt, path), own) {
+        Input::Opened(file) => Input::Opened(file),
+        Input::Unopened => open_input(|path| fs::open(rt, path), "segment.toml"),
+    }
+}
+
+/// Compares what a case gives with what is stored, of which each text may be empty.
+fn compare<R: AllocGlobal + Files + Print>(
+    rt: &R,
+    name: &str,
+    fault: &[u8],
+    statement: &[u8],
+    answers: &[u8],
+) -> Result<bool, CaseFault> {
+    let faults = differences::is_stored(rt, name, "fault", fault)?;
+    let statements = differences::is_stored(rt, name, "statement", statement)?;
+    let answers = differences::is_stored(rt, name, "answers.csv", answers)?;
+    if faults && statements && answers {
+        texts::said(println!(rt; "{name} as stored"))?;
+        return Ok(true);
+    }
+    Ok(false)
+}
