@@ -1,4 +1,4 @@
-//! `xetra_cases`: runs the days of `examples/cases` whose names are its words, and compares what each gives with what is stored.
+//! `xetra_cases`: runs the days of `crates/xetra_cases/data` whose names are its words, and compares what each gives with what is stored.
 //! Prints a line for each case, and where one differs the first line that does.
 #![tactic(auto)]
 
