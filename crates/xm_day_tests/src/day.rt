@@ -1,10 +1,8 @@
 mod growths;
-mod whole_day;
 mod workers;
 
 use crate::files::fixtures::{
-    BAD_WIDTHS, CASCADE, ERROR_KINDS, Failure, HEADER, NO_SECURITY, ORDERS, OneByteReader, SEGMENT,
-    ShortWriter, replaced,
+    CASCADE, ERROR_KINDS, Failure, NO_SECURITY, ORDERS, OneByteReader, SEGMENT, ShortWriter,
 };
 use crate::memory::want_of_memory;
 use std::alloc::Global;
@@ -59,19 +57,6 @@ fn ends(
     assert!(rt; answer == expected && is_written, "{name}");
 }
 
-/// Compares the counts of accepted and of refused rows of the day of two texts, and its statement.
-fn has_statement(
-    rt: &(impl Abort + AllocGlobal),
-    name: &str,
-    segment: &str,
-    orders: &str,
-    counts: (u64, u64),
-    statement: &str,
-) {
-    let (mut segment, mut orders) = (segment.as_bytes(), orders.as_bytes());
-    ends(rt, name, &mut segment, &mut orders, Ok(counts), statement);
-}
-
 /// Compares the fault of the day of two texts, which writes nothing.
 fn has_fault(
     rt: &(impl Abort + AllocGlobal),
@@ -115,136 +100,40 @@ MEMBER BBB 593.5000
 ROWS 11 1
 ";
 
-#[test]
-fn a_day_with_a_cascade(rt: HostRuntime) {
-    has_statement(
-        &rt,
-        "a cascade",
-        SEGMENT,
-        CASCADE,
-        (11, 1),
-        CASCADE_STATEMENT,
-    );
-}
-
-/// What comes after `ORDERS`: how many commands the journal takes, a text, how often it stands there, and how many of its rows
-/// are refused.
-#[derive(Clone, Copy)]
-struct Later {
-    name: &'static str,
-    limit: u32,
-    rows: &'static str,
-    times: u32,
-    refused: u64,
-}
-
-/// A row that is refused, as its name says, by a journal of so many commands.
-macro_rules! refused {
-    ($name:expr, $limit:expr, $rows:expr) => {
-        Later {
-            name: $name,
-            limit: $limit,
-            rows: $rows,
-            times: 1,
-            refused: 1,
-        }
-    };
-}
-
 /// The cancellation of an order that isn't there.
 const CANCELLATION: &str = "cancel,AAA,9,XYZ,,,,,,,,\n";
 
-/// So many cancellations.
-macro_rules! cancelled {
-    ($name:expr, $times:expr) => {
-        Later {
-            name: $name,
-            limit: 100,
-            rows: CANCELLATION,
-            times: $times,
-            refused: $times,
-        }
-    };
-}
+/// How many cancellations come after `ORDERS`: none, and the rows of many batches.
+const CANCELLATIONS: [u32; 7] = [0, 506, 507, 508, 1019, 1020, 3000];
 
-/// Nothing, a row for each refusal that an order file reaches, two of them, and the rows of many batches.
-const LATER: [Later; 16] = [
-    Later {
-        name: "nothing",
-        limit: 100,
-        rows: "",
-        times: 0,
-        refused: 0,
-    },
-    refused!(
-        "UnknownSecurity",
-        100,
-        "enter,AAA,3,ABC,buy,limit,10.00,,10,,,\n"
-    ),
-    refused!(
-        "UnknownMember",
-        100,
-        "enter,CCC,3,XYZ,buy,limit,10.00,,10,,,\n"
-    ),
-    refused!(
-        "BadQuantity",
-        100,
-        "enter,AAA,3,XYZ,buy,limit,10.00,,0,,,\n"
-    ),
-    refused!("BadPrice", 100, "enter,AAA,3,XYZ,buy,limit,10.005,,10,,,\n"),
-    refused!("WrongPhase", 100, "open,,,*,,,,,,,,\n"),
-    refused!(
-        "DuplicateReference",
-        100,
-        "enter,AAA,2,XYZ,buy,limit,10.00,,10,,,\n"
-    ),
-    refused!("UnknownOrder", 100, "cancel,AAA,1,XYZ,,,,,,,,\n"),
-    refused!("JournalFull", 5, "enter,AAA,3,XYZ,buy,limit,10.00,,10,,,\n"),
-    Later {
-        name: "an unknown member, and a price that is off its tick",
-        limit: 100,
-        rows: "enter,ZZZ,1,XYZ,buy,limit,10.00,,10,,,\nenter,AAA,3,XYZ,buy,limit,10.005,,10,,,\n",
-        times: 1,
-        refused: 2,
-    },
-    cancelled!("506 rows", 506),
-    cancelled!("507 rows", 507),
-    cancelled!("508 rows", 508),
-    cancelled!("1,019 rows", 1019),
-    cancelled!("1,020 rows", 1020),
-    cancelled!("3,000 rows", 3000),
-];
-
-/// `ORDERS`, and so often a text behind them.
-fn with_rows(rt: &(impl Abort + AllocGlobal), rows: &str, times: u32) -> String {
+/// `ORDERS`, and so many cancellations behind them.
+fn with_cancellations(rt: &(impl Abort + AllocGlobal), times: u32) -> String {
     let mut orders = String::from_str(rt.alloc(), ORDERS).expect(rt, "memory");
     for _ in 0..times {
-        orders.push_str(rows).expect(rt, "memory");
+        orders.push_str(CANCELLATION).expect(rt, "memory");
     }
     orders
 }
 
-/// Compares the statement of the day of `ORDERS` with what comes after it.
-fn is_counted(rt: &(impl Abort + AllocGlobal), later: &Later) {
-    let journal = (format!(in rt.alloc(); "journal = {}", later.limit)).expect(rt, "memory");
-    let segment = replaced(rt.alloc(), SEGMENT, "journal = 100", journal.as_str());
-    let segment = segment.expect(rt, "a journal");
-    let orders = with_rows(rt, later.rows, later.times);
-    let statement = written(rt, later.refused);
-    has_statement(
+/// Compares the statement of the day of `ORDERS` with so many cancellations after it, each of which is refused.
+fn are_counted(rt: &(impl Abort + AllocGlobal), times: u32) {
+    let refused = u64::from(times);
+    let (orders, statement) = (with_cancellations(rt, times), written(rt, refused));
+    let (mut segment, mut orders) = (SEGMENT.as_bytes(), orders.as_bytes());
+    ends(
         rt,
-        later.name,
-        segment.as_str(),
-        orders.as_str(),
-        (5, later.refused),
+        "many batches",
+        &mut segment,
+        &mut orders,
+        Ok((5, refused)),
         statement.as_str(),
     );
 }
 
 #[test]
-fn refused_rows_are_counted(rt: HostRuntime) {
-    for later in &LATER {
-        is_counted(&rt, later);
+fn rows_of_many_batches_are_counted(rt: HostRuntime) {
+    for times in CANCELLATIONS {
+        are_counted(&rt, times);
     }
 }
 
@@ -255,7 +144,7 @@ const LATE_FAULT: DayFault = DayFault::Orders(FileFault {
 
 #[test]
 fn a_fault_in_a_later_batch(rt: HostRuntime) {
-    let mut orders = with_rows(&rt, CANCELLATION, 2000);
+    let mut orders = with_cancellations(&rt, 2000);
     orders
         .push_str("cancel,AAA,x,XYZ,,,,,,,,\n")
         .expect(&rt, "memory");
@@ -264,79 +153,10 @@ fn a_fault_in_a_later_batch(rt: HostRuntime) {
     has_fault(&rt, "no security", NO_SECURITY, orders, LATE_FAULT);
 }
 
-const BAD_VALUE: DayFault = DayFault::Segment(FileFault {
-    line: 1,
-    cause: FileCause::BadValue,
-});
-
 const BAD_HEADER: DayFault = DayFault::Orders(FileFault {
     line: 1,
     cause: FileCause::BadHeader,
 });
-
-const NINE_NAMES: [&str; 9] = ["A", "B", "C", "D", "E", "F", "G", "H", "I"];
-
-/// `SEGMENT` with a security like its own under each of these names.
-fn segment_of(rt: &(impl Abort + AllocGlobal), names: &[&str]) -> String {
-    let (top, security) = SEGMENT.split_once("[[security]]").expect(rt, "a security");
-    let mut segment = String::from_str(rt.alloc(), top).expect(rt, "memory");
-    for name in names {
-        let named = replaced(rt.alloc(), security, "XYZ", name).expect(rt, "a name");
-        segment.push_str("[[security]]").expect(rt, "memory");
-        segment.push_str(named.as_str()).expect(rt, "memory");
-    }
-    segment
-}
-
-/// The statement of the day of `segment_of` after the opening call of each security has begun.
-fn statement_of(rt: &(impl Abort + AllocGlobal), names: &[&str]) -> String {
-    let mut statement = String::from_str(rt.alloc(), "DAY 20260105\n").expect(rt, "memory");
-    for name in names {
-        let security = format!(in rt.alloc();
-            "SECURITY {name} opening-call\nREFERENCES 10.0000 10.0000\nTOTAL 0 0.0000\n"
-        );
-        statement
-            .push_str(security.expect(rt, "memory").as_str())
-            .expect(rt, "memory");
-    }
-    statement
-        .push_str("MEMBER AAA 0.0000\nMEMBER BBB 0.0000\nROWS 8 0\n")
-        .expect(rt, "memory");
-    statement
-}
-
-/// An opening of all securities.
-const OPENING: &str = orders!("open,,,*,,,,,,,,\n");
-
-#[test]
-fn eight_securities_are_opened(rt: HostRuntime) {
-    let segment = segment_of(&rt, &NINE_NAMES[..8]);
-    let statement = statement_of(&rt, &NINE_NAMES[..8]);
-    has_statement(
-        &rt,
-        "eight securities",
-        segment.as_str(),
-        OPENING,
-        (8, 0),
-        statement.as_str(),
-    );
-}
-
-#[test]
-fn faults_in_order(rt: HostRuntime) {
-    let nine = segment_of(&rt, &NINE_NAMES);
-    let damaged = replaced(rt.alloc(), SEGMENT, "tick = 100", "tick = 0").expect(&rt, "a tick");
-    has_fault(&rt, "a bad tick", damaged.as_str(), "", BAD_VALUE);
-    has_fault(&rt, "no header", nine.as_str(), "", BAD_HEADER);
-    opens_as(&rt, "nine securities", nine.as_str(), OpenFault::TooMany);
-    opens_as(&rt, "no security", NO_SECURITY, OpenFault::NoSecurity);
-    opens_as(&rt, "bad widths", BAD_WIDTHS, OpenFault::BadWidths);
-}
-
-/// Compares the fault of a segment that isn't opened, on a day without rows.
-fn opens_as(rt: &(impl Abort + AllocGlobal), name: &str, segment: &str, fault: OpenFault) {
-    has_fault(rt, name, segment, HEADER, DayFault::Open(fault));
-}
 
 /// Compares what a writer with this room holds, which then fails.
 fn fails_after(

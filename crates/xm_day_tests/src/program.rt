@@ -59,44 +59,19 @@ macro_rules! at {
     };
 }
 
-/// Faults of a file, each with the end of its line.
-const FILE_FAULTS: [(FileFault, &str); 10] = [
+/// Faults of a file that no case shows, each with the end of its line.
+const FILE_FAULTS: [(FileFault, &str); 5] = [
     (at!(0, FileCause::ReadFailed), "line 0: ReadFailed\n"),
     (at!(0, FileCause::TooLong), "line 0: TooLong\n"),
-    (at!(0, FileCause::Syntax), "line 0: Syntax\n"),
-    (at!(8, FileCause::MissingKey), "line 8: MissingKey\n"),
-    (at!(1, FileCause::UnknownKey), "line 1: UnknownKey\n"),
     (at!(10, FileCause::BadValue), "line 10: BadValue\n"),
-    (
-        at!(4_294_967_295, FileCause::DuplicateName),
-        "line 4294967295: DuplicateName\n",
-    ),
-    (at!(1, FileCause::BadHeader), "line 1: BadHeader\n"),
-    (
-        at!(4_294_967_295, FileCause::BadField),
-        "line 4294967295: BadField\n",
-    ),
     (
         at!(1_000_002, FileCause::TooManyRows),
         "line 1000002: TooManyRows\n",
     ),
-];
-
-/// Other faults, each with its line.
-const OTHER_FAULTS: [(DayFault, &str); 4] = [
     (
-        DayFault::Open(OpenFault::NoSecurity),
-        "xetra-day: open: NoSecurity\n",
+        at!(4_294_967_295, FileCause::BadField),
+        "line 4294967295: BadField\n",
     ),
-    (
-        DayFault::Open(OpenFault::TooMany),
-        "xetra-day: open: TooMany\n",
-    ),
-    (
-        DayFault::Open(OpenFault::BadWidths),
-        "xetra-day: open: BadWidths\n",
-    ),
-    (DayFault::WriteFailed, "xetra-day: write failed\n"),
 ];
 
 /// Compares the line by which the program tells of a fault.
@@ -116,24 +91,21 @@ fn has_lines(rt: &(impl Abort + AllocGlobal), fault: &FileFault, end: &str) {
 }
 
 #[test]
-fn each_fault_of_a_file_has_its_line(rt: HostRuntime) {
+fn lines_of_faults_that_no_case_shows(rt: HostRuntime) {
     for (fault, end) in FILE_FAULTS {
         has_lines(&rt, &fault, end);
     }
-    let memory = FileCause::OutOfMemory(want_of_memory(&rt));
-    has_lines(&rt, &at!(0, memory), "line 0: OutOfMemory\n");
-}
-
-#[test]
-fn each_other_fault_has_its_line(rt: HostRuntime) {
-    for (fault, line) in OTHER_FAULTS {
-        has_line(&rt, fault, line);
-    }
     let memory = want_of_memory(&rt);
+    let file = at!(0, FileCause::OutOfMemory(memory));
+    has_lines(&rt, &file, "line 0: OutOfMemory\n");
     let open = DayFault::Open(OpenFault::OutOfMemory(memory));
     has_line(&rt, open, "xetra-day: open: OutOfMemory\n");
-    let day = DayFault::OutOfMemory(memory);
-    has_line(&rt, day, "xetra-day: out of memory\n");
+    has_line(
+        &rt,
+        DayFault::OutOfMemory(memory),
+        "xetra-day: out of memory\n",
+    );
+    has_line(&rt, DayFault::WriteFailed, "xetra-day: write failed\n");
 }
 
 /// A command line of these words, after the program's name.
@@ -447,31 +419,6 @@ fn an_unflushed_statement_is_not_written(rt: HostRuntime) {
 fn an_unflushed_line_is_not_written(rt: HostRuntime) {
     let answer = check_file(rt.alloc(), &mut SEGMENT.as_bytes(), &mut Unflushed);
     assert!(rt; answer == Err(DayFault::WriteFailed));
-}
-
-/// The answers to the rows of `CASCADE`.
-const CASCADE_ANSWERS: &str =
-    "record,security,answer,version,phase,first_trade,trades,quantity,money,rest,best_buy,buy_quantity,best_sell,sell_quantity,last,auction,indicative,indicative_quantity
-2,XYZ,accepted,1,opening-call,0,0,0,0.0000,,,,,,10.0000,10.0000,,
-3,XYZ,accepted,2,continuous,0,0,0,0.0000,,,,,,10.0000,10.0000,,
-4,XYZ,accepted,3,continuous,0,0,0,0.0000,10,10.0000,10,,,10.0000,10.0000,,
-5,XYZ,accepted,4,continuous,0,0,0,0.0000,20,10.0000,10,,,10.0000,10.0000,,
-6,XYZ,accepted,5,continuous,0,0,0,0.0000,30,10.0000,10,,,10.0000,10.0000,,
-7,XYZ,accepted,6,continuous,0,0,0,0.0000,25,10.0000,10,,,10.0000,10.0000,,
-8,XYZ,accepted,7,continuous,0,0,0,0.0000,10,10.0000,10,,,10.0000,10.0000,,
-9,XYZ,accepted,8,continuous,0,4,60,593.5000,0,,,9.8500,5,9.8500,10.0000,,
-10,XYZ,unknown-order,,,,,,,,,,9.8500,5,9.8500,10.0000,,
-11,XYZ,accepted,9,closing-call,4,0,0,0.0000,,,,9.8500,5,9.8500,10.0000,,
-12,XYZ,accepted,10,post-trading,4,0,0,0.0000,,,,,,9.8500,10.0000,,
-13,XYZ,accepted,11,ended,4,0,0,0.0000,,,,,,9.8500,10.0000,,
-";
-
-#[test]
-fn answers_of_a_day(rt: HostRuntime) {
-    let (mut out, mut answers) = (Vec::new(rt.alloc()), Vec::new(rt.alloc()));
-    let ended = answer_day(&rt, CASCADE, &mut out, &mut answers);
-    assert!(rt; ended == Ok(()) && answers.as_slice() == CASCADE_ANSWERS.as_bytes());
-    assert!(rt; out == statement_of(&rt, SEGMENT, CASCADE, 1));
 }
 
 #[test]

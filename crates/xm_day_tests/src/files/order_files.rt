@@ -44,117 +44,6 @@ fn rows_are(
     assert!(rt; rows.as_slice() == expected);
 }
 
-/// Compares the rows of an order file of these bytes.
-fn bytes_are(rt: &(impl Abort + AllocGlobal), orders: &[u8], expected: &[Row]) {
-    let mut orders = orders;
-    rows_are(rt, SEGMENT, &mut orders, expected);
-}
-
-/// A row of the first security.
-macro_rules! first {
-    ($line:expr, $command:expr) => {
-        Row {
-            line: $line,
-            security: 0,
-            command: $command,
-        }
-    };
-}
-
-/// A row of the second security, or of an unknown one where there is one security.
-macro_rules! second {
-    ($line:expr, $command:expr) => {
-        Row {
-            line: $line,
-            security: 1,
-            command: $command,
-        }
-    };
-}
-
-/// The entry of an order.
-macro_rules! entry {
-    ($member:expr, $reference:expr, $side:ident, $kind:expr, $quantity:expr, $validity:expr, $restriction:ident, $condition:ident) => {
-        Command::Enter {
-            member: $member,
-            reference: $reference,
-            side: Side::$side,
-            kind: $kind,
-            quantity: $quantity,
-            validity: $validity,
-            restriction: Restriction::$restriction,
-            condition: Condition::$condition,
-        }
-    };
-}
-
-/// The entry of a free order for the day.
-macro_rules! limited {
-    ($member:expr, $reference:expr, $side:ident, $limit:expr, $quantity:expr) => {
-        entry!(
-            $member,
-            $reference,
-            $side,
-            Kind::Limit($limit),
-            $quantity,
-            Validity::Day,
-            Free,
-            Plain
-        )
-    };
-}
-
-macro_rules! cancel {
-    ($member:expr, $reference:expr) => {
-        Command::Cancel {
-            member: $member,
-            reference: $reference,
-        }
-    };
-}
-
-/// The rows of `ORDERS`.
-const OPENING_CALL: [Row; 5] = [
-    first!(2, limited!(0, 1, Buy, 1000, 10)),
-    first!(3, limited!(1, 1, Sell, 1010, 5)),
-    first!(4, Command::StartOpening),
-    first!(5, limited!(0, 2, Buy, 995, 7)),
-    first!(6, cancel!(0, 1)),
-];
-
-#[test]
-fn rows_of_an_opening_call(rt: HostRuntime) {
-    let text = (format!(in rt.alloc(); "\u{feff}{ORDERS}")).expect(&rt, "memory");
-    bytes_are(&rt, text.as_bytes(), &OPENING_CALL);
-}
-
-/// What is replaced in `ORDERS` by another way to write the same: quotes, carriage returns, blank lines, and a last line
-/// without an end.
-const SAME: [(&str, &str); 9] = [
-    ("command", "\"command\""),
-    ("condition\n", "condition\r\n"),
-    ("condition\n", "condition\n\r\n\n"),
-    ("enter,AAA", "\"enter\",AAA"),
-    (",10,,,\n", ",10,,,\"\"\n"),
-    (",5,,,\n", ",5,,,\r\n"),
-    ("\nopen", "\n\nopen"),
-    ("cancel,AAA", "cancel,\"AAA\""),
-    (",1,XYZ,,,,,,,,\n", ",1,XYZ,,,,,,,,"),
-];
-
-/// Compares the rows of `ORDERS` with these words replaced.
-fn is_the_same(rt: &(impl Abort + AllocGlobal), old: &str, new: &str) {
-    let text = replaced(rt.alloc(), ORDERS, old, new).expect(rt, old);
-    bytes_are(rt, text.as_bytes(), &OPENING_CALL);
-}
-
-#[test]
-fn other_ways_to_write_the_same(rt: HostRuntime) {
-    for (old, new) in &SAME {
-        is_the_same(&rt, old, new);
-    }
-}
-
 /// How many lines end in a text.
 fn lines_in(text: &[u8]) -> u32 {
     let mut lines = 0u32;
@@ -283,185 +172,50 @@ fn damaged_records(rt: HostRuntime) {
     are_damaged(&rt, &OTHER_LENGTHS, &FileCause::Syntax);
 }
 
-/// Each command, kind, validity, restriction and condition.
-const EVERY_WORD: &[u8] = b"enter,AAA,1,XYZ,buy,market,,,10,day,free,plain
-enter,AAA,2,XYZ,sell,limit,10.00,,20,gtc,opening,ioc
-enter,AAA,3,XYZ,buy,limit,9.90,,30,20260106,auctions,fok
-enter,AAA,4,XYZ,buy,limit,9.90,,30,00000000,closing,
-enter,AAA,5,XYZ,sell,stop-market,,9.90,25,,,
-enter,AAA,6,XYZ,sell,stop-limit,9.85,9.90,10,gtc,free,plain
-enter,AAA,7,XYZ,buy,stop-limit,9.851,0,10,,,
-change,AAA,1,XYZ,,,,,5,,,
-change,AAA,2,XYZ,,,10.01,,5,,,
-change,AAA,2,XYZ,,,10.001,,5,,,
-cancel-all,AAA,,XYZ,,,,,,,,
-intraday,,,XYZ,,,,,,,,
-close,,,*,,,,,,,,
-uncross,,,XYZ,,,,,,,,
-end,,,*,,,,,,,,
-";
-
-/// An order of the first member in the first security.
-macro_rules! entered {
-    ($line:expr; $($field:tt)*) => {
-        first!($line, entry!(0, $($field)*))
-    };
-}
-
-/// A change of an order of the first member in the first security.
-macro_rules! changed {
-    ($line:expr, $reference:expr, $limit:expr) => {
-        first!(
-            $line,
-            Command::Change {
-                member: 0,
-                reference: $reference,
-                quantity: 5,
-                limit: $limit,
-            }
-        )
-    };
-}
-
-const EVERY_COMMAND: [Row; 15] = [
-    entered!(2; 1, Buy, Kind::Market, 10, Validity::Day, Free, Plain),
-    entered!(3; 
-        2,
-        Sell,
-        Kind::Limit(1000),
-        20,
-        Validity::TillCancelled,
-        OpeningOnly,
-        Ioc
-    ),
-    entered!(4; 
-        3,
-        Buy,
-        Kind::Limit(990),
-        30,
-        Validity::TillDate(20260106),
-        AuctionsOnly,
-        Fok
-    ),
-    entered!(5; 
-        4,
-        Buy,
-        Kind::Limit(990),
-        30,
-        Validity::TillDate(0),
-        ClosingOnly,
-        Plain
-    ),
-    entered!(6; 
-        5,
-        Sell,
-        Kind::StopMarket(990),
-        25,
-        Validity::Day,
-        Free,
-        Plain
-    ),
-    entered!(7; 
-        6,
-        Sell,
-        Kind::StopLimit {
-            trigger: 990,
-            limit: 985,
-        },
-        10,
-        Validity::TillCancelled,
-        Free,
-        Plain
-    ),
-    entered!(8; 
-        7,
-        Buy,
-        Kind::StopLimit {
-            trigger: 0,
-            limit: 0,
-        },
-        10,
-        Validity::Day,
-        Free,
-        Plain
-    ),
-    changed!(9, 1, None),
-    changed!(10, 2, Some(1001)),
-    changed!(11, 2, Some(0)),
-    first!(12, Command::CancelAll { member: 0 }),
-    first!(13, Command::StartIntraday),
-    first!(14, Command::StartClosing),
-    first!(15, Command::Uncross),
-    first!(16, Command::EndDay),
-];
-
-#[test]
-fn every_command(rt: HostRuntime) {
-    bytes_are(&rt, file_of(&rt, EVERY_WORD).as_slice(), &EVERY_COMMAND);
-}
-
-#[test]
-fn a_damaged_header(rt: HostRuntime) {
-    let titles = replaced(rt.alloc(), HEADER, "member", "Member").expect(&rt, "a title");
-    has_fault(&rt, &mut titles.as_bytes(), 1, FileCause::BadHeader);
-}
-
-/// A header and a record, which needn't be text.
-fn file_of(rt: &(impl Abort + AllocGlobal), record: &[u8]) -> Vec<u8> {
+/// A header and records, which needn't be text.
+fn file_of(rt: &(impl Abort + AllocGlobal), records: &[u8]) -> Vec<u8> {
     let mut text = HEADER.as_bytes().to_vec(rt.alloc()).expect(rt, "memory");
-    text.extend_from_slice(record).expect(rt, "memory");
+    text.extend_from_slice(records).expect(rt, "memory");
     text
 }
 
-#[test]
-fn a_field_that_is_no_text(rt: HostRuntime) {
-    let text = file_of(&rt, b"open,,,*,\xff,,,,,,,\n");
-    has_fault(&rt, &mut text.as_slice(), 2, FileCause::BadField);
-}
+/// Records of which the answers show no more than that a name is unknown.
+const UNKNOWN: &[u8] = b"enter,aaa,1,*,buy,limit,0.0001,,4294967295,,,
+cancel,A\xffA,1,XYZ,,,,,,,,
+";
 
-const UNKNOWN_AND_BAD: &[u8] = b"open,,,XYZ,,,,,,,,
-enter,aaa,1,*,buy,limit,0.0001,,4294967295,,,
-enter,BBB,1,XYZ,sell,limit,0.0001,,0,,,
-enter,BBB,1,XYZ,sell,limit,0.00001,,0,,,
-enter,BBB,1,XYZ,sell,limit,0,,0,,,
-enter,BBB,1,XYZ,sell,limit,1000000000,,0,,,
-\"cancel\",\"B\"\"B\",1,\"X
-Z\",,,,,,,,";
-
-/// The rows of `UNKNOWN_AND_BAD`.
-const REFUSED: [Row; 7] = [
-    first!(2, Command::StartOpening),
-    second!(3, limited!(2, 1, Buy, 1, u32::MAX)),
-    first!(4, limited!(1, 1, Sell, 0, 0)),
-    first!(5, limited!(1, 1, Sell, 0, 0)),
-    first!(6, limited!(1, 1, Sell, 0, 0)),
-    first!(7, limited!(1, 1, Sell, 0, 0)),
-    second!(8, cancel!(2, 1)),
+/// The rows of `UNKNOWN`.
+const UNKNOWN_ROWS: [Row; 2] = [
+    Row {
+        line: 2,
+        security: 1,
+        command: Command::Enter {
+            member: 2,
+            reference: 1,
+            side: Side::Buy,
+            kind: Kind::Limit(1),
+            quantity: u32::MAX,
+            validity: Validity::Day,
+            restriction: Restriction::Free,
+            condition: Condition::Plain,
+        },
+    },
+    Row {
+        line: 3,
+        security: 0,
+        command: Command::Cancel {
+            member: 2,
+            reference: 1,
+        },
+    },
 ];
 
 #[test]
-fn unknown_names_and_bad_prices(rt: HostRuntime) {
-    bytes_are(&rt, file_of(&rt, UNKNOWN_AND_BAD).as_slice(), &REFUSED);
-}
-
-#[test]
-fn a_name_that_is_no_text(rt: HostRuntime) {
-    let text = file_of(&rt, b"cancel,A\xffA,1,XYZ,,,,,,,,");
-    bytes_are(&rt, text.as_slice(), &[first!(2, cancel!(2, 1))]);
-}
-
-/// An opening of all securities, where there are two.
-const ALL: [Row; 2] = [
-    first!(2, Command::StartOpening),
-    second!(2, Command::StartOpening),
-];
-
-#[test]
-fn all_securities(rt: HostRuntime) {
-    let two = (format!(in rt.alloc(); "{SEGMENT}{SECOND}")).expect(&rt, "memory");
-    let orders = file_of(&rt, b"open,,,*,,,,,,,,");
-    rows_are(&rt, two.as_str(), &mut orders.as_slice(), &ALL);
-    rows_are(&rt, NO_SECURITY, &mut orders.as_slice(), &[]);
+fn rows_that_no_answer_shows(rt: HostRuntime) {
+    let unknown = file_of(&rt, UNKNOWN);
+    rows_are(&rt, SEGMENT, &mut unknown.as_slice(), &UNKNOWN_ROWS);
+    let opening = file_of(&rt, b"open,,,*,,,,,,,,");
+    rows_are(&rt, NO_SECURITY, &mut opening.as_slice(), &[]);
 }
 
 /// A segment of eight securities.
@@ -509,8 +263,9 @@ const TOO_MANY_ROWS: FileFault = FileFault {
 
 #[test]
 fn a_slow_reader(rt: HostRuntime) {
+    let rows = read(rt.alloc(), SEGMENT, &mut ORDERS.as_bytes()).expect(&rt, "rows");
     let mut slow = OneByteReader::new(ORDERS, None);
-    rows_are(&rt, SEGMENT, &mut slow, &OPENING_CALL);
+    rows_are(&rt, SEGMENT, &mut slow, rows.as_slice());
 }
 
 /// Compares the fault of `ORDERS`, of which this call fails.

@@ -68,7 +68,7 @@ const SETTINGS: [[u32; 6]; 2] = [[100, 1000, 20, 50, 40, 100], [1, 5000, 0, u32:
 
 #[test]
 fn a_segment_is_read(rt: HostRuntime) {
-    let text = (format!(in rt.alloc(); "\u{feff}{SEGMENT}{SECOND}")).expect(&rt, "memory");
+    let text = (format!(in rt.alloc(); "{SEGMENT}{SECOND}")).expect(&rt, "memory");
     let (config, names) = read(rt.alloc(), &mut text.as_bytes()).expect(&rt, "a segment");
     assert!(rt; (config.today, config.members) == (20_260_105, 2));
     assert!(rt; (names.members(), names.securities()) == (2, 2));
@@ -167,31 +167,9 @@ fn damaged_keys(rt: HostRuntime) {
     are_damaged(&rt, 1, &DAMAGED_SECURITIES);
 }
 
-const NO_TABLE: &str = "date = 0\nmembers = [\"AAA\", \"AAA\"]\nsecurity = [1]\n";
-
 #[test]
-fn no_table_and_no_text(rt: HostRuntime) {
-    text_has_fault(&rt, NO_TABLE, 0, FileCause::BadValue);
+fn a_segment_that_is_no_text(rt: HostRuntime) {
     has_fault(&rt, &mut &b"date = \xff"[..], 0, FileCause::Syntax);
-}
-
-/// Compares the fault of a segment file whose second security is damaged, with a text after it.
-fn second_is_damaged(
-    rt: &(impl Abort + AllocGlobal),
-    (old, new): (&str, &str),
-    after: &str,
-    cause: FileCause,
-) {
-    let second = replaced(rt.alloc(), SECOND, old, new).expect(rt, old);
-    let text = (format!(in rt.alloc(); "{SEGMENT}{second}{after}")).expect(rt, "memory");
-    text_has_fault(rt, text.as_str(), 2, cause);
-}
-
-#[test]
-fn a_damaged_second_security(rt: HostRuntime) {
-    let journal = ("journal = 1", "journal = 0");
-    second_is_damaged(&rt, journal, "", FileCause::BadValue);
-    second_is_damaged(&rt, ("UVW", "XYZ"), SECOND, FileCause::DuplicateName);
 }
 
 #[test]
