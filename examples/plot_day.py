@@ -107,7 +107,8 @@ def read_settings(path, name):
     except OSError as error:
         raise Fault(f"{path}: {error.strerror}") from error
     except (ValueError, TypeError, LookupError) as error:
-        raise Fault(f"{path} is no segment file; 'xetra-day check' says why ({error})") from error
+        why = "'xetra-day check' says whether it is a segment file, and this script reads TOML 1.0 alone"
+        raise Fault(f"{path} can't be read ({error}): {why}") from error
 
 
 def read_answers(path):
