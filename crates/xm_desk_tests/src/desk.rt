@@ -3,7 +3,6 @@
 
 mod auctions;
 mod cascades;
-mod changes;
 mod day;
 mod growths;
 mod opening;
