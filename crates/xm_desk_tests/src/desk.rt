@@ -6,7 +6,6 @@ mod cascades;
 mod day;
 mod growths;
 mod opening;
-mod refusals;
 mod stop_refusals;
 mod trading;
 
