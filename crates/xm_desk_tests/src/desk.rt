@@ -6,7 +6,6 @@ mod cascades;
 mod day;
 mod growths;
 mod opening;
-mod stop_refusals;
 mod trading;
 
 use std::process::Abort;
