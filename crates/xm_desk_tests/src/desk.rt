@@ -6,7 +6,6 @@ mod cascades;
 mod day;
 mod growths;
 mod opening;
-mod trading;
 
 use std::process::Abort;
 use xm_rules::{DeskSettings, Order, OrderKind, Restriction, Side, Validity, Widths};
