@@ -1,7 +1,6 @@
 //! Tests of a desk. What a day is given and what it answers stand in tables: a table is a value, while
 //! each call in a test is proved.
 
-mod auctions;
 mod cascades;
 mod day;
 mod growths;
