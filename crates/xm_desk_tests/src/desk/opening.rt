@@ -31,14 +31,10 @@ fn is_opened(rt: &(impl Abort + AllocGlobal), (members, widths, fault): Opening)
     assert!(rt; answer == fault, "of {members} and {widths:?}");
 }
 
-const OPENINGS: [Opening; 7] = [
+/// As many members as there may be, and one more.
+const OPENINGS: [Opening; 2] = [
     (1000, [1, 999, 2], None),
     (1001, [0, 50, 40], Some(OpenFault::TooMany)),
-    (2, [0, 50, 40], Some(OpenFault::BadWidths)),
-    (2, [20, 0, 40], Some(OpenFault::BadWidths)),
-    (2, [20, 1000, 40], Some(OpenFault::BadWidths)),
-    (2, [20, 50, 1000], Some(OpenFault::BadWidths)),
-    (2, [20, 50, 20], Some(OpenFault::BadWidths)),
 ];
 
 #[test]
