@@ -1,13 +1,15 @@
-//! Tests of a desk. What a day is given and what it answers stand in tables: a table is a value, while
+//! Tests of a desk that no day of files shows: its calls, each once, refused growth, and cascades of hundreds of stops. Rules
+//! and refusals are shown by the cases in `examples/cases`. Commands and answers stand in tables: a table is a value, while
 //! each call in a test is proved.
 
 mod cascades;
 mod day;
 mod growths;
 mod opening;
+mod readers;
 
 use std::process::Abort;
-use xm_rules::{DeskSettings, Order, OrderKind, Restriction, Side, Validity, Widths};
+use xm_rules::{DeskSettings, Widths};
 use xm_ticks::{JournalLimit, Price, TickSize};
 
 pub(crate) fn settings(rt: &impl Abort, limit: u32) -> DeskSettings {
@@ -23,17 +25,4 @@ pub(crate) fn settings(rt: &impl Abort, limit: u32) -> DeskSettings {
         },
         limit: JournalLimit::new(limit).expect(rt, "a limit"),
     }
-}
-
-/// The order that `buy` enters, where its limit is a price.
-fn bought(member: u32, reference: u32, limit: u32, rest: u32) -> Option<Order> {
-    Some(Order {
-        member,
-        reference,
-        side: Side::Buy,
-        kind: OrderKind::Limit(Price::new(limit)?),
-        rest,
-        validity: Validity::Day,
-        restriction: Restriction::Free,
-    })
 }

@@ -75,13 +75,6 @@ macro_rules! change {
     };
 }
 
-/// A command that trades nothing, and leaves trading as it is.
-macro_rules! rests {
-    ($command:expr) => {
-        ($command, 0, 0, 0, Phase::Continuous)
-    };
-}
-
 #[cfg(test)]
 mod desk;
 #[cfg(test)]

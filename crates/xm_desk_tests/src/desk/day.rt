@@ -1,4 +1,4 @@
-use super::{bought, settings};
+use super::settings;
 use std::alloc::Allocator;
 use std::marker::Model;
 use std::process::Abort;
@@ -6,62 +6,32 @@ use xm_desk::{Desk, OpenFault};
 use xm_memory::OutOfMemory;
 use xm_names::Storage;
 use xm_rules::{
-    Auction, CallStage, Command, DeskSettings, Order, Phase, Quote, Refusal, Reply, Side, Stop,
-    Totals, Trade,
+    Command, DeskSettings, Order, OrderKind, Phase, Quote, Refusal, Reply, Side, Stop, Totals,
+    Trade,
 };
 use xm_ticks::Price;
 
 /// A command with the version or the refusal that it is answered with.
 pub type Step = (Command, Result<u64, Refusal>);
 
-/// A limited buy order for the day: the member, the reference, the limit and the rest.
-pub type Bought = (u32, u32, u32, u32);
+/// A trade: the number of its sweep, its price in ticks, its units, and the member and reference that bought and sold.
+pub type Made = (u64, u32, u32, (u32, u32), (u32, u32));
 
-/// A command, the number, quantity and money of the trades that it makes, and the phase after it.
-pub type Traded = (Command, u64, u64, u64, Phase);
+/// A live order: its side, member and reference, its limit in ticks, or 0 for a market order, and its rest.
+pub type Live = (Side, u32, u32, u32, u32);
+
+/// A held stop: member, reference, trigger in ticks and quantity.
+pub type Held = (u32, u32, u32, u32);
 
 /// The net position and the cash of a member, where the desk knows it, and whether it has traded.
 pub type Position = (Option<i64>, Option<i64>, bool);
 
-/// An opening without a price, which leads to continuous trading.
-pub const OPENED: [Traded; 2] = [
-    (
-        Command::StartOpening,
-        0,
-        0,
-        0,
-        Phase::Call(Auction::Opening, CallStage::Ordinary),
-    ),
-    rests!(Command::Uncross),
-];
+/// A quote: version, phase, best limits and references in ticks, and traded units.
+pub type Quoted = (u64, Phase, Option<u32>, Option<u32>, u32, u32, u64);
 
 /// Whether an answer is for want of memory.
 pub fn lacks_memory(answer: &Result<Reply, Refusal>) -> bool {
     matches!(answer, Err(Refusal::OutOfMemory(_)))
-}
-
-/// A row of a day: a command that is given with its answer, or the orders that are live then.
-#[derive(Clone, Copy)]
-pub enum Row {
-    Gives(Step),
-    Leaves(&'static [Bought]),
-}
-
-/// Runs a day, whose journal takes this many commands of a member, row by row.
-pub fn run(rt: &(impl Abort + AllocGlobal), limit: u32, rows: &[Row]) {
-    let mut day = Day::open(rt, rt.alloc(), limit);
-    for row in rows {
-        match row {
-            Row::Gives(step) => day.give_step(rt, step),
-            Row::Leaves(live) => day.buys_are(rt, live),
-        }
-    }
-}
-
-/// Runs a day, whose journal takes this many commands of a member, command by command.
-pub fn run_steps(rt: &(impl Abort + AllocGlobal), limit: u32, steps: &[Step]) {
-    let mut day = Day::open(rt, rt.alloc(), limit);
-    day.give_all(rt, steps);
 }
 
 /// A desk under test. A clause sees nothing of it: the proof of a test is long where it follows what
@@ -117,33 +87,18 @@ impl<A: Allocator + Copy> Day<A> {
         answer
     }
 
-    /// Gives a command and answers the version after it.
-    pub fn give(&mut self, rt: &impl Abort, command: Command) -> Result<u64, Refusal> {
-        match self.apply(rt, command) {
-            Ok(reply) => Ok(reply.version),
-            Err(refusal) => Err(refusal),
-        }
-    }
-
     /// Gives each command, which has to answer the version or the refusal beside it.
     pub fn give_all(&mut self, rt: &impl Abort, steps: &[Step]) {
-        for step in steps {
-            self.give_step(rt, step);
+        for (command, expected) in steps {
+            let answer = version(self.apply(rt, *command));
+            assert!(rt; answer == *expected, "at {command:?}");
         }
     }
 
-    /// Gives a command, which has to answer the version or the refusal beside it.
-    fn give_step(&mut self, rt: &impl Abort, step: &Step) {
-        assert!(rt; self.give(rt, step.0) == step.1, "at {:?}", step.0);
-    }
-
-    /// Gives each command, and compares what it trades and where it leads.
-    pub fn trade_all(&mut self, rt: &impl Abort, commands: &[Traded]) {
-        for (command, trades, quantity, money, phase) in commands {
-            let reply = self.apply(rt, *command).expect(rt, "accepted");
-            let made = (reply.trades, reply.quantity, reply.money);
-            assert!(rt; made == (*trades, *quantity, *money), "at {command:?}");
-            assert!(rt; reply.phase == *phase, "at {command:?}");
+    /// Gives commands, each of which is accepted.
+    pub fn accept(&mut self, rt: &impl Abort, commands: &[Command]) {
+        for command in commands {
+            assert!(rt; self.apply(rt, *command).is_ok(), "at {command:?}");
         }
     }
 
@@ -163,9 +118,25 @@ impl<A: Allocator + Copy> Day<A> {
         assert!(rt; orders.as_slice() == expected);
     }
 
-    /// Compares the live orders with limited buy orders for the day.
-    pub fn buys_are(&self, rt: &impl Abort, expected: &[Bought]) {
-        are_buys(rt, &self.orders().expect(rt, "memory"), expected);
+    /// Compares the live orders and the held stops with what the tables have of them.
+    pub fn has_left(&self, rt: &impl Abort, live: &[Live], held: &[Held]) {
+        are_live(rt, &self.orders().expect(rt, "memory"), live);
+        are_held(rt, &self.stops().expect(rt, "memory"), held);
+    }
+
+    /// Compares the trades.
+    pub fn has_made(&self, rt: &impl Abort, made: &[Made]) {
+        let trades = self.trades();
+        assert!(rt; trades.len() == made.len());
+        for (trade, made) in trades.iter().zip(made) {
+            assert!(rt; is_made(trade, *made), "in place of {made:?}");
+        }
+    }
+
+    /// Compares the quote.
+    pub fn has_quoted(&self, rt: &impl Abort, expected: Quoted) {
+        let quote = self.desk.quote();
+        assert!(rt; quoted(&quote) == expected);
     }
 
     pub fn settings(&self) -> &DeskSettings {
@@ -187,10 +158,7 @@ impl<A: Allocator + Copy> Day<A> {
 
     /// The price of a call in ticks, with its volume.
     pub fn indicative(&self) -> Option<(u32, u64)> {
-        match self.desk.indicative() {
-            None => None,
-            Some((price, volume)) => Some((price.get(), volume)),
-        }
+        in_ticks(self.desk.indicative())
     }
 
     /// The best limits in ticks of the active buys and sells.
@@ -199,8 +167,21 @@ impl<A: Allocator + Copy> Day<A> {
         (ticks(buy), ticks(sell))
     }
 
-    pub fn quote(&self) -> Quote {
-        self.desk.quote()
+    /// The best limit in ticks that is worse than this one, or the best of all, with its units.
+    pub fn level_after(&self, side: Side, after: Option<u32>) -> Option<(u32, u64)> {
+        let after = match after {
+            None => None,
+            Some(limit) => Price::new(limit),
+        };
+        in_ticks(self.desk.level_after(side, after))
+    }
+
+    pub fn market_sum(&self, side: Side) -> u64 {
+        self.desk.market_sum(side)
+    }
+
+    pub fn units_left(&self, member: u32, reference: u32) -> u32 {
+        self.desk.units_left(member, reference)
     }
 
     /// The net position and the cash of a member, and whether it has traded.
@@ -221,22 +202,79 @@ impl<A: Allocator + Copy> Day<A> {
     }
 }
 
+/// What the tables have of an answer.
+fn version(answer: Result<Reply, Refusal>) -> Result<u64, Refusal> {
+    match answer {
+        Ok(reply) => Ok(reply.version),
+        Err(refusal) => Err(refusal),
+    }
+}
+
+/// What the tables have of a quote.
+fn quoted(quote: &Quote) -> Quoted {
+    (
+        quote.version,
+        quote.phase,
+        ticks(quote.best_buy),
+        ticks(quote.best_sell),
+        quote.ref1.get(),
+        quote.ref2.get(),
+        quote.quantity,
+    )
+}
+
 /// A limit in ticks.
-pub fn ticks(limit: Option<Price>) -> Option<u32> {
+fn ticks(limit: Option<Price>) -> Option<u32> {
     match limit {
         Some(limit) => Some(limit.get()),
         None => None,
     }
 }
 
-fn is_bought(order: &Order, expected: Bought) -> bool {
-    let (member, reference, limit, rest) = expected;
-    bought(member, reference, limit, rest) == Some(*order)
+/// A limit in ticks, with units.
+fn in_ticks(level: Option<(Price, u64)>) -> Option<(u32, u64)> {
+    match level {
+        Some((limit, units)) => Some((limit.get(), units)),
+        None => None,
+    }
 }
 
-fn are_buys(rt: &impl Abort, orders: &[Order], expected: &[Bought]) {
-    assert!(rt; orders.len() == expected.len());
-    for (order, expected) in orders.iter().zip(expected) {
-        assert!(rt; is_bought(order, *expected));
+pub fn is_made(trade: &Trade, made: Made) -> bool {
+    let bought = (trade.buyer, trade.buy_ref);
+    let sold = (trade.seller, trade.sell_ref);
+    (trade.sweep, trade.price.get(), trade.quantity, bought, sold) == made
+}
+
+fn limit_of(order: &Order) -> u32 {
+    match order.kind {
+        OrderKind::Market => 0,
+        OrderKind::Limit(limit) => limit.get(),
+    }
+}
+
+fn is_live(order: &Order, live: Live) -> bool {
+    let (side, member, reference, limit, rest) = live;
+    order.side == side
+        && order.member == member
+        && order.reference == reference
+        && limit_of(order) == limit
+        && order.rest == rest
+}
+
+fn are_live(rt: &impl Abort, orders: &[Order], live: &[Live]) {
+    assert!(rt; orders.len() == live.len());
+    for (order, live) in orders.iter().zip(live) {
+        assert!(rt; is_live(order, *live));
+    }
+}
+
+fn is_held(stop: &Stop, held: Held) -> bool {
+    (stop.member, stop.reference, stop.trigger, stop.quantity) == held
+}
+
+fn are_held(rt: &impl Abort, stops: &[Stop], held: &[Held]) {
+    assert!(rt; stops.len() == held.len());
+    for (stop, held) in stops.iter().zip(held) {
+        assert!(rt; is_held(stop, *held), "in place of {held:?}");
     }
 }

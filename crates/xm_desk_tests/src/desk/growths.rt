@@ -124,7 +124,7 @@ impl Refused {
         assert!(rt; like.journal() == COMMANDS.as_slice());
         assert!(rt; like.phase() == Phase::Continuous);
         assert!(rt; like.trades().len() == 6);
-        like.buys_are(rt, &[(0, 2, 990, 7)]);
+        like.has_left(rt, &[(Side::Buy, 0, 2, 990, 7)], &[]);
     }
 
     /// Runs a day that makes room for so many commands ahead, in which the request of this number is refused, and answers
