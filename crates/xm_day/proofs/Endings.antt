@@ -1,8 +1,8 @@
 -- How a run of a day ends.
-use Rattle.std.proofs.Common.{◌≡◌, refl, ℕ, ◌≤◌, nat_lt, Bool, false, List, [], length, Option, None, Some, Result, Ok, Err, IfSome, sym, subst}
+use Rattle.std.proofs.Common.{◌≡◌, refl, ℕ, ◌≤◌, nat_lt, false, List, [], length, Option, None, Some, Result, Ok, Err, IfSome, sym, subst}
 use Rattle.std.specs.Result.{IsErrAnd}
 use Rattle.std.proofs.lemmas.Bool.{le-ltb}
-use Rattle.xm_day.specs.Answers.{AreRowsOf, DesksEnd, HasTaken, InFileOrder, IsSegmentOf, OrdersEnd, WritesPart}
+use Rattle.xm_day.specs.Answers.{AreRowsOf, AsksNothing, DesksEnd, HasTaken, InFileOrder, IsSegmentOf, OrdersEnd, WritesPart}
 use Rattle.xm_day.specs.Checks.{CheckEnds, OpeningEnds}
 use Rattle.xm_day.specs.declared.desks.OpenDay.{OpenDay}
 use Rattle.xm_files.specs.Batches.{rows_from, text_left}
@@ -14,6 +14,7 @@ use Rattle.xm_day.specs.Answers.{IsOfWriting}
 use Rattle.xm_files.specs.Names.{NameLists}
 use Rattle.xm_segment.specs.declared.config.SegmentConfig.{SegmentConfig}
 use Rattle.xm_day.specs.declared.faults.DayFault.{DayFault}
+use Rattle.xm_day.specs.declared.report.AskedTexts.{AskedTexts}
 use Rattle.xm_day.specs.declared.faults.DayFault.TheVariants.{Segment, Orders, Open, OutOfMemory, WriteFailed}
 use Rattle.xm_segment.specs.declared.rows.Row.{Row}
 
@@ -29,13 +30,13 @@ OrdersEnd-of_writing days config names rows orders old new (Orders fault) read s
 OrdersEnd-of_writing days config names rows orders old new (Open fault) read sound is failed = absurd is
 
 -- want of memory is told as such
-pub if_memory : (asked : Bool) (names : NameLists) (config : SegmentConfig) (rows : List Row) (result : Result OpenDay DayFault) → IsErrAnd result (λ fault. fault ≡ OutOfMemory tt) → segment_fault config ≡ None
-    → (asked ≡ false → LacksMemoryAt (opening_day config) rows) → HasTaken asked names config rows result
+pub if_memory : (asked : AskedTexts) (names : NameLists) (config : SegmentConfig) (rows : List Row) (result : Result OpenDay DayFault) → IsErrAnd result (λ fault. fault ≡ OutOfMemory tt) → segment_fault config ≡ None
+    → (AsksNothing asked → LacksMemoryAt (opening_day config) rows) → HasTaken asked names config rows result
 if_memory asked names config rows (Ok d) is sound lacks = absurd is
 if_memory asked names config rows (Err fault) is sound lacks = subst (λ (f : DayFault). HasTaken asked names config rows (Err f)) (sym is) (sound, lacks)
 
 -- the desks that took the rows in their order are those of their one day
-pub taken-ends : (asked : Bool) (names : NameLists) (config : SegmentConfig) (rows : List Row) (result : Result OpenDay DayFault) → HasTaken asked names config rows result → DesksEnd InFileOrder config rows result
+pub taken-ends : (asked : AskedTexts) (names : NameLists) (config : SegmentConfig) (rows : List Row) (result : Result OpenDay DayFault) → HasTaken asked names config rows result → DesksEnd InFileOrder config rows result
 taken-ends asked names config rows (Ok d) has = (has.sound, has.each, has.day_is)
 taken-ends asked names config rows (Err (Open fault)) has = has
 taken-ends asked names config rows (Err (OutOfMemory _)) has = has.0

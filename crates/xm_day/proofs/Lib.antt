@@ -11,3 +11,4 @@ mod RoundRows
 mod Stands
 mod Worked
 mod Tells
+mod Feeding

@@ -1,7 +1,7 @@
 -- The answers that a day tells of its rows.
 use Rattle.std.proofs.Common.{◌≡◌, ℕ, ◌+◌, ◌<◌, Bool, true, false, List, [], ◌∷◌, ◌++◌, append_assoc, length, map, slice_get, get_or, take, Option, Some, None, Result, Ok, Err, unwrap_or, refl, ap, sym, ◌∙◌}
 use Rattle.std.proofs.lemmas.List.{append-nil, take_more}
-use Rattle.xm_day.specs.Answers.{AreAnswersOf, AreRowsOf}
+use Rattle.xm_day.specs.Answers.{AreRowsOf, IsAsked, IsSegmentOf, IsTextOfFiles, IsTextOfRows}
 use Rattle.xm_day.specs.Day.{Day as TheDay, after_row, after_rows, counted, day_of, opening_day, row_answer}
 use Rattle.xm_day.specs.RowAnswers.{answer_line, answers_header, answers_of, answers_text, told_of, where_asked, with_text}
 use Rattle.xm_files.specs.Names.{NameLists}
@@ -75,8 +75,19 @@ answers-joined asked names config taken rows at before after so_far is step =
     ∙ append_assoc answers_header (answers_of names (opening_day config) taken) (answers_of names (after_rows (opening_day config) taken) rows)
     ∙ ap (λ (text : List ℕ). answers_header ++ text) (sym (answers_of-append names (opening_day config) taken rows)))
 
--- what is told where answers are asked for
-pub told-answers : (asked : Bool) (orders : Option (List ℕ)) (config : SegmentConfig) (names : NameLists) (rows : List Row) (told : Option (List ℕ)) → told ≡ where_asked asked (answers_text names config rows) → AreRowsOf orders config names rows → asked ≡ true
-    → AreAnswersOf orders config names (unwrap_or told [])
-told-answers false orders config names rows told is read one = cc
-told-answers true orders config names rows told is read one = record { rows = rows; are_rows = read; text_is = ap (λ (o : Option (List ℕ)). unwrap_or o []) is }
+-- what is told where a text is asked for
+pub told-text : (text_of : NameLists → SegmentConfig → List Row → List ℕ) (asked : Bool) (orders : Option (List ℕ)) (config : SegmentConfig) (names : NameLists) (rows : List Row) (told : Option (List ℕ))
+    → told ≡ where_asked asked (text_of names config rows) → AreRowsOf orders config names rows → IsAsked (IsTextOfRows text_of orders config names) asked (unwrap_or told [])
+told-text text_of false orders config names rows told is read = ap (λ (o : Option (List ℕ)). unwrap_or o []) is
+told-text text_of true orders config names rows told is read = record { rows = rows; are_rows = read; text_is = ap (λ (o : Option (List ℕ)). unwrap_or o []) is }
+
+-- the same of the rows of two files
+pub told-files : (text_of : NameLists → SegmentConfig → List Row → List ℕ) (asked : Bool) (segment orders : Option (List ℕ)) (config : SegmentConfig) (names : NameLists) (text : List ℕ)
+    → IsSegmentOf segment config names → IsAsked (IsTextOfRows text_of orders config names) asked text → IsAsked (IsTextOfFiles text_of segment orders) asked text
+told-files text_of false segment orders config names text read is = is
+told-files text_of true segment orders config names text read is = record { config = config; names = names; is_segment = read; is_of_rows = is }
+
+-- the state of the security of a row that desks took
+pub state-behind : (old new : List Journal) (a r : ℕ) (row : Row) (answer : Result Reply Refusal) → after_row (day_of old a r) row ≡ counted (day_of new a r) answer
+    → slice_get (after_row (day_of old a r) row).states row.security ≡ slice_get (map replay new) row.security
+state-behind old new a r row answer after = ap (λ (states : List State). slice_get states row.security) (ap (λ (d : TheDay). d.states) after ∙ counted-states (day_of new a r) answer)

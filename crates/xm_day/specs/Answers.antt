@@ -1,5 +1,5 @@
 -- How the run of a day ends: what it answers, and what the output holds before and after. The bytes of a file may be unknown.
-use Rattle.std.specs.Prelude.{◌≡◌, ℕ, ◌+◌, Bool, false, List, [], length, Option, None, Some, Result, Ok, Err, IfSome}
+use Rattle.std.specs.Prelude.{◌≡◌, ℕ, ◌+◌, Bool, false, true, List, [], length, Option, None, Some, Result, Ok, Err, IfSome}
 use Rattle.std.specs.Bool.{OnFalse, OnTrue}
 use Rattle.std.specs.Io.KnownBytes.{Appends}
 use Rattle.xm_day.specs.Day.{Day, LacksMemoryAt, day, day_of, opening_day}
@@ -10,11 +10,14 @@ use Rattle.xm_files.specs.FileFaults.{is_from_outside}
 use Rattle.xm_files.specs.Names.{NameLists}
 use Rattle.xm_files.specs.Orders.{orders_of}
 use Rattle.xm_files.specs.Segment.{segment_of}
+use Rattle.xm_day.specs.Feeds.{feed_of}
 use Rattle.xm_day.specs.RowAnswers.{answers_text, where_asked}
 use Rattle.xm_day.specs.Statement.{statement}
 use Rattle.xm_segment.specs.declared.config.SegmentConfig.{SegmentConfig}
-use Rattle.xm_day.specs.declared.report.AnsweredDay.{AnsweredDay}
+use Rattle.xm_day.specs.declared.report.AskedTexts.{AskedTexts}
 use Rattle.xm_day.specs.declared.report.DayReport.{DayReport}
+use Rattle.xm_day.specs.declared.report.ToldDay.{ToldDay}
+use Rattle.xm_day.specs.declared.told.Told.{Told}
 use Rattle.xm_day.specs.declared.faults.DayFault.{DayFault}
 use Rattle.xm_day.specs.declared.faults.DayFault.TheVariants.{Segment, Orders, Open, OutOfMemory, WriteFailed}
 use Rattle.xm_files.specs.declared.file_faults.FileFault.{FileFault}
@@ -62,20 +65,31 @@ pub record WritesPart (days : Day → Type 0) (names : NameLists) (old new : Opt
   pub is_of_rows : days day
   pub written : AppendsPrefix old new (statement_of names day)
 
--- desks have taken these rows in their order: their day is that of the rows, and so are the answers, where they are asked for
-pub record TookRows (asked : Bool) (names : NameLists) (config : SegmentConfig) (rows : List Row) (d : OpenDay) : Type 0 where
+-- the statement alone is asked for
+pub record AsksNothing (asked : AskedTexts) : Type 0 where
+  pub answers : asked.answers ≡ false
+  pub depth : asked.depth ≡ false
+
+-- nothing is told beside it
+pub record TellsNothing (told : Told) : Type 0 where
+  pub answers : told.answers ≡ None
+  pub depth : told.depth ≡ None
+
+-- desks have taken these rows in their order: their day is that of the rows, and so are the texts that are asked for
+pub record TookRows (asked : AskedTexts) (names : NameLists) (config : SegmentConfig) (rows : List Row) (d : OpenDay) : Type 0 where
   pub sound : segment_fault config ≡ None
   pub each : length d.desks.items ≡ length config.securities
   pub day_is : day_of d.desks.items d.report.accepted d.report.refused ≡ day config rows
   pub all : d.report.accepted + d.report.refused ≡ length rows
-  pub answers_are : d.answers ≡ where_asked asked (answers_text names config rows)
+  pub answers_are : d.told.answers ≡ where_asked asked.answers (answers_text names config rows)
+  pub depth_is : d.told.depth ≡ where_asked asked.depth (feed_of names config rows)
 
--- the desks have taken these rows, unless the segment can't be opened or memory is wanting, where no answers are asked for at
--- one of them
-abbrev pub HasTaken : Bool → NameLists → SegmentConfig → List Row → Result OpenDay DayFault → Type 0
+-- the desks have taken these rows, unless the segment can't be opened or memory is wanting, where nothing is asked for at one
+-- of them
+abbrev pub HasTaken : AskedTexts → NameLists → SegmentConfig → List Row → Result OpenDay DayFault → Type 0
 HasTaken asked names config rows (Ok d) = TookRows asked names config rows d
 HasTaken asked names config rows (Err (Open fault)) = IsOpenFault config fault
-HasTaken asked names config rows (Err (OutOfMemory _)) = (segment_fault config ≡ None) × (asked ≡ false → LacksMemoryAt (opening_day config) rows)
+HasTaken asked names config rows (Err (OutOfMemory _)) = (segment_fault config ≡ None) × (AsksNothing asked → LacksMemoryAt (opening_day config) rows)
 HasTaken asked names config rows (Err fault) = ⊥
 
 -- the desks are those of a day that the rows may have, unless the segment can't be opened or memory is wanting
@@ -111,21 +125,26 @@ DayEnds days segment orders old new (Err (Segment fault)) = IsFileFault segment_
 DayEnds days segment orders old new result =
     (config : SegmentConfig) × (names : NameLists) × IsSegmentOf segment config names × OrdersEnd days config names orders old new result
 
--- the text of the answers to the rows of an order file
-pub record AreAnswersOf (orders : Option (List ℕ)) (config : SegmentConfig) (names : NameLists) (text : List ℕ) : Type 0 where
+-- the text that is told of the rows of an order file
+pub record IsTextOfRows (text_of : NameLists → SegmentConfig → List Row → List ℕ) (orders : Option (List ℕ)) (config : SegmentConfig) (names : NameLists) (text : List ℕ) : Type 0 where
   pub rows : List Row
   pub are_rows : AreRowsOf orders config names rows
-  pub text_is : text ≡ answers_text names config rows
+  pub text_is : text ≡ text_of names config rows
 
 -- the same of a segment file and an order file
-pub record AreAnswers (segment orders : Option (List ℕ)) (text : List ℕ) : Type 0 where
+pub record IsTextOfFiles (text_of : NameLists → SegmentConfig → List Row → List ℕ) (segment orders : Option (List ℕ)) (text : List ℕ) : Type 0 where
   pub config : SegmentConfig
   pub names : NameLists
   pub is_segment : IsSegmentOf segment config names
-  pub answers : AreAnswersOf orders config names text
+  pub is_of_rows : IsTextOfRows text_of orders config names text
 
--- how a day ends, without the answers that it gave
-abbrev pub report_in : Result AnsweredDay DayFault → Result DayReport DayFault
+-- a text is what was asked for, and empty where it wasn't
+abbrev pub IsAsked : (List ℕ → Type 0) → Bool → List ℕ → Type 0
+IsAsked Is true text = Is text
+IsAsked Is false text = text ≡ []
+
+-- how a day ends, without the texts that it told
+abbrev pub report_in : Result ToldDay DayFault → Result DayReport DayFault
 report_in (Ok d) = Ok d.report
 report_in (Err fault) = Err fault
 

@@ -21,6 +21,7 @@ use Rattle.xm_rules.specs.declared.phases.Phase.TheVariants.{PreTrading, Call, C
 use Rattle.xm_rules.specs.declared.replies.Refusal.{Refusal}
 use Rattle.xm_rules.specs.declared.replies.Refusal.TheVariants as refused
 use Rattle.xm_segment.specs.Opening.{settings_of}
+use Rattle.xm_day.specs.MarketDepth.{depth_header}
 use Rattle.xm_day.specs.RowAnswers.{answers_header}
 use Rattle.xm_files.specs.Names.{NameLists}
 use Rattle.xm_segment.specs.declared.config.SecurityConfig.{SecurityConfig}
@@ -91,6 +92,28 @@ cascade_answers =
     ++ codes "12,XYZ,accepted,10,post-trading,4,0,0,0.0000,,,,,,9.8500,10.0000,,\n"
     ++ codes "13,XYZ,accepted,11,ended,4,0,0,0.0000,,,,,,9.8500,10.0000,,\n"
 
+-- the levels behind the rows of that day
+abbrev pub cascade_depth : List ℕ
+cascade_depth =
+    depth_header
+    ++ codes "4,XYZ,buy,0,,0\n"
+    ++ codes "4,XYZ,buy,1,10.0000,10\n"
+    ++ codes "4,XYZ,sell,0,,0\n"
+    ++ codes "5,XYZ,buy,0,,0\n"
+    ++ codes "5,XYZ,buy,1,10.0000,10\n"
+    ++ codes "5,XYZ,buy,2,9.9000,20\n"
+    ++ codes "5,XYZ,sell,0,,0\n"
+    ++ codes "6,XYZ,buy,0,,0\n"
+    ++ codes "6,XYZ,buy,1,10.0000,10\n"
+    ++ codes "6,XYZ,buy,2,9.9000,20\n"
+    ++ codes "6,XYZ,buy,3,9.8500,30\n"
+    ++ codes "6,XYZ,sell,0,,0\n"
+    ++ codes "9,XYZ,buy,0,,0\n"
+    ++ codes "9,XYZ,sell,0,,0\n"
+    ++ codes "9,XYZ,sell,1,9.8500,5\n"
+    ++ codes "12,XYZ,buy,0,,0\n"
+    ++ codes "12,XYZ,sell,0,,0\n"
+
 -- two sells at one limit, of which one is for auctions alone, and a market buy for the closing auction alone
 abbrev pub restricted_state : Phase → State
 restricted_state phase = record cascade_state {
@@ -98,6 +121,15 @@ restricted_state phase = record cascade_state {
   orders =
       order 1 2 Sell (Limit 985) 5 ∷ record (order 1 3 Sell (Limit 985) 7) { restriction = AuctionsOnly }
       ∷ record (order 0 9 Buy Market 3) { restriction = ClosingOnly } ∷ [];
+}
+
+-- six buys with limits, two of them at the best one, and a market buy, in a call
+abbrev pub crowded_state : State
+crowded_state = record cascade_state {
+  phase = Call auction.Opening Ordinary;
+  orders =
+      order 0 1 Buy (Limit 981) 1 ∷ order 0 2 Buy (Limit 986) 2 ∷ order 0 3 Buy (Limit 983) 3 ∷ order 0 4 Buy (Limit 984) 4 ∷ order 0 5 Buy (Limit 985) 5
+      ∷ order 1 6 Buy (Limit 986) 6 ∷ order 1 7 Buy Market 7 ∷ order 0 8 Buy (Limit 982) 8 ∷ [];
 }
 
 -- all refusals by rules, and their words

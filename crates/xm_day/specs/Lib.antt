@@ -2,6 +2,8 @@ pub mod Answers
 pub mod Checks
 pub mod Day
 pub mod Examples
+pub mod Feeds
+pub mod MarketDepth
 pub mod RowAnswers
 pub mod Standing
 pub mod Statement

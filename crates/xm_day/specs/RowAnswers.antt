@@ -106,7 +106,7 @@ abbrev pub with_text : List ℕ → Option (List ℕ) → Option (List ℕ)
 with_text more None = None
 with_text more (Some text) = Some (text ++ more)
 
--- a text where it is asked for
-abbrev pub where_asked : Bool → List ℕ → Option (List ℕ)
-where_asked false text = None
-where_asked true text = Some text
+-- what is told where it is asked for
+abbrev pub where_asked : {A : Type 0} → Bool → A → Option A
+where_asked false told = None
+where_asked true told = Some told

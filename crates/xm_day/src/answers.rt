@@ -1,10 +1,12 @@
 //! The answers to rows, line by line.
-ghost use Rattle.std.specs.Prelude.{◌≡◌, ◌*◌, ◌++◌, codes, map, pos, slice_get, Some, OnOk};
+ghost use Rattle.std.specs.Prelude.{◌≡◌, ◌*◌, ◌++◌, map, pos, slice_get, Some, OnOk};
 ghost use Rattle.xm_day.specs.RowAnswers.{answer_fields, answer_line, answer_word, market_fields, number_field, priced_fields, reply_fields, rest_named, security_fields, unknown_fields};
 ghost use Rattle.xm_rules.specs.Step.{replay};
 ghost use Rattle.xm_ticks.specs.Writing.{money_text};
 
-use crate::texts::{push_money, push_number, push_price, push_text, security_name};
+use crate::texts::{
+    push_comma, push_line_feed, push_money, push_number, push_price, push_text, security_name,
+};
 use crate::words::{phase_word, refusal_word};
 use std::alloc::{Allocator, Global};
 use std::marker::Model;
@@ -278,22 +280,6 @@ fn push_priced<A: Allocator>(
             push_number(text, units)
         }
     }
-}
-
-/// The comma between two fields.
-fn push_comma<A: Allocator>(text: &mut Vec<u8, A>) -> Result<(), OutOfMemory>
-    ensures { OnOk result (text.new.items ≡ text.old.items ++ codes ",") }
-{
-    text.push(b',')?;
-    Ok(())
-}
-
-/// The end of a line.
-fn push_line_feed<A: Allocator>(text: &mut Vec<u8, A>) -> Result<(), OutOfMemory>
-    ensures { OnOk result (text.new.items ≡ text.old.items ++ codes "\n") }
-{
-    text.push(b'\n')?;
-    Ok(())
 }
 
 /// The word of an answer.

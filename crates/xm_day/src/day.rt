@@ -1,11 +1,13 @@
 //! The day of a segment, from its files to its statement.
-ghost use Rattle.std.specs.Prelude.{◌≡◌, ◌≢◌, ◌≤◌, IfErr, IfOk, length, true};
-ghost use Rattle.xm_day.specs.Answers.{AreAnswers, AreAnswersOf, DayEnds, InFileOrder, OrdersEnd, report_in};
+ghost use Rattle.std.specs.Prelude.{◌≡◌, ◌≢◌, ◌≤◌, IfErr, IfOk, length};
+ghost use Rattle.xm_day.specs.Answers.{DayEnds, InFileOrder, IsAsked, IsTextOfFiles, IsTextOfRows, OrdersEnd, report_in};
+ghost use Rattle.xm_day.specs.MarketDepth.{depth_text};
+ghost use Rattle.xm_day.specs.RowAnswers.{answers_text};
 ghost use Rattle.xm_day.specs.Workers.{IsShared};
 ghost use Rattle.xm_segment.specs.declared.opening.TheConstants.{MAX_WORKERS};
 
 use crate::faults::DayFault;
-use crate::report::{AnsweredDay, DayReport};
+use crate::report::{AskedTexts, DayReport, ToldDay};
 use crate::runs::run_rows;
 use crate::shared_day::run_shared;
 use crate::statements::statement;
@@ -35,26 +37,26 @@ pub fn run_orders<R: io::Read, W: io::Write>(
     ensures ends { OrdersEnd InFileOrder config.now names.now (R.remaining orders.old) (W.contents out.old) (W.contents out.new) result }
     ensures untouched { IfErr result (λ fault. fault ≢ DayFault.WriteFailed → out.new ≡ out.old) }
 {
-    match tell_orders(storage, config, names, orders, out, false) {
+    match tell_orders(storage, config, names, orders, out, AskedTexts::nothing()) {
         Ok(day) => Ok(day.report),
         Err(fault) => Err(fault),
     }
 }
 
-/// Runs the day of a segment whose file is read, as `run_orders` does. The answers to its rows are
-/// told, if they are asked for.
+/// Runs the day of a segment whose file is read, as `run_orders` does, and gives the texts that are asked for.
 fn tell_orders<R: io::Read, W: io::Write>(
     storage: Storage<Global>,
     config: &SegmentConfig,
     names: &SegmentNames,
     orders: &mut R,
     out: &mut W,
-    asked: bool,
-) -> Result<AnsweredDay, DayFault>
+    asked: AskedTexts,
+) -> Result<ToldDay, DayFault>
     requires securities { length names.now.securities ≡ length config.now.securities }
     requires members { length names.now.members ≡ config.now.members }
     ensures ends { OrdersEnd InFileOrder config.now names.now (R.remaining orders.old) (W.contents out.old) (W.contents out.new) (report_in result) }
-    ensures answers { IfOk result (λ day. asked ≡ true → AreAnswersOf (R.remaining orders.old) config.now names.now day.answers.items) }
+    ensures answers { IfOk result (λ day. IsAsked (IsTextOfRows answers_text (R.remaining orders.old) config.now names.now) asked.answers day.answers.items) }
+    ensures depth { IfOk result (λ day. IsAsked (IsTextOfRows depth_text (R.remaining orders.old) config.now names.now) asked.depth day.depth.items) }
     ensures untouched { IfErr result (λ fault. fault ≢ DayFault.WriteFailed → out.new ≡ out.old) }
 {
     let bytes = match read_orders(storage.alloc, orders) {
@@ -66,9 +68,10 @@ fn tell_orders<R: io::Read, W: io::Write>(
         Err(fault) => return Err(DayFault::Orders(fault)),
     };
     statement(storage.alloc, day.desks.as_slice(), names, &day.report, out)?;
-    Ok(AnsweredDay {
+    Ok(ToldDay {
         report: day.report,
-        answers: day.answers.into_text(storage.alloc),
+        answers: day.told.answers.into_text(storage.alloc),
+        depth: day.told.depth.into_text(storage.alloc),
     })
 }
 
@@ -86,40 +89,26 @@ pub fn run_alone<S: io::Read, R: io::Read, W: io::Write>(
     ensures ends { DayEnds InFileOrder (S.remaining segment.old) (R.remaining orders.old) (W.contents out.old) (W.contents out.new) result }
     ensures untouched { IfErr result (λ fault. fault ≢ DayFault.WriteFailed → out.new ≡ out.old) }
 {
-    match tell_files(storage, segment, orders, out, false) {
+    match run_told(storage, segment, orders, out, AskedTexts::nothing()) {
         Ok(day) => Ok(day.report),
         Err(fault) => Err(fault),
     }
 }
 
-/// Runs the day of a segment file and an order file as `run_alone` does, and gives the text of the answers to its rows, a CSV
-/// file: of each row the answer, and the market after it.
+/// Runs the day of a segment file and an order file as `run_alone` does, and gives the texts that are asked for, CSV files: of
+/// each row the answer and the market after it, and behind each row that changed them the best levels of both sides.
 ///
 /// The faults are those of `run_alone`, in their order.
-pub fn run_answered<S: io::Read, R: io::Read, W: io::Write>(
+pub fn run_told<S: io::Read, R: io::Read, W: io::Write>(
     storage: Storage<Global>,
     segment: &mut S,
     orders: &mut R,
     out: &mut W,
-) -> Result<AnsweredDay, DayFault>
+    asked: AskedTexts,
+) -> Result<ToldDay, DayFault>
     ensures ends { DayEnds InFileOrder (S.remaining segment.old) (R.remaining orders.old) (W.contents out.old) (W.contents out.new) (report_in result) }
-    ensures answers { IfOk result (λ day. AreAnswers (S.remaining segment.old) (R.remaining orders.old) day.answers.items) }
-    ensures untouched { IfErr result (λ fault. fault ≢ DayFault.WriteFailed → out.new ≡ out.old) }
-{
-    tell_files(storage, segment, orders, out, true)
-}
-
-/// Runs the day of a segment file and an order file, as `run_alone` does. The answers to its rows are
-/// told, if they are asked for.
-fn tell_files<S: io::Read, R: io::Read, W: io::Write>(
-    storage: Storage<Global>,
-    segment: &mut S,
-    orders: &mut R,
-    out: &mut W,
-    asked: bool,
-) -> Result<AnsweredDay, DayFault>
-    ensures ends { DayEnds InFileOrder (S.remaining segment.old) (R.remaining orders.old) (W.contents out.old) (W.contents out.new) (report_in result) }
-    ensures answers { IfOk result (λ day. asked ≡ true → AreAnswers (S.remaining segment.old) (R.remaining orders.old) day.answers.items) }
+    ensures answers { IfOk result (λ day. IsAsked (IsTextOfFiles answers_text (S.remaining segment.old) (R.remaining orders.old)) asked.answers day.answers.items) }
+    ensures depth { IfOk result (λ day. IsAsked (IsTextOfFiles depth_text (S.remaining segment.old) (R.remaining orders.old)) asked.depth day.depth.items) }
     ensures untouched { IfErr result (λ fault. fault ≢ DayFault.WriteFailed → out.new ≡ out.old) }
 {
     let (config, names) = match read_segment(storage.alloc, segment) {

@@ -1,16 +1,18 @@
 //! The rows that the desks of a segment take.
-ghost use Rattle.std.specs.Prelude.{ℕ, Bool, ◌≡◌, ◌≢◌, ◌+◌, ◌<◌, ◌^◌, ◌++◌, List, [], All, Err, IfErr, IfOk, None, OnErr, OnOk, Some, false, length, map, true};
-ghost use Rattle.xm_day.specs.Answers.{HasTaken};
+ghost use Rattle.std.specs.Prelude.{ℕ, Bool, ◌≡◌, ◌≢◌, ◌+◌, ◌<◌, ◌^◌, ◌++◌, List, [], All, Err, IfErr, IfOk, OnErr, OnOk, Some, false, length, map, option_map, true};
+ghost use Rattle.xm_day.specs.Answers.{HasTaken, TellsNothing};
 ghost use Rattle.xm_day.specs.Day.{Accepts, LacksMemoryAt, after_row, after_rows, counted, day_of, row_answer};
+ghost use Rattle.xm_day.specs.Feeds.{feed_after};
 ghost use Rattle.xm_day.specs.RowAnswers.{answers_of, with_text};
+ghost use Rattle.xm_day.specs.declared.report.AskedTexts.{AskedTexts};
 ghost use Rattle.xm_files.specs.Names.{NameLists};
 ghost use Rattle.xm_rules.specs.Step.{replay};
 ghost use Rattle.xm_segment.specs.declared.config.SegmentConfig.{SegmentConfig};
 ghost use Rattle.xm_segment.specs.declared.rows.Row.{Row};
 
-use crate::answers::Answers;
 use crate::faults::DayFault;
-use crate::report::DayReport;
+use crate::report::{AskedTexts, DayReport};
+use crate::told::Told;
 use std::alloc::{Allocator, Global};
 use xm_desk::Desk;
 use xm_files::SegmentNames;
@@ -24,19 +26,19 @@ use xm_segment::{Row, SegmentConfig, open_desks};
 pub(crate) struct OpenDay {
     pub(crate) desks: Vec<Desk<Global>>,
     pub(crate) report: DayReport,
-    pub(crate) answers: Answers,
+    pub(crate) told: Told,
 }
 
-/// Opens the desks of a segment for its day, of which answers are told if they are asked for.
+/// Opens the desks of a segment for its day, of which these texts are told.
 pub(crate) fn open_day(
     storage: Storage<Global>,
     config: &SegmentConfig,
-    asked: bool,
+    asked: AskedTexts,
 ) -> Result<OpenDay, DayFault>
     ensures { (names : NameLists) → HasTaken asked names config.now [] result }
 {
     let desks = open_desks(storage, config)?;
-    let answers = Answers::of(storage.alloc, asked)?;
+    let told = Told::of(storage.alloc, desks.as_slice(), asked)?;
     let report = DayReport {
         accepted: 0,
         refused: 0,
@@ -44,7 +46,7 @@ pub(crate) fn open_day(
     Ok(OpenDay {
         desks,
         report,
-        answers,
+        told,
     })
 }
 
@@ -55,40 +57,41 @@ pub(crate) fn take_more(
     rows: &[Row],
 ) -> Result<OpenDay, DayFault>
     requires room { IfOk day (λ d. d.report.accepted + d.report.refused + length rows.now < 2 ^ 64) }
-    ensures { (asked : Bool) (config : SegmentConfig) (taken : List Row) → HasTaken asked names.now config taken day → HasTaken asked names.now config (taken ++ rows.now) result }
+    ensures { (asked : AskedTexts) (config : SegmentConfig) (taken : List Row) → HasTaken asked names.now config taken day → HasTaken asked names.now config (taken ++ rows.now) result }
 {
     let OpenDay {
         mut desks,
         report,
-        mut answers,
+        mut told,
     } = day?;
-    let report = take_rows(desks.as_mut_slice(), names, rows, report, &mut answers)?;
+    let report = take_rows(desks.as_mut_slice(), names, rows, report, &mut told)?;
     Ok(OpenDay {
         desks,
         report,
-        answers,
+        told,
     })
 }
 
-/// Takes rows in their order, counts which were accepted and refused, and tells the answers. `OutOfMemory` comes only where
-/// answers are asked for, or at a row that nothing else refuses.
+/// Takes rows in their order, counts which were accepted and refused, and tells what is asked for. `OutOfMemory` comes only where
+/// something is, or at a row that nothing else refuses.
 fn take_rows<A: Allocator + Copy>(
     desks: &mut [Desk<A>],
     names: &SegmentNames,
     rows: &[Row],
     before: DayReport,
-    answers: &mut Answers,
+    told: &mut Told,
 ) -> Result<DayReport, OutOfMemory>
     requires room { before.accepted + before.refused + length rows.now < 2 ^ 64 }
     ensures taken { IfOk result (λ report. day_of desks.new report.accepted report.refused ≡ after_rows (day_of desks.old before.accepted before.refused) rows.now) }
     ensures counted { IfOk result (λ report. report.accepted + report.refused ≡ before.accepted + before.refused + length rows.now) }
-    ensures told { OnOk result (answers.new ≡ with_text (answers_of names.now (day_of desks.old before.accepted before.refused) rows.now) answers.old) }
-    ensures memory { OnErr result (answers.old ≡ None → LacksMemoryAt (day_of desks.old before.accepted before.refused) rows.now) }
+    ensures answers { OnOk result (told.new.answers ≡ with_text (answers_of names.now (day_of desks.old before.accepted before.refused) rows.now) told.old.answers) }
+    ensures depth { OnOk result (told.new.depth ≡ option_map (feed_after names.now (day_of desks.old before.accepted before.refused) rows.now) told.old.depth) }
+    ensures memory { OnErr result (TellsNothing told.old → LacksMemoryAt (day_of desks.old before.accepted before.refused) rows.now) }
 {
     let mut report = before;
     for row in rows {
         let answer = take_row(desks, row)?;
-        answers.tell(names, desks, row, &answer)?;
+        told.tell(names, desks, row, &answer)?;
         report = report.counted(&answer);
     }
     Ok(report)

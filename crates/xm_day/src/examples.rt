@@ -1,11 +1,12 @@
 //! What the definitions give on worked examples. Each function promises one by its contract.
 #![tactic(auto, unfolding(xm_rules::specs::Refusals::refusal_of, xm_rules::specs::Step::step))]
 
-ghost use Rattle.std.specs.Prelude.{◌≡◌, codes, map, negsuc, pos, None, Some, [], ◌∷◌};
+ghost use Rattle.std.specs.Prelude.{◌≡◌, codes, map, negsuc, pos, false, true, None, Some, [], ◌∷◌};
 ghost use Rattle.xm_day.specs.Checks.{check_line};
 ghost use Rattle.xm_day.specs.Day.{day, opening_day};
 ghost use Rattle.xm_segment.specs.Opening.{segment_fault};
-ghost use Rattle.xm_day.specs.Examples.{broad_security, cascade_answers, cascade_rows, cascade_state, cascade_text, every_phase, every_phase_word, every_refusal, every_refusal_word, every_restriction, every_restriction_word, every_trade_kind, every_trade_word, every_validity, every_validity_text, example_config, example_names, open_row, penny_state, restricted_state, sized_config};
+ghost use Rattle.xm_day.specs.Examples.{broad_security, cascade_answers, cascade_depth, cascade_rows, cascade_state, cascade_text, crowded_state, every_phase, every_phase_word, every_refusal, every_refusal_word, every_restriction, every_restriction_word, every_trade_kind, every_trade_word, every_validity, every_validity_text, example_config, example_names, open_row, penny_state, restricted_state, sized_config};
+ghost use Rattle.xm_day.specs.MarketDepth.{depth_text, market_depth, same_depth, same_level, same_side_depth, told_change};
 ghost use Rattle.xm_day.specs.RowAnswers.{answers_of, answers_text, market_fields, priced_fields, refusal_word};
 ghost use Rattle.xm_day.specs.Statement.{day_line, limit_text, member_line, phase_word, restriction_word, side_word, statement, stop_line, total_cash, trade_word, validity_text};
 ghost use Rattle.xm_day.specs.Workers.{rows_of};
@@ -32,6 +33,34 @@ pub fn cascade_statement()
 /// The answers to the rows of that day are `examples/cascade.answers.csv`.
 pub fn cascade_answers()
     ensures { answers_text example_names example_config cascade_rows ≡ cascade_answers }
+{}
+
+/// The levels behind the rows of that day are `examples/cascade.depth.csv`.
+pub fn cascade_depth()
+    ensures { depth_text example_names example_config cascade_rows ≡ cascade_depth }
+{}
+
+/// The levels of a side are its five best, each with all that rests there; those of restricted orders are told in the phases in
+/// which they are active, and market orders by themselves.
+pub fn depths()
+    ensures five { (market_depth crowded_state).buy ≡ record { market = 7; levels = Some (986, 8) ∷ Some (985, 5) ∷ Some (984, 4) ∷ Some (983, 3) ∷ Some (982, 8) ∷ [] } }
+    ensures none { (market_depth crowded_state).sell ≡ record { market = 0; levels = None ∷ None ∷ None ∷ None ∷ None ∷ [] } }
+    ensures continuous { (market_depth (restricted_state Continuous)).sell.levels ≡ Some (985, 5) ∷ None ∷ None ∷ None ∷ None ∷ [] }
+    ensures inactive { (market_depth (restricted_state Continuous)).buy.market ≡ 0 }
+    ensures closing { (market_depth (restricted_state (Call Closing Ordinary))).sell.levels ≡ Some (985, 12) ∷ None ∷ None ∷ None ∷ None ∷ [] }
+    ensures active { (market_depth (restricted_state (Call Closing Ordinary))).buy.market ≡ 3 }
+{}
+
+/// The levels behind a row aren't told again where they are the same, and are where one limit, one quantity or the market orders
+/// are others.
+pub fn changes_of_depth()
+    ensures same { same_depth (market_depth crowded_state) (market_depth crowded_state) ≡ true }
+    ensures other { same_depth (market_depth crowded_state) (market_depth cascade_state) ≡ false }
+    ensures quantity { same_level (986, 8) (986, 7) ≡ false }
+    ensures limit { same_level (986, 8) (985, 8) ≡ false }
+    ensures market { same_side_depth (record { market = 7; levels = [] }) (record { market = 6; levels = [] }) ≡ false }
+    ensures level { same_side_depth (record { market = 7; levels = None ∷ [] }) (record { market = 7; levels = Some (986, 8) ∷ [] }) ≡ false }
+    ensures unknown { told_change example_names (open_row 7) None (Some crowded_state) ≡ [] }
 {}
 
 /// The answer to a row of an unknown security, and to one that a call takes.

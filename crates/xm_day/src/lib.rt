@@ -4,6 +4,7 @@
 mod answers;
 mod checks;
 mod day;
+mod depth;
 mod desks;
 pub mod examples;
 mod faults;
@@ -16,12 +17,13 @@ mod standing;
 mod statements;
 mod sums;
 mod texts;
+mod told;
 mod traded;
 mod words;
 mod worker;
 
 pub use crate::checks::check;
-pub use crate::day::{run_alone, run_answered, run_day, run_orders};
+pub use crate::day::{run_alone, run_day, run_orders, run_told};
 pub use crate::faults::DayFault;
-pub use crate::report::{AnsweredDay, DayReport};
+pub use crate::report::{AskedTexts, DayReport, ToldDay};
 pub use crate::statements::statement;

@@ -1,5 +1,5 @@
 //! What a day counts.
-ghost use Rattle.std.specs.Prelude.{List, ◌≡◌, ◌+◌, ◌<◌, ◌^◌};
+ghost use Rattle.std.specs.Prelude.{List, ◌≡◌, ◌+◌, ◌<◌, ◌^◌, false};
 ghost use Rattle.xm_day.specs.Day.{counted};
 ghost use Rattle.xm_rules.specs.State.{State};
 
@@ -12,11 +12,32 @@ pub struct DayReport {
     pub refused: u64,
 }
 
-/// What a day counts, and the text of the answers to its rows.
+/// Which texts are asked for beside the statement of a day: the answers to its rows, and the levels behind them.
+#[derive(Clone, Copy, PartialEq, Eq, Debug)]
+pub struct AskedTexts {
+    pub answers: bool,
+    pub depth: bool,
+}
+
+/// What a day counts, and the texts that were asked for beside its statement. One that wasn't is empty.
 #[derive(Debug, Drop)]
-pub struct AnsweredDay {
+pub struct ToldDay {
     pub report: DayReport,
     pub answers: Vec<u8>,
+    pub depth: Vec<u8>,
+}
+
+impl AskedTexts {
+    /// The statement alone.
+    pub fn nothing() -> AskedTexts
+        ensures answers { result.answers ≡ false }
+        ensures depth { result.depth ≡ false }
+    {
+        AskedTexts {
+            answers: false,
+            depth: false,
+        }
+    }
 }
 
 impl DayReport {

@@ -6,6 +6,7 @@ ghost use Rattle.xm_files.specs.declared.bytes.TheConstants.{MAX_BYTES};
 
 use crate::desks::{OpenDay, open_day, take_more};
 use crate::faults::DayFault;
+use crate::report::AskedTexts;
 use std::alloc::Global;
 use xm_files::{Batch, FileFault, Part, RowReader, SegmentNames};
 use xm_names::Storage;
@@ -15,13 +16,13 @@ use xm_segment::SegmentConfig;
 const BATCH: Part = Part::Rows(512);
 
 /// Reads the rows of an order file of these bytes, batch by batch, and has the desks of a segment take them, which tell the
-/// answers if they are asked for. The fault of the file is answered, if it has one, and else what came of its rows.
+/// texts that are asked for. The fault of the file is answered, if it has one, and else what came of its rows.
 pub(crate) fn run_rows(
     storage: Storage<Global>,
     config: &SegmentConfig,
     names: &SegmentNames,
     bytes: Vec<u8>,
-    asked: bool,
+    asked: AskedTexts,
 ) -> Result<Result<OpenDay, DayFault>, FileFault>
     requires { length bytes.items ≤ MAX_BYTES }
     ensures { RowsRun (HasTaken asked names.now) config.now names.now (text_left bytes.items 1) result }
@@ -37,7 +38,7 @@ fn take_file(
     config: &SegmentConfig,
     names: &SegmentNames,
     file: &mut RowReader<'_>,
-    asked: bool,
+    asked: AskedTexts,
 ) -> Result<Result<OpenDay, DayFault>, FileFault>
     ensures { RowsRun (HasTaken asked names.now) config.now names.now file.old result }
 {

@@ -14,11 +14,11 @@ ghost use Rattle.xm_segment.specs.declared.gathered.GatherFault.TheVariants as G
 ghost use Rattle.xm_segment.specs.declared.opening.TheConstants.{MAX_WORKERS};
 ghost use Rattle.xm_segment.specs.declared.rows.Row.{Row};
 
-use crate::answers::Answers;
 use crate::desks::OpenDay;
 use crate::faults::DayFault;
 use crate::report::DayReport;
 use crate::shares::take_members;
+use crate::told::Told;
 use crate::worker::Worker;
 use std::alloc::Global;
 use std::marker::{Brand, Model};
@@ -222,11 +222,10 @@ impl<S: Naming> SharedDay<S> {
         let SharedDay { segment, workers } = self;
         let (seats, report) = counted(workers)?;
         let desks = desks_of(segment, alloc, seats)?;
-        let answers = Answers::unasked();
         Ok(OpenDay {
             desks,
             report,
-            answers,
+            told: Told::nothing(),
         })
     }
 }

@@ -76,6 +76,22 @@ pub(crate) fn push_space<A: Allocator>(text: &mut Vec<u8, A>) -> Result<(), OutO
     Ok(())
 }
 
+/// The comma between two fields.
+pub(crate) fn push_comma<A: Allocator>(text: &mut Vec<u8, A>) -> Result<(), OutOfMemory>
+    ensures { OnOk result (text.new.items ≡ text.old.items ++ codes ",") }
+{
+    text.push(b',')?;
+    Ok(())
+}
+
+/// The end of a line.
+pub(crate) fn push_line_feed<A: Allocator>(text: &mut Vec<u8, A>) -> Result<(), OutOfMemory>
+    ensures { OnOk result (text.new.items ≡ text.old.items ++ codes "\n") }
+{
+    text.push(b'\n')?;
+    Ok(())
+}
+
 /// Adds a text as it is, which a statement's many short pieces take less time for than for a format.
 pub(crate) fn push_text<A: Allocator>(text: &mut Vec<u8, A>, more: &str) -> Result<(), OutOfMemory>
     ensures { OnOk result (text.new.items ≡ text.old.items ++ more.now) }

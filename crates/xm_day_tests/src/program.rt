@@ -33,7 +33,7 @@ mod runtime;
 
 use crate::files::fixtures::{CASCADE, HEADER, SEGMENT};
 use crate::memory::want_of_memory;
-use ends::{CANNOT_ANSWER, Printed};
+use ends::{CANNOT_TELL, Printed};
 use std::alloc::Global;
 use std::fs::File;
 use std::io::{Read, Write};
@@ -41,12 +41,13 @@ use std::process::Abort;
 use std::sync::Wait;
 use std::thread::Threads;
 use std::{fs, io};
-use xm_day::DayFault;
+use xm_day::{AskedTexts, DayFault};
 use xm_desk::OpenFault;
 use xm_files::{FileCause, FileFault};
 use xm_names::Storage;
 use xm_program::{
-    Failure, Input, Request, Workers, check, fault_line, open_input, read_words, run, run_answered,
+    Failure, Input, Output, Request, Workers, check, fault_line, open_input, read_words, run,
+    run_told,
 };
 
 /// A fault of a file, in this line.
@@ -134,12 +135,16 @@ fn answer_to(rt: &(impl Abort + AllocGlobal), line: &[String]) -> String {
             format!(in alloc; "run {segment} and {orders} by {workers}")
         }
         Ok(
-            Request::RunAnswered {
+            Request::RunTold {
                 segment,
                 orders,
                 answers,
+                depth,
             },
-        ) => { format!(in alloc; "run {segment} and {orders}, answers to {answers}") }
+        ) => {
+            let (answers, depth) = (answers.unwrap_or("nowhere"), depth.unwrap_or("nowhere"));
+            format!(in alloc; "run {segment} and {orders}, answers to {answers}, levels to {depth}")
+        }
         Ok(Request::Check { segment }) => format!(in alloc; "check {segment}"),
         Ok(Request::Help(text)) => format!(in alloc; "help {text}"),
         Err(Failure::Day(fault)) => format!(in alloc; "fault {fault}"),
@@ -151,7 +156,7 @@ fn answer_to(rt: &(impl Abort + AllocGlobal), line: &[String]) -> String {
 /// The words of a command line, without the program's name, with what they are answered.
 type Answered = (&'static [&'static str], Printed);
 
-const RUNS: [Answered; 8] = [
+const RUNS: [Answered; 11] = [
     (
         &["run", "day.toml", "day.csv"],
         Printed::Text("run day.toml and day.csv by 1"),
@@ -175,11 +180,36 @@ const RUNS: [Answered; 8] = [
     ),
     (
         &["run", "day.toml", "day.csv", "--answers", "a file"],
-        Printed::Text("run day.toml and day.csv, answers to a file"),
+        Printed::Text("run day.toml and day.csv, answers to a file, levels to nowhere"),
+    ),
+    (&["run", "--answers=-", "day.toml", "day.csv"], CANNOT_TELL),
+    (
+        &["run", "day.toml", "day.csv", "--depth", "a", "--answers=b"],
+        Printed::Text("run day.toml and day.csv, answers to b, levels to a"),
     ),
     (
-        &["run", "--answers=-", "day.toml", "day.csv"],
-        CANNOT_ANSWER,
+        &[
+            "run",
+            "day.toml",
+            "day.csv",
+            "--depth",
+            "a",
+            "--answers",
+            "a",
+        ],
+        CANNOT_TELL,
+    ),
+    (
+        &[
+            "run",
+            "day.toml",
+            "day.csv",
+            "--depth",
+            "a",
+            "--workers",
+            "2",
+        ],
+        CANNOT_TELL,
     ),
 ];
 
@@ -348,16 +378,32 @@ fn run_day(
     run(rt, storage, segment, orders, workers, out)
 }
 
-/// Runs the day of two texts, and writes its statement and its answers to two writers. A clause sees nothing of it.
-fn answer_day(
+/// Both texts beside a statement.
+const BOTH: AskedTexts = AskedTexts {
+    answers: true,
+    depth: true,
+};
+
+/// Runs the day of two texts, and writes its statement, its answers and its levels to three writers. A clause sees nothing of
+/// it.
+fn tell_day(
     rt: &impl AllocGlobal,
-    orders: &str,
     out: &mut impl Write,
+    asked: AskedTexts,
     answers: &mut impl Write,
+    depth: &mut impl Write,
 ) -> Result<(), DayFault> {
     let storage = Storage::with_fixed_seed(rt.alloc());
-    let (mut segment, mut orders) = (SEGMENT.as_bytes(), orders.as_bytes());
-    run_answered(storage, &mut segment, &mut orders, out, answers)
+    let (mut segment, mut orders) = (SEGMENT.as_bytes(), CASCADE.as_bytes());
+    run_told(
+        storage,
+        &mut segment,
+        &mut orders,
+        out,
+        asked,
+        answers,
+        depth,
+    )
 }
 
 /// Checks a segment file. A clause sees nothing of it.
@@ -421,13 +467,28 @@ fn an_unflushed_line_is_not_written(rt: HostRuntime) {
     assert!(rt; answer == Err(DayFault::WriteFailed));
 }
 
+/// What isn't asked for isn't written: its writer, which fails, is left alone.
 #[test]
-fn answers_go_out_behind_a_whole_statement(rt: HostRuntime) {
+fn one_text_of_a_day(rt: HostRuntime) {
+    let (mut out, mut depth) = (Vec::new(rt.alloc()), Vec::new(rt.alloc()));
+    let asked = AskedTexts {
+        answers: false,
+        depth: true,
+    };
+    let mut unasked: Output<File> = Output::Unasked;
+    assert!(rt; tell_day(&rt, &mut out, asked, &mut unasked, &mut depth) == Ok(()));
+    assert!(rt; !depth.is_empty());
+}
+
+#[test]
+fn texts_go_out_behind_a_whole_statement(rt: HostRuntime) {
     let failed = Err(DayFault::WriteFailed);
-    let mut answers = Vec::new(rt.alloc());
-    assert!(rt; answer_day(&rt, CASCADE, &mut Unflushed, &mut answers) == failed);
-    assert!(rt; answers.is_empty());
+    let (mut answers, mut depth) = (Vec::new(rt.alloc()), Vec::new(rt.alloc()));
+    assert!(rt; tell_day(&rt, &mut Unflushed, BOTH, &mut answers, &mut depth) == failed);
+    assert!(rt; answers.is_empty() && depth.is_empty());
     let mut out = Vec::new(rt.alloc());
-    assert!(rt; answer_day(&rt, CASCADE, &mut out, &mut Unflushed) == failed);
-    assert!(rt; out == statement_of(&rt, SEGMENT, CASCADE, 1));
+    assert!(rt; tell_day(&rt, &mut out, BOTH, &mut Unflushed, &mut depth) == failed);
+    assert!(rt; out == statement_of(&rt, SEGMENT, CASCADE, 1) && depth.is_empty());
+    assert!(rt; tell_day(&rt, &mut out, BOTH, &mut answers, &mut Unflushed) == failed);
+    assert!(rt; !answers.is_empty());
 }

@@ -3,4 +3,4 @@ mod Numbers
 mod Paths
 mod Runs
 mod Sent
-mod Answered
+mod Told

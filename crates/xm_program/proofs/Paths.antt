@@ -16,10 +16,10 @@ subcommand-met m name rows = go (out-ArgMatches m).subcommand refl
 
 module _ (o : Option (Text × List Row)) (name : Text) (rows : List Row) (met : o ≡ Some (name, rows)) where
   -- what the values of a `run` give
-  pub run-met : (segment orders : Option Text) (workers : Option ℕ) (answers : Option Text) → bytes_eq name (codes "run") ≡ true → first_of (codes "SEGMENT") rows ≡ segment → first_of (codes "ORDERS") rows ≡ orders
-      → option_and_then workers_in (one_of (codes "workers") rows) ≡ workers → first_of (codes "answers") rows ≡ answers
-      → asked_in o ≡ run_of segment orders workers answers
-  run-met segment orders workers answers is_run has_segment has_orders has_workers has_answers = rw (met, is_run, has_segment, has_orders, has_workers, has_answers) refl
+  pub run-met : (segment orders : Option Text) (workers : Option ℕ) (answers depth : Option Text) → bytes_eq name (codes "run") ≡ true → first_of (codes "SEGMENT") rows ≡ segment → first_of (codes "ORDERS") rows ≡ orders
+      → option_and_then workers_in (one_of (codes "workers") rows) ≡ workers → first_of (codes "answers") rows ≡ answers → first_of (codes "depth") rows ≡ depth
+      → asked_in o ≡ run_of segment orders workers answers depth
+  run-met segment orders workers answers depth is_run has_segment has_orders has_workers has_answers has_depth = rw (met, is_run, has_segment, has_orders, has_workers, has_answers, has_depth) refl
 
   -- what the values of a `check` give
   pub check-met : (segment : Option Text) → bytes_eq name (codes "run") ≡ false → bytes_eq name (codes "check") ≡ true → first_of (codes "SEGMENT") rows ≡ segment → asked_in o ≡ option_map check segment

@@ -18,8 +18,8 @@ use Rattle.clap.proofs.OnLiterals.{clap_on_literals}
 use Rattle.xm_day.specs.declared.faults.DayFault.TheVariants as day
 use Rattle.xm_program.specs.declared.requests.Failure.TheVariants.{Day}
 use Rattle.xm_program.specs.declared.requests.Request.{Request}
-use Rattle.xm_program.specs.declared.requests.Request.TheVariants.{Run, RunAnswered, Check, Help}
-use Rattle.xm_program.specs.Requests.{AnswersWords, Asked, Asks, IsRequest, IsOfWords, answer_at, answer_of, asked_in, asked_of, check, day_app, is_mistake, is_plain_word, run, run_answered, run_of, workers_in, workers_words}
+use Rattle.xm_program.specs.declared.requests.Request.TheVariants.{Run, RunTold, Check, Help}
+use Rattle.xm_program.specs.Requests.{AnswersWords, Asked, Asks, IsRequest, IsOfWords, answer_at, answer_of, asked_in, asked_of, can_tell, check, day_app, is_mistake, is_plain_word, run, run_of, run_told, workers_in, workers_words}
 use Rattle.xm_program.proofs.Numbers.{number-text}
 
 false_of : (b : Bool) → not b ≡ true → b ≡ false
@@ -62,15 +62,18 @@ run_shape = unwrap_or (slice_get (built day_app).subs 0) day_app.top
 abbrev given : Text → Text → Row
 given id value = record { id = id; values = value ∷ []; count = None; source = Some CommandLine; reading = AsWritten }
 
--- where the walk over two paths and the value of an option stands
-abbrev walked_to : Text → Text → Text → Text → Walk
-walked_to option s o n = record {
-  held = record { rows = given (codes "SEGMENT") s ∷ given (codes "ORDERS") o ∷ []; pending = Some (option, n ∷ []); skip = 0 };
+-- where the walk over two paths, and words behind them, stands that gave these values, and last this one
+abbrev walked_to : List Row → Text → Text → Walk
+walked_to rows id value = record {
+  held = record { rows = rows; pending = Some (id, value ∷ []); skip = 0 };
   waiting = idle;
   position = 3;
   is_trailing = false;
   stopped = None;
 }
+
+abbrev two_paths : Text → Text → List Row
+two_paths s o = given (codes "SEGMENT") s ∷ given (codes "ORDERS") o ∷ []
 
 -- what a run is asked after the walk over its words
 abbrev end_passes : Held → Bool
@@ -94,16 +97,26 @@ module _ (program s o : Text) (a : strip_byte 45 s ≡ None) (b : bytes_eq s (45
     unfolding clap_on_literals
     takes-run = simp (a, b, c, d)
 
+    -- what the walk over these words has come to
+    run-walked : walk run_shape.rules [] nothing_held (s ∷ o ∷ []) ≡ walked_to (given (codes "SEGMENT") s ∷ []) (codes "ORDERS") o
+    unfolding clap_on_literals
+    run-walked = simp (a, b, c, d)
+
+    -- what the values of these words ask for
+    run-asked : asked_in (Some (codes "run", finished run_shape.rules (walked_to (given (codes "SEGMENT") s ∷ []) (codes "ORDERS") o).held)) ≡ Some (run s o 1)
+    unfolding clap_on_literals
+    run-asked = refl
+
     asks-run : asked_of (program ∷ codes "run" ∷ s ∷ o ∷ []) ≡ Some (run s o 1)
     unfolding clap_on_literals
-    asks-run = simp (a, b, c, d)
+    asks-run = ap (λ (w : Walk). asked_in (Some (codes "run", finished run_shape.rules w.held))) run-walked ∙ run-asked
 
   module _ (c : strip_byte 45 o ≡ None) (d : bytes_eq o (45 ∷ 45 ∷ []) ≡ false) (n : Text) (e : strip_byte 45 n ≡ None) (f : bytes_eq n (45 ∷ 45 ∷ []) ≡ false) where
     abbrev numbered : List Text
     numbered = s ∷ o ∷ codes "--workers" ∷ n ∷ []
 
     -- what the walk over these words has come to
-    numbered-walked : walk run_shape.rules [] nothing_held numbered ≡ walked_to (codes "workers") s o n
+    numbered-walked : walk run_shape.rules [] nothing_held numbered ≡ walked_to (two_paths s o) (codes "workers") n
     unfolding clap_on_literals
     numbered-walked = simp (a, b, c, d, e, f)
 
@@ -125,12 +138,12 @@ module _ (program s o : Text) (a : strip_byte 45 s ≡ None) (b : bytes_eq s (45
     unfolding clap_on_literals
     asks-run-by number same is =
         ap (λ (w : Walk). asked_in (Some (codes "run", finished run_shape.rules w.held))) numbered-walked
-        ∙ ap (λ (text : Text). run_of (Some s) (Some o) (workers_in text) None) same ∙ ap (λ (workers : Option ℕ). run_of (Some s) (Some o) workers None) is
+        ∙ ap (λ (text : Text). run_of (Some s) (Some o) (workers_in text) None None) same ∙ ap (λ (workers : Option ℕ). run_of (Some s) (Some o) workers None None) is
 
     abbrev answered_words : List Text
     answered_words = s ∷ o ∷ codes "--answers" ∷ n ∷ []
 
-    answered-walked : walk run_shape.rules [] nothing_held answered_words ≡ walked_to (codes "answers") s o n
+    answered-walked : walk run_shape.rules [] nothing_held answered_words ≡ walked_to (two_paths s o) (codes "answers") n
     unfolding clap_on_literals
     answered-walked = simp (a, b, c, d, e, f)
 
@@ -147,14 +160,70 @@ module _ (program s o : Text) (a : strip_byte 45 s ≡ None) (b : bytes_eq s (45
     takes-answered = both-true _ _ answered-level refl
 
     -- what the values of these words ask for
-    answers-asked : asked_in (Some (codes "run", finished run_shape.rules (walked_to (codes "answers") s o n).held)) ≡ (if not (bytes_eq n (codes "-")) then Some (run_answered s o n) else None)
+    answered-asked : asked_in (Some (codes "run", finished run_shape.rules (walked_to (two_paths s o) (codes "answers") n).held)) ≡ (if can_tell 1 (Some n) (None) then Some (run_told s o (Some n) (None)) else None)
     unfolding clap_on_literals
-    answers-asked = refl
+    answered-asked = refl
 
-    asks-answered : bytes_eq n (codes "-") ≡ false → asked_of (program ∷ codes "run" ∷ answered_words) ≡ Some (run_answered s o n)
+    asks-answered : can_tell 1 (Some n) (None) ≡ true → asked_of (program ∷ codes "run" ∷ answered_words) ≡ Some (run_told s o (Some n) (None))
     unfolding clap_on_literals
-    asks-answered file =
-        ap (λ (w : Walk). asked_in (Some (codes "run", finished run_shape.rules w.held))) answered-walked ∙ answers-asked ∙ rw file refl
+    asks-answered can = ap (λ (w : Walk). asked_in (Some (codes "run", finished run_shape.rules w.held))) answered-walked ∙ answered-asked ∙ rw can refl
+
+    abbrev deep_words : List Text
+    deep_words = s ∷ o ∷ codes "--depth" ∷ n ∷ []
+
+    deep-walked : walk run_shape.rules [] nothing_held deep_words ≡ walked_to (two_paths s o) (codes "depth") n
+    unfolding clap_on_literals
+    deep-walked = simp (a, b, c, d, e, f)
+
+    deep-pass : walk_passes run_shape [] (walk_from nothing_held) deep_words ≡ true
+    unfolding clap_on_literals
+    deep-pass = simp (a, b, c, d, e, f)
+
+    deep-level : level_passes run_shape [] nothing_held deep_words false ≡ true
+    unfolding clap_on_literals
+    deep-level = both-true _ _ deep-pass (ap (λ (w : Walk). end_passes w.held) deep-walked)
+
+    takes-deep : takes day_app (program ∷ codes "run" ∷ deep_words) ≡ true
+    unfolding clap_on_literals
+    takes-deep = both-true _ _ deep-level refl
+
+    -- what the values of these words ask for
+    deep-asked : asked_in (Some (codes "run", finished run_shape.rules (walked_to (two_paths s o) (codes "depth") n).held)) ≡ (if can_tell 1 (None) (Some n) then Some (run_told s o (None) (Some n)) else None)
+    unfolding clap_on_literals
+    deep-asked = refl
+
+    asks-deep : can_tell 1 (None) (Some n) ≡ true → asked_of (program ∷ codes "run" ∷ deep_words) ≡ Some (run_told s o (None) (Some n))
+    unfolding clap_on_literals
+    asks-deep can = ap (λ (w : Walk). asked_in (Some (codes "run", finished run_shape.rules w.held))) deep-walked ∙ deep-asked ∙ rw can refl
+
+    module _ (m : Text) (g : strip_byte 45 m ≡ None) (h : bytes_eq m (45 ∷ 45 ∷ []) ≡ false) where
+      abbrev both_words : List Text
+      both_words = s ∷ o ∷ codes "--answers" ∷ n ∷ codes "--depth" ∷ m ∷ []
+
+      both-walked : walk run_shape.rules [] nothing_held both_words ≡ walked_to (given (codes "SEGMENT") s ∷ given (codes "ORDERS") o ∷ given (codes "answers") n ∷ []) (codes "depth") m
+      unfolding clap_on_literals
+      both-walked = simp (a, b, c, d, e, f, g, h)
+
+      both-pass : walk_passes run_shape [] (walk_from nothing_held) both_words ≡ true
+      unfolding clap_on_literals
+      both-pass = simp (a, b, c, d, e, f, g, h)
+
+      both-level : level_passes run_shape [] nothing_held both_words false ≡ true
+      unfolding clap_on_literals
+      both-level = both-true _ _ both-pass (ap (λ (w : Walk). end_passes w.held) both-walked)
+
+      takes-both : takes day_app (program ∷ codes "run" ∷ both_words) ≡ true
+      unfolding clap_on_literals
+      takes-both = both-true _ _ both-level refl
+
+      -- what the values of these words ask for
+      both-asked : asked_in (Some (codes "run", finished run_shape.rules (walked_to (given (codes "SEGMENT") s ∷ given (codes "ORDERS") o ∷ given (codes "answers") n ∷ []) (codes "depth") m).held)) ≡ (if can_tell 1 (Some n) (Some m) then Some (run_told s o (Some n) (Some m)) else None)
+      unfolding clap_on_literals
+      both-asked = refl
+
+      asks-both : can_tell 1 (Some n) (Some m) ≡ true → asked_of (program ∷ codes "run" ∷ both_words) ≡ Some (run_told s o (Some n) (Some m))
+      unfolding clap_on_literals
+      asks-both can = ap (λ (w : Walk). asked_in (Some (codes "run", finished run_shape.rules w.held))) both-walked ∙ both-asked ∙ rw can refl
 
 -- the words that ask for it are taken
 taken-run : (words : List Text) (program s o : Text) (number : Option ℕ) → words ≡ program ∷ codes "run" ∷ s ∷ o ∷ workers_words number → IsPlain s → IsPlain o → 1 ≤ unwrap_or number 1 → unwrap_or number 1 ≤ 64 → IsTaken words (run s o (unwrap_or number 1))
@@ -174,13 +243,35 @@ taken-run words program s o (Some k) are p q some few =
 pub taken : (words : List Text) (asked : Asked) → Asks words asked → IsTaken words asked
 taken words (run segment orders workers) asks =
     rw asks.workers_are (taken-run words asks.program segment orders asks.number asks.words_are (plain segment asks.segment_is_plain) (plain orders asks.orders_is_plain) (rw asks.workers_are at asks.some) (rw asks.workers_are at asks.few))
-taken words (run_answered segment orders answers) asks =
+taken words (run_told segment orders None None) asks = let none : false ≡ true = asks.some in absurd (cc)
+taken words (run_told segment orders (Some answers) None) asks =
     let p = plain segment asks.segment_is_plain in
     let q = plain orders asks.orders_is_plain in
     let r = plain answers asks.answers_is_plain in
+    let can : can_tell 1 (Some answers) None ≡ true = rw (no_dash answers asks.answers_is_plain) refl in
     rw asks.words_are (record {
       taken = takes-answered asks.program segment orders p.no_hyphen p.no_hyphens q.no_hyphen q.no_hyphens answers r.no_hyphen r.no_hyphens;
-      asks = asks-answered asks.program segment orders p.no_hyphen p.no_hyphens q.no_hyphen q.no_hyphens answers r.no_hyphen r.no_hyphens (no_dash answers asks.answers_is_plain);
+      asks = asks-answered asks.program segment orders p.no_hyphen p.no_hyphens q.no_hyphen q.no_hyphens answers r.no_hyphen r.no_hyphens can;
+    })
+taken words (run_told segment orders None (Some depth)) asks =
+    let p = plain segment asks.segment_is_plain in
+    let q = plain orders asks.orders_is_plain in
+    let r = plain depth asks.depth_is_plain in
+    let can : can_tell 1 None (Some depth) ≡ true = rw (no_dash depth asks.depth_is_plain) refl in
+    rw asks.words_are (record {
+      taken = takes-deep asks.program segment orders p.no_hyphen p.no_hyphens q.no_hyphen q.no_hyphens depth r.no_hyphen r.no_hyphens;
+      asks = asks-deep asks.program segment orders p.no_hyphen p.no_hyphens q.no_hyphen q.no_hyphens depth r.no_hyphen r.no_hyphens can;
+    })
+taken words (run_told segment orders (Some answers) (Some depth)) asks =
+    let p = plain segment asks.segment_is_plain in
+    let q = plain orders asks.orders_is_plain in
+    let r = plain answers asks.answers_is_plain in
+    let t = plain depth asks.depth_is_plain in
+    let apart : bytes_eq answers depth ≡ false = asks.apart in
+    let can : can_tell 1 (Some answers) (Some depth) ≡ true = rw (no_dash answers asks.answers_is_plain, no_dash depth asks.depth_is_plain, apart) refl in
+    rw asks.words_are (record {
+      taken = takes-both asks.program segment orders p.no_hyphen p.no_hyphens q.no_hyphen q.no_hyphens answers r.no_hyphen r.no_hyphens depth t.no_hyphen t.no_hyphens;
+      asks = asks-both asks.program segment orders p.no_hyphen p.no_hyphens q.no_hyphen q.no_hyphens answers r.no_hyphen r.no_hyphens depth t.no_hyphen t.no_hyphens can;
     })
 taken words (check segment) asks =
     let p = plain segment asks.segment_is_plain in
@@ -227,6 +318,6 @@ err_from (Err e) v P h p = rw h p
 -- what was asked for is the answer to words without a fault
 pub requested : (faults : Kinds) (asked : Option Asked) (request : Request) → faults ≡ [] → IsRequest asked request → AnswersWords faults asked (Ok request)
 requested faults asked (Run segment orders workers) none is = (none, is)
-requested faults asked (RunAnswered segment orders answers) none is = (none, is)
+requested faults asked (RunTold segment orders answers depth) none is = (none, is)
 requested faults asked (Check segment) none is = (none, is)
 requested faults asked (Help error) none is = absurd is

@@ -1,9 +1,12 @@
 -- How a run and a check end, as the program tells it.
-use Rattle.std.specs.Prelude.{◌≡◌, ◌≢◌, ◌≤◌, ◌⊎◌, ℕ, List, length, take, Option, Result, Ok, Err}
+use Rattle.std.specs.Prelude.{◌≡◌, ◌≢◌, ◌≤◌, ◌⊎◌, ℕ, List, length, take, Option, Result, Ok, Err, OnOk}
 use Rattle.std.specs.Io.KnownBytes.{Appends}
-use Rattle.xm_day.specs.Answers.{AreAnswers, DayEnds, InFileOrder}
+use Rattle.xm_day.specs.Answers.{DayEnds, InFileOrder, IsAsked, IsTextOfFiles}
 use Rattle.xm_day.specs.Checks.{CheckEnds}
+use Rattle.xm_day.specs.MarketDepth.{depth_text}
+use Rattle.xm_day.specs.RowAnswers.{answers_text}
 use Rattle.xm_day.specs.Workers.{IsShared}
+use Rattle.xm_day.specs.declared.report.AskedTexts.{AskedTexts}
 use Rattle.xm_day.specs.declared.report.DayReport.{DayReport}
 use Rattle.xm_day.specs.declared.faults.DayFault.{DayFault}
 use Rattle.xm_day.specs.declared.faults.DayFault.TheVariants.{WriteFailed}
@@ -36,40 +39,41 @@ pub record DayEndsBy (workers : ℕ) (segment orders old new : Option (List ℕ)
 abbrev pub RunEnds : ℕ → Option (List ℕ) → Option (List ℕ) → Option (List ℕ) → Option (List ℕ) → Result (Unit {0}) DayFault → Type 0
 RunEnds workers segment orders old new = TellsEnd (DayEndsBy workers segment orders old new)
 
--- the answers to the rows of two files were written, and nothing else
-pub record WritesAnswers (segment orders old new : Option (List ℕ)) : Type 0 where
-  pub text : List ℕ
-  pub are_answers : AreAnswers segment orders text
-  pub written : Appends old new text
+-- the texts that are told beside the statement of two files, each of which is empty where it isn't asked for
+pub record AreTexts (asked : AskedTexts) (segment orders : Option (List ℕ)) (answers depth : List ℕ) : Type 0 where
+  pub of_answers : IsAsked (IsTextOfFiles answers_text segment orders) asked.answers answers
+  pub of_depth : IsAsked (IsTextOfFiles depth_text segment orders) asked.depth depth
 
 -- known bytes grow by a beginning of the text, which may be all of it
 abbrev pub AppendsBeginning : Option (List ℕ) → Option (List ℕ) → List ℕ → Type 0
 AppendsBeginning old new text = (n : ℕ) × (n ≤ length text) × Appends old new (take n text)
 
--- a beginning of the answers was written
-pub record BeginsAnswers (segment orders old new : Option (List ℕ)) : Type 0 where
-  pub text : List ℕ
-  pub are_answers : AreAnswers segment orders text
-  pub written : AppendsBeginning old new text
+-- a beginning of each text was written: nothing of the second unless all of the first
+abbrev pub BeginsBoth : Option (List ℕ) → Option (List ℕ) → Option (List ℕ) → Option (List ℕ) → List ℕ → List ℕ → Type 0
+BeginsBoth old new second_old second_new text second_text =
+    (AppendsBeginning old new text × (second_new ≡ second_old)) ⊎ (Appends old new text × AppendsBeginning second_old second_new second_text)
 
--- how the writing of answers ends behind a day that ended so, and what is told of both: answers are written only where the whole
+-- how the writing of these texts ends behind a day that ended so, and what is told of both: they are written only where the whole
 -- statement was
-abbrev pub AnswersEnd : Option (List ℕ) → Option (List ℕ) → Option (List ℕ) → Option (List ℕ) → Result DayReport DayFault → Result (Unit {0}) DayFault → Type 0
-AnswersEnd segment orders old new (Ok report) (Ok done) = WritesAnswers segment orders old new
-AnswersEnd segment orders old new (Ok report) (Err fault) = (fault ≡ WriteFailed) × BeginsAnswers segment orders old new
-AnswersEnd segment orders old new (Err fault) (Ok done) = ⊥
-AnswersEnd segment orders old new (Err fault) (Err again) = (again ≡ told fault) × (new ≡ old)
+abbrev pub TextsEnd : (answers depth : List ℕ) → (old new depth_old depth_new : Option (List ℕ)) → Result DayReport DayFault → Result (Unit {0}) DayFault → Type 0
+TextsEnd answers depth old new depth_old depth_new (Ok report) (Ok done) = Appends old new answers × Appends depth_old depth_new depth
+TextsEnd answers depth old new depth_old depth_new (Ok report) (Err fault) = (fault ≡ WriteFailed) × BeginsBoth old new depth_old depth_new answers depth
+TextsEnd answers depth old new depth_old depth_new (Err fault) (Ok done) = ⊥
+TextsEnd answers depth old new depth_old depth_new (Err fault) (Err again) = (again ≡ told fault) × (new ≡ old) × (depth_new ≡ depth_old)
 
--- how the run of two files ends that one worker takes, and whose answers go to a file
-pub record AnsweredRunEnds (segment orders old new answers_before answers_after : Option (List ℕ)) (result : Result (Unit {0}) DayFault) : Type 0 where
+-- how the run of two files ends that one worker takes, and of which these texts are told
+pub record ToldRunEnds (asked : AskedTexts) (segment orders old new answers_old answers_new depth_old depth_new : Option (List ℕ)) (result : Result (Unit {0}) DayFault) : Type 0 where
   pub end : Result DayReport DayFault
+  pub answers : List ℕ
+  pub depth : List ℕ
   pub day_ends : DayEnds InFileOrder segment orders old new end
-  pub answers_end : AnswersEnd segment orders answers_before answers_after end result
+  pub are_texts : OnOk end (AreTexts asked segment orders answers depth)
+  pub texts_end : TextsEnd answers depth answers_old answers_new depth_old depth_new end result
 
--- the same where the file may not be one that can be made, and then nothing is read or written
-abbrev pub FileRunEnds : Option (List ℕ) → Option (List ℕ) → Result (Unit {0}) DayFault → Type 0
-FileRunEnds old new result =
-    ((segment orders answers_before answers_after : Option (List ℕ)) × AnsweredRunEnds segment orders old new answers_before answers_after result)
+-- the same where a file may not be one that can be made, and then nothing is read or written
+abbrev pub FilesEnd : AskedTexts → Option (List ℕ) → Option (List ℕ) → Result (Unit {0}) DayFault → Type 0
+FilesEnd asked old new result =
+    ((segment orders answers_old answers_new depth_old depth_new : Option (List ℕ)) × ToldRunEnds asked segment orders old new answers_old answers_new depth_old depth_new result)
     ⊎ ((result ≡ Err WriteFailed) × (new ≡ old))
 
 -- how the check of a segment file ends

@@ -6,9 +6,9 @@ use Rattle.clap.specs.Words.{IsAmong, Kinds}
 use Rattle.clap.specs.declared.error.kind.ErrorKind.{ErrorKind}
 use Rattle.xm_day.specs.declared.faults.DayFault.{DayFault}
 use Rattle.xm_day.specs.declared.faults.DayFault.TheVariants.{OutOfMemory, WriteFailed}
-use Rattle.xm_program.specs.Days.{FileCheckEnds, FileRunEnds, RunEnds}
+use Rattle.xm_program.specs.Days.{FileCheckEnds, FilesEnd, RunEnds}
 use Rattle.xm_program.specs.FaultLines.{fault_line}
-use Rattle.xm_program.specs.Requests.{Asked, IsOfWords, check, end_status, is_mistake, run, run_answered}
+use Rattle.xm_program.specs.Requests.{Asked, IsOfWords, asked_texts, check, end_status, is_mistake, run, run_told}
 use Rattle.xm_program.specs.declared.requests.Failure.{Failure}
 use Rattle.xm_program.specs.declared.requests.Failure.TheVariants.{Day, Words}
 use Rattle.xm_ticks.specs.Writing.{AppendsPrefix}
@@ -16,7 +16,7 @@ use Rattle.xm_ticks.specs.Writing.{AppendsPrefix}
 -- what was asked for ended so, on files of some bytes
 abbrev pub AskedEnds : Asked → Option (List ℕ) → Option (List ℕ) → Result (Unit {0}) DayFault → Type 0
 AskedEnds (run segment orders workers) old new end = (segment_bytes order_bytes : Option (List ℕ)) × RunEnds workers segment_bytes order_bytes old new end
-AskedEnds (run_answered segment orders answers) old new end = FileRunEnds old new end
+AskedEnds (run_told segment orders answers depth) old new end = FilesEnd (asked_texts answers depth) old new end
 AskedEnds (check segment) old new end = (segment_bytes : Option (List ℕ)) × FileCheckEnds segment_bytes old new end
 
 -- the words have no fault and ask for a run or a check, which ended so

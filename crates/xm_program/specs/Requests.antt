@@ -1,5 +1,5 @@
 -- How the words of a command line are answered.
-use Rattle.std.specs.Prelude.{◌≡◌, ◌≤◌, ◌==◌, ℕ, pos, Bool, false, true, ◌&&◌, not, if◌then◌else◌, ◌⊎◌, List, [], ◌∷◌, Option, Some, None, Result, Ok, Err, ⊤, codes, option_and_then, option_map, unwrap_or}
+use Rattle.std.specs.Prelude.{◌≡◌, ◌≤◌, ◌==◌, ℕ, pos, Bool, false, true, ◌&&◌, ◌||◌, not, if◌then◌else◌, ◌⊎◌, List, [], ◌∷◌, ◌++◌, Option, Some, None, IfSome, is_some, Result, Ok, Err, ⊤, codes, option_and_then, option_map, unwrap_or}
 use Rattle.std.specs.Fmt.{decimal}
 use Rattle.std.specs.Str.{bytes_eq}
 use Rattle.std.specs.Str.Parse.{digits_value, without_leading_plus}
@@ -15,9 +15,10 @@ use Rattle.clap.specs.declared.error.kind.ErrorKind.TheVariants as kind
 use Rattle.std_io.specs.declared.io.kind.ErrorKind.{ErrorKind as ReadKind}
 use Rattle.std_io.specs.declared.io.kind.ErrorKind.TheVariants as reading
 use Rattle.xm_day.specs.declared.faults.DayFault.TheVariants as day
+use Rattle.xm_day.specs.declared.report.AskedTexts.{AskedTexts}
 use Rattle.xm_segment.specs.Opening.{max_workers}
 use Rattle.xm_program.specs.declared.requests.Request.{Request}
-use Rattle.xm_program.specs.declared.requests.Request.TheVariants.{Run, RunAnswered, Check, Help}
+use Rattle.xm_program.specs.declared.requests.Request.TheVariants.{Run, RunTold, Check, Help}
 use Rattle.xm_program.specs.declared.requests.Failure.{Failure}
 use Rattle.xm_program.specs.declared.requests.Failure.TheVariants.{Day, Words}
 
@@ -37,14 +38,15 @@ workers_rule = record (new_rule (codes "workers")) {
   parser = Some (Signed (pos 1) (pos max_workers));
 }
 
--- `--answers FILE`, which may be left out
-abbrev pub answers_rule : Rule
-answers_rule = record (new_rule (codes "answers")) { long = Some (codes "answers"); action = Some Set; value_names = 1 }
+-- `--answers FILE` or `--depth FILE`, which may be left out
+abbrev pub file_rule : Text → Rule
+file_rule id = record (new_rule id) { long = Some id; action = Some Set; value_names = 1 }
 
--- `run SEGMENT ORDERS --workers N --answers FILE`
+-- `run SEGMENT ORDERS --workers N --answers FILE --depth FILE`
 abbrev pub run_app : App
 run_app =
-    with_rule (with_rule (with_rule (with_rule (new_app (codes "run")) (path_rule (codes "SEGMENT"))) (path_rule (codes "ORDERS"))) workers_rule) answers_rule
+    with_rule (with_rule (with_rule (with_rule (with_rule (new_app (codes "run")) (path_rule (codes "SEGMENT"))) (path_rule (codes "ORDERS"))) workers_rule)
+    (file_rule (codes "answers"))) (file_rule (codes "depth"))
 
 -- `check SEGMENT`
 abbrev pub check_app : App
@@ -57,38 +59,53 @@ day_app = with_subcommand (with_subcommand (on_top (λ s. record s { has_version
 
 -- ---- what the words ask for
 
--- the run of a segment file and an order file by so many workers, or by one that also writes the answers to a file, or the check
--- of a segment file
+-- the run of a segment file and an order file by so many workers, or by one that also writes the answers, the levels or both to
+-- files, or the check of a segment file
 pub data Asked : Type 0 where
   run : Text → Text → ℕ → Asked
-  run_answered : Text → Text → Text → Asked
+  run_told : Text → Text → Option Text → Option Text → Asked
   check : Text → Asked
 
 -- a number of workers, by its decimal digits
 abbrev pub workers_in : Text → Option ℕ
 workers_in text = if is_unsigned_in 1 max_workers text then Some (digits_value 10 (without_leading_plus text)) else None
 
--- answers are those of one worker, and go to a file, not to standard output
-abbrev pub can_answer : ℕ → Text → Bool
-can_answer workers answers = (workers == 1) && not (bytes_eq answers (codes "-"))
+-- a path is not that of standard output
+abbrev pub is_file : Option Text → Bool
+is_file None = true
+is_file (Some path) = not (bytes_eq path (codes "-"))
+
+abbrev pub is_one_path : Option Text → Option Text → Bool
+is_one_path (Some first) (Some second) = bytes_eq first second
+is_one_path _ _ = false
+
+-- the texts beside a statement are those of one worker, and go to a file each, not to standard output
+abbrev pub can_tell : ℕ → Option Text → Option Text → Bool
+can_tell workers answers depth = (workers == 1) && (is_file answers && (is_file depth && not (is_one_path answers depth)))
+
+-- the run of two files with texts beside its statement
+abbrev pub told_run : Text → Text → ℕ → Option Text → Option Text → Option Asked
+told_run segment orders workers answers depth = if can_tell workers answers depth then Some (run_told segment orders answers depth) else None
 
 -- the run of two files
-abbrev pub run_to : Text → Text → ℕ → Option Text → Option Asked
-run_to segment orders workers None = Some (run segment orders workers)
-run_to segment orders workers (Some answers) = if can_answer workers answers then Some (run_answered segment orders answers) else None
+abbrev pub run_to : Text → Text → ℕ → Option Text → Option Text → Option Asked
+run_to segment orders workers None None = Some (run segment orders workers)
+run_to segment orders workers None (Some depth) = told_run segment orders workers None (Some depth)
+run_to segment orders workers (Some answers) depth = told_run segment orders workers (Some answers) depth
 
 -- the run that the values of a subcommand ask for
-abbrev pub run_of : Option Text → Option Text → Option ℕ → Option Text → Option Asked
-run_of (Some segment) (Some orders) (Some workers) answers = run_to segment orders workers answers
-run_of (Some segment) (Some orders) None answers = None
-run_of (Some segment) None workers answers = None
-run_of None orders workers answers = None
+abbrev pub run_of : Option Text → Option Text → Option ℕ → Option Text → Option Text → Option Asked
+run_of (Some segment) (Some orders) (Some workers) answers depth = run_to segment orders workers answers depth
+run_of (Some segment) (Some orders) None answers depth = None
+run_of (Some segment) None workers answers depth = None
+run_of None orders workers answers depth = None
 
 abbrev pub asked_in : Option (Text × List Row) → Option Asked
 asked_in None = None
 asked_in (Some p) =
     if bytes_eq p.0 (codes "run")
-    then run_of (first_of (codes "SEGMENT") p.1) (first_of (codes "ORDERS") p.1) (option_and_then workers_in (one_of (codes "workers") p.1)) (first_of (codes "answers") p.1)
+    then run_of (first_of (codes "SEGMENT") p.1) (first_of (codes "ORDERS") p.1) (option_and_then workers_in (one_of (codes "workers") p.1))
+    (first_of (codes "answers") p.1) (first_of (codes "depth") p.1)
     else (if bytes_eq p.0 (codes "check") then option_map check (first_of (codes "SEGMENT") p.1) else None)
 
 -- the run or the check that the words ask for
@@ -116,13 +133,25 @@ pub record AsksRun (words : List Text) (segment orders : Text) (workers : ℕ) :
   pub some : 1 ≤ workers
   pub few : workers ≤ max_workers
 
--- the words are the program's name, `run`, two paths, `--answers` and a path of a file
-pub record AsksAnswers (words : List Text) (segment orders answers : Text) : Type 0 where
+-- the words that ask for a text in a file, if there is a path for it
+abbrev pub file_words : Text → Option Text → List Text
+file_words option None = []
+file_words option (Some path) = option ∷ path ∷ []
+
+-- the texts that go to files for which there is a path
+abbrev pub asked_texts : Option Text → Option Text → AskedTexts
+asked_texts answers depth = record { answers = is_some answers; depth = is_some depth }
+
+-- the words are the program's name, `run`, two paths, and `--answers`, `--depth` or both, each with the path of a file
+pub record AsksTexts (words : List Text) (segment orders : Text) (answers depth : Option Text) : Type 0 where
   pub program : Text
-  pub words_are : words ≡ program ∷ codes "run" ∷ segment ∷ orders ∷ codes "--answers" ∷ answers ∷ []
+  pub words_are : words ≡ program ∷ codes "run" ∷ segment ∷ orders ∷ (file_words (codes "--answers") answers ++ file_words (codes "--depth") depth)
   pub segment_is_plain : is_plain_word segment ≡ true
   pub orders_is_plain : is_plain_word orders ≡ true
-  pub answers_is_plain : is_plain_word answers ≡ true
+  pub answers_is_plain : IfSome answers (λ path. is_plain_word path ≡ true)
+  pub depth_is_plain : IfSome depth (λ path. is_plain_word path ≡ true)
+  pub apart : is_one_path answers depth ≡ false
+  pub some : is_some answers || is_some depth ≡ true
 
 -- the words are the program's name, `check` and a path
 pub record AsksCheck (words : List Text) (segment : Text) : Type 0 where
@@ -133,7 +162,7 @@ pub record AsksCheck (words : List Text) (segment : Text) : Type 0 where
 -- the words ask for it in a form that is always taken
 abbrev pub Asks : List Text → Asked → Type 0
 Asks words (run segment orders workers) = AsksRun words segment orders workers
-Asks words (run_answered segment orders answers) = AsksAnswers words segment orders answers
+Asks words (run_told segment orders answers depth) = AsksTexts words segment orders answers depth
 Asks words (check segment) = AsksCheck words segment
 
 -- ---- the answer
@@ -141,7 +170,7 @@ Asks words (check segment) = AsksCheck words segment
 -- the request is what was asked for, and not a help text
 abbrev pub IsRequest : Option Asked → Request → Type 0
 IsRequest asked (Run segment orders workers) = asked ≡ Some (run segment.now orders.now workers)
-IsRequest asked (RunAnswered segment orders answers) = asked ≡ Some (run_answered segment.now orders.now answers.now)
+IsRequest asked (RunTold segment orders answers depth) = asked ≡ Some (run_told segment.now orders.now (option_map (λ s. s.now) answers) (option_map (λ s. s.now) depth))
 IsRequest asked (Check segment) = asked ≡ Some (check segment.now)
 IsRequest asked (Help error) = ⊥
 

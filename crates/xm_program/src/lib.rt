@@ -12,6 +12,7 @@ mod workers;
 
 pub use crate::fault_lines::fault_line;
 pub use crate::inputs::{Input, open_input};
-pub use crate::program::{check, run, run_answered, run_program, run_words};
+pub use crate::outputs::Output;
+pub use crate::program::{check, run, run_program, run_told, run_words};
 pub use crate::requests::{Failure, Request, read_words};
 pub use crate::workers::Workers;

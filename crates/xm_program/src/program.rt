@@ -1,11 +1,11 @@
 //! A call of the program, over any runtime.
-ghost use Rattle.std.specs.Prelude.{◌≡◌, ◌≢◌, ◌≤◌, ℕ, List, Option, Err, IfErr, OnErr, OnOk, map, string_bytes};
+ghost use Rattle.std.specs.Prelude.{◌≡◌, ◌≢◌, ◌≤◌, ℕ, List, Option, Err, IfErr, OnErr, OnOk, map, option_map, string_bytes};
 ghost use Rattle.std.specs.Io.KnownBytes.{Appends, Keeps};
 ghost use Rattle.std.specs.Process.{exit_status};
 ghost use Rattle.clap.specs.Words.{fault_of};
-ghost use Rattle.xm_program.specs.Days.{AnsweredRunEnds, AppendsBeginning, FileCheckEnds, FileRunEnds, IsEnd, RunEnds};
+ghost use Rattle.xm_program.specs.Days.{AppendsBeginning, BeginsBoth, FileCheckEnds, FilesEnd, IsEnd, RunEnds, ToldRunEnds};
 ghost use Rattle.xm_program.specs.Ends.{CallEnds, IsDone, IsToldAs};
-ghost use Rattle.xm_program.specs.Requests.{RefusesBytes, asked_of, day_app, end_status};
+ghost use Rattle.xm_program.specs.Requests.{RefusesBytes, asked_of, asked_texts, day_app, end_status};
 
 use crate::complaints::Complaints;
 use crate::fault_lines::{fault_line, told};
@@ -21,7 +21,7 @@ use std::rt::{Env, Files};
 use std::sync::Wait;
 use std::thread::Threads;
 use std::{env, fs, io};
-use xm_day::{DayFault, run_day};
+use xm_day::{AskedTexts, DayFault, run_day};
 use xm_memory::OutOfMemory;
 use xm_names::{Seed, Storage};
 use xm_segment::NoGate;
@@ -69,11 +69,12 @@ fn answer<R: AllocGlobal + Files + RandomSource + Threads + Wait + Sync, W: Writ
             orders,
             workers,
         } => Ok(run_files(rt, segment, orders, workers, out)?),
-        Request::RunAnswered {
+        Request::RunTold {
             segment,
             orders,
             answers,
-        } => Ok(answer_files(rt, segment, orders, answers, out)?),
+            depth,
+        } => Ok(tell_files(rt, segment, orders, answers, depth, out)?),
         Request::Check { segment } => Ok(check_file(rt, segment, out)?),
         Request::Help(text) => Ok(print_help(text, out)?),
     }
@@ -95,25 +96,43 @@ fn run_files<R: AllocGlobal + Files + RandomSource + Threads + Wait + Sync, W: W
     run(rt, storage(rt), &mut segment, &mut orders, workers, out)
 }
 
-/// Writes the statement of the day in the files at two paths, and the answers to its rows to a file at a third, which is made
+/// Writes the statement of the day in the files at two paths, and the texts beside it to those that are given, which are made
 /// before any is read.
-fn answer_files<R: AllocGlobal + Files + RandomSource, W: Write>(
+fn tell_files<R: AllocGlobal + Files + RandomSource, W: Write>(
     rt: &R,
     segment: &str,
     orders: &str,
-    answers: &str,
+    answers: Option<&str>,
+    depth: Option<&str>,
     out: &mut W,
 ) -> Result<(), DayFault>
-    ensures ends { FileRunEnds (W.contents out.old) (W.contents out.new) result }
+    ensures ends { FilesEnd (asked_texts (option_map (λ s. s.now) answers.entry) (option_map (λ s. s.now) depth.entry)) (W.contents out.old) (W.contents out.new) result }
     ensures untouched { IfErr result (λ fault. fault ≢ DayFault.WriteFailed → out.new ≡ out.old) }
 {
-    let mut answers = match outputs::make_file(rt, answers, segment, orders) {
-        Ok(file) => file,
+    let asked = AskedTexts {
+        answers: answers.is_some(),
+        depth: depth.is_some(),
+    };
+    let (mut answers, mut depth) = match outputs::make_files(
+        rt,
+        answers,
+        depth,
+        [segment, orders],
+    ) {
+        Ok(files) => files,
         Err(_) => return Err(DayFault::WriteFailed),
     };
     let mut segment = inputs::open_input(|path| fs::open(rt, path), segment);
     let mut orders = inputs::open_input(|path| fs::open(rt, path), orders);
-    run_answered(storage(rt), &mut segment, &mut orders, out, &mut answers)
+    run_told(
+        storage(rt),
+        &mut segment,
+        &mut orders,
+        out,
+        asked,
+        &mut answers,
+        &mut depth,
+    )
 }
 
 /// Checks the segment file at a path, and writes its line.
@@ -171,26 +190,47 @@ pub fn run<R: Threads + Wait + Sync, S: Read, O: Read, W: Write>(
     sent_out(ended, out)
 }
 
-/// Writes the statement of the day in two files, sees that all of it went out, and then does so with the answers to its rows.
+/// Writes the statement of the day in two files, sees that all of it went out, and then does so with the answers to its rows and
+/// with the levels behind them, as far as they are asked for. Where one isn't, nothing is written to its writer.
 ///
-/// `WriteFailed` tells that either writer failed. That of the answers got nothing where the statement didn't go out whole.
-pub fn run_answered<S: Read, O: Read, W: Write, A: Write>(
+/// `WriteFailed` tells that one of the writers failed. Those behind it got nothing.
+pub fn run_told<S: Read, O: Read, W: Write, A: Write, D: Write>(
     storage: Storage<Global>,
     segment: &mut S,
     orders: &mut O,
     out: &mut W,
+    asked: AskedTexts,
     answers: &mut A,
+    depth: &mut D,
 ) -> Result<(), DayFault>
-    ensures ends { AnsweredRunEnds (S.remaining segment.old) (O.remaining orders.old) (W.contents out.old) (W.contents out.new) (A.contents answers.old) (A.contents answers.new) result }
+    ensures ends { ToldRunEnds asked (S.remaining segment.old) (O.remaining orders.old) (W.contents out.old) (W.contents out.new)
+        (A.contents answers.old) (A.contents answers.new) (D.contents depth.old) (D.contents depth.new) result }
     ensures untouched { IfErr result (λ fault. fault ≢ DayFault.WriteFailed → out.new ≡ out.old) }
 {
-    let day = match xm_day::run_answered(storage, segment, orders, out) {
+    let day = match xm_day::run_told(storage, segment, orders, out, asked) {
         Ok(day) => day,
         Err(fault) => return Err(told(fault)),
     };
     match out.flush() {
-        Ok(()) => send(answers, day.answers.as_slice()),
+        Ok(()) => send_both(answers, day.answers.as_slice(), depth, day.depth.as_slice()),
         Err(_) => Err(DayFault::WriteFailed),
+    }
+}
+
+/// Writes a text to each of two writers, one after the other, and sees that all of it went out.
+fn send_both<A: Write, D: Write>(
+    answers: &mut A,
+    answers_text: &[u8],
+    depth: &mut D,
+    depth_text: &[u8],
+) -> Result<(), DayFault>
+    ensures sent { OnOk result (Appends (A.contents answers.old) (A.contents answers.new) answers_text.now × Appends (D.contents depth.old) (D.contents depth.new) depth_text.now) }
+    ensures failed { IfErr result (λ fault. (fault ≡ DayFault.WriteFailed)
+        × BeginsBoth (A.contents answers.old) (A.contents answers.new) (D.contents depth.old) (D.contents depth.new) answers_text.now depth_text.now) }
+{
+    match send(answers, answers_text) {
+        Ok(()) => send(depth, depth_text),
+        Err(fault) => Err(fault),
     }
 }
 

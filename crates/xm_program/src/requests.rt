@@ -1,9 +1,9 @@
 //! What the words of the command line ask for.
-ghost use Rattle.std.specs.Prelude.{◌≡◌, [], IfOk, IfErr, IfSome, IsSome, None, codes, map, option_and_then, string_bytes, false, true};
+ghost use Rattle.std.specs.Prelude.{◌≡◌, [], IfOk, IfErr, IfSome, IsSome, None, codes, map, option_and_then, option_map, string_bytes, false, true};
 ghost use Rattle.clap.specs.Words.{app_of, fault_of, first_of, found_of, kind_of, one_of, rows_of, rule_of, subcommand_rows_of, takes};
 ghost use Rattle.clap.specs.declared.builder.command.Command.TheViews.{out-Command as fields_of};
 ghost use Rattle.clap.specs.declared.error.kind.ErrorKind.TheVariants as kind;
-ghost use Rattle.xm_program.specs.Requests.{AnswersWords, Asked, Asks, IsGranted, IsOfWords, IsRequest, IsTold, IsUnread, answer_of, answers_rule, asked_in, asked_of, can_answer, check_app, day_app, failure_status, path_rule, run_app, run_to, workers_in, workers_rule};
+ghost use Rattle.xm_program.specs.Requests.{AnswersWords, Asked, Asks, IsGranted, IsOfWords, IsRequest, IsTold, IsUnread, answer_of, asked_in, asked_of, can_tell, check_app, day_app, failure_status, file_rule, is_file, is_one_path, path_rule, run_app, run_to, told_run, workers_in, workers_rule};
 
 use crate::workers::Workers;
 use clap::error::ErrorKind;
@@ -66,17 +66,32 @@ orders.csv
 
 const ANSWERS: &str = "answers";
 
+const DEPTH: &str = "depth";
+
 /// By this word a file is standard output, where the statement goes.
 const STANDARD_OUTPUT: &str = "-";
 
-const CANNOT_ANSWER: &str =
-    "--answers goes with one worker, and with a file: standard output has the statement";
+const CANNOT_TELL: &str =
+    "--answers and --depth go with one worker, and with a file each: standard output has the statement";
+
+const ANSWERS_SHORT: &str =
+    "Writes the answer to each row, and the market after it, to this file (CSV)";
 
 const ANSWERS_HELP: &str =
     "Writes the answer to each row, and the market after it, to this file (CSV)
 
 The file is made before any file is read, and written behind the statement. docs/FORMATS.md tells
 of each field. It goes with one worker.";
+
+const DEPTH_SHORT: &str =
+    "Writes the best levels of both sides, behind each row that changed them, to this file (CSV)";
+
+const DEPTH_HELP: &str =
+    "Writes the best levels of both sides, behind each row that changed them, to this file (CSV)
+
+Five limits of each side with the units that rest at them, and the units of market orders, as far as
+they are active in the phase. The file is made before any file is read, and written behind the
+statement and the answers. docs/FORMATS.md tells of each field. It goes with one worker.";
 
 const WORKERS_HELP: &str = "How many workers take the rows of members, side by side: 1 to 64
 
@@ -104,11 +119,12 @@ pub enum Request<'a> {
         orders: &'a str,
         workers: Workers,
     },
-    /// The same by one worker, and the answers to the rows in a file at a path.
-    RunAnswered {
+    /// The same by one worker, with the answers to the rows, the levels behind them, or both, in files at paths of their own.
+    RunTold {
         segment: &'a str,
         orders: &'a str,
-        answers: &'a str,
+        answers: Option<&'a str>,
+        depth: Option<&'a str>,
     },
     /// The check of a segment file, which is given by its path.
     Check {
@@ -197,7 +213,7 @@ fn read_request<'a>(mut command: Command<'a>, words: &'a [String]) -> Result<Req
     let matches = command.try_get_matches_from_mut(words)?;
     match request_in(&matches) {
         Some(request) => Ok(request),
-        None => Err(command.error(ErrorKind::ArgumentConflict, CANNOT_ANSWER)?),
+        None => Err(command.error(ErrorKind::ArgumentConflict, CANNOT_TELL)?),
     }
 }
 
@@ -227,34 +243,89 @@ fn run_in<'a>(
     orders: &'a str,
     workers: Workers,
 ) -> Option<Request<'a>>
-    ensures some { IfSome result (IsRequest (run_to segment.now orders.now workers (first_of (codes "answers") (rows_of (found_of values.now))))) }
-    ensures none { result ≡ None → run_to segment.now orders.now workers (first_of (codes "answers") (rows_of (found_of values.now))) ≡ None }
+    ensures some { IfSome result (IsRequest (run_to segment.now orders.now workers (first_of (codes "answers") (rows_of (found_of values.now))) (first_of (codes "depth") (rows_of (found_of values.now))))) }
+    ensures none { result ≡ None → run_to segment.now orders.now workers (first_of (codes "answers") (rows_of (found_of values.now))) (first_of (codes "depth") (rows_of (found_of values.now))) ≡ None }
 {
-    match values.get_str(ANSWERS) {
-        None => Some(Request::Run {
-            segment,
-            orders,
-            workers,
-        }),
-        Some(answers) => {
-            if can_answer(workers, answers) {
-                Some(Request::RunAnswered {
-                    segment,
-                    orders,
-                    answers,
-                })
-            } else {
-                None
-            }
-        }
+    let answers = values.get_str(ANSWERS);
+    let depth = values.get_str(DEPTH);
+    run_to(segment, orders, workers, answers, depth)
+}
+
+/// The run of two files, with the texts beside its statement for which there are paths.
+fn run_to<'a>(
+    segment: &'a str,
+    orders: &'a str,
+    workers: Workers,
+    answers: Option<&'a str>,
+    depth: Option<&'a str>,
+) -> Option<Request<'a>>
+    ensures some { IfSome result (IsRequest (run_to segment.entry.now orders.entry.now workers (option_map (λ s. s.now) answers.entry) (option_map (λ s. s.now) depth.entry))) }
+    ensures none { result ≡ None → run_to segment.entry.now orders.entry.now workers (option_map (λ s. s.now) answers.entry) (option_map (λ s. s.now) depth.entry) ≡ None }
+{
+    match answers {
+        None => match depth {
+            None => Some(Request::Run {
+                segment,
+                orders,
+                workers,
+            }),
+            Some(_) => told_run(segment, orders, workers, answers, depth),
+        },
+        Some(_) => told_run(segment, orders, workers, answers, depth),
     }
 }
 
-/// Whether so many workers can write answers there: one alone, and not to standard output.
-fn can_answer(workers: Workers, answers: &str) -> bool
-    ensures { result ≡ can_answer workers answers.now }
+/// The run of two files with texts beside its statement, if they can be told.
+fn told_run<'a>(
+    segment: &'a str,
+    orders: &'a str,
+    workers: Workers,
+    answers: Option<&'a str>,
+    depth: Option<&'a str>,
+) -> Option<Request<'a>>
+    ensures some { IfSome result (IsRequest (told_run segment.entry.now orders.entry.now workers (option_map (λ s. s.now) answers.entry) (option_map (λ s. s.now) depth.entry))) }
+    ensures none { result ≡ None → told_run segment.entry.now orders.entry.now workers (option_map (λ s. s.now) answers.entry) (option_map (λ s. s.now) depth.entry) ≡ None }
 {
-    workers.get() == 1 && answers != STANDARD_OUTPUT
+    if can_tell(workers, answers, depth) {
+        Some(Request::RunTold {
+            segment,
+            orders,
+            answers,
+            depth,
+        })
+    } else {
+        None
+    }
+}
+
+/// Whether so many workers can tell texts in files at these paths: one alone, not on standard output, and not two in one file.
+fn can_tell(workers: Workers, answers: Option<&str>, depth: Option<&str>) -> bool
+    ensures { result ≡ can_tell workers (option_map (λ s. s.now) answers.entry) (option_map (λ s. s.now) depth.entry) }
+{
+    workers.get() == 1 && is_file(answers) && is_file(depth) && !is_one_path(answers, depth)
+}
+
+/// Whether a path, if there is one, isn't that of standard output.
+fn is_file(path: Option<&str>) -> bool
+    ensures { result ≡ is_file (option_map (λ s. s.now) path.entry) }
+{
+    match path {
+        None => true,
+        Some(path) => path != STANDARD_OUTPUT,
+    }
+}
+
+/// Whether both paths are there, and the same.
+fn is_one_path(first: Option<&str>, second: Option<&str>) -> bool
+    ensures { result ≡ is_one_path (option_map (λ s. s.now) first.entry) (option_map (λ s. s.now) second.entry) }
+{
+    match first {
+        None => false,
+        Some(first) => match second {
+            None => false,
+            Some(second) => first == second,
+        },
+    }
 }
 
 /// The number of workers among the values of a run.
@@ -315,7 +386,8 @@ fn run_command<'a>(alloc: Global) -> Result<Command<'a>, OutOfMemory>
         .arg(path(alloc, SEGMENT).help(SEGMENT_HELP))?
         .arg(path(alloc, ORDERS).help(ORDERS_HELP))?
         .arg(workers(alloc))?
-        .arg(answers(alloc))?;
+        .arg(file(alloc, ANSWERS, ANSWERS_SHORT, ANSWERS_HELP))?
+        .arg(file(alloc, DEPTH, DEPTH_SHORT, DEPTH_HELP))?;
     Ok(command)
 }
 
@@ -355,15 +427,15 @@ fn workers<'a>(alloc: Global) -> Arg<'a>
         .long_help(WORKERS_HELP)
 }
 
-/// The file of the answers, which may be left out.
-fn answers<'a>(alloc: Global) -> Arg<'a>
-    ensures rule { rule_of result ≡ answers_rule }
+/// The path of a file for a text beside the statement, which may be left out, with its help in short and at length.
+fn file<'a>(alloc: Global, name: &'a str, short: &'a str, long: &'a str) -> Arg<'a>
+    ensures rule { rule_of result ≡ file_rule name.entry.now }
     ensures local { result.global ≡ false }
 {
-    Arg::new(alloc, ANSWERS)
-        .long(ANSWERS)
+    Arg::new(alloc, name)
+        .long(name)
         .value_name("FILE")
         .action(ArgAction::Set)
-        .help("Writes the answer to each row, and the market after it, to this file (CSV)")
-        .long_help(ANSWERS_HELP)
+        .help(short)
+        .long_help(long)
 }

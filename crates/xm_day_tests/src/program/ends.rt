@@ -161,8 +161,8 @@ const ANSWERED: [End; 2] = [
 ];
 
 /// What is told where the answers can't be written as the words ask.
-pub const CANNOT_ANSWER: Printed = Printed::Text(
-    "error: --answers goes with one worker, and with a file: standard output has the statement\n\nUsage: xetra-day <COMMAND>\n\nFor more information, try '--help'.\n",
+pub const CANNOT_TELL: Printed = Printed::Text(
+    "error: --answers and --depth go with one worker, and with a file each: standard output has the statement\n\nUsage: xetra-day <COMMAND>\n\nFor more information, try '--help'.\n",
 );
 
 /// Runs that write no answers: the order file is at fault, the file is one that is read, or it can't be made, and mistakes.
@@ -205,7 +205,7 @@ const UNANSWERED: [End; 6] = [
     ),
     complains!(
         2,
-        CANNOT_ANSWER,
+        CANNOT_TELL,
         b"run",
         b"day.toml",
         b"day.csv",
@@ -214,7 +214,7 @@ const UNANSWERED: [End; 6] = [
     ),
     complains!(
         2,
-        CANNOT_ANSWER,
+        CANNOT_TELL,
         b"run",
         b"day.toml",
         b"day.csv",

@@ -58,6 +58,13 @@ Options:
           The file is made before any file is read, and written behind the statement. docs/FORMATS.md tells
           of each field. It goes with one worker.
 
+      --depth <FILE>
+          Writes the best levels of both sides, behind each row that changed them, to this file (CSV)
+          
+          Five limits of each side with the units that rest at them, and the units of market orders, as far as
+          they are active in the phase. The file is made before any file is read, and written behind the
+          statement and the answers. docs/FORMATS.md tells of each field. It goes with one worker.
+
   -h, --help
           Print help (see a summary with '-h')
 

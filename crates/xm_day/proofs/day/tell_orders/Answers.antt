@@ -5,7 +5,7 @@ use Rattle.xm_files.proofs.PassedErrors.{is_passed}
 use Rattle.xm_day.specs.Answers.{DesksEnd, InFileOrder, OrdersEnd, report_in}
 use Rattle.xm_day.specs.Day.{day_of}
 use Rattle.xm_day.specs.declared.faults.DayFault.{DayFault}
-use Rattle.xm_day.specs.declared.report.AnsweredDay.{AnsweredDay}
+use Rattle.xm_day.specs.declared.report.ToldDay.{ToldDay}
 use Rattle.xm_day.proofs.day.tell_orders.Goals as goal
 
 pub returns-in_err-statement-clause-ends : goal.returns-in_err-statement-clause-ends
@@ -18,7 +18,7 @@ returns-in_err-statement-clause-ends g c =
     let lent = ap (λ (js : List Journal). day_of js report.accepted report.refused) c.as_slice.ensures.value in
     let read = orders-read names config _ c.in-Ok.bytes.items _ c.in-Ok.ensures.bytes c.in-Ok.ensures.short ran.1 in
     let fault = c.in_err-statement.field-0.0 in
-    let Ends : Result AnsweredDay DayFault → Type 0 = λ r. OrdersEnd InFileOrder config names (g.R.Read.remaining c.args.orders.now) (g.W.Write.contents c.args.out.now) (g.W.Write.contents c.statement.new.out) (report_in r) in
+    let Ends : Result ToldDay DayFault → Type 0 = λ r. OrdersEnd InFileOrder config names (g.R.Read.remaining c.args.orders.now) (g.W.Write.contents c.args.out.now) (g.W.Write.contents c.statement.new.out) (report_in r) in
     subst Ends (sym (is_passed c.from_residual-in_err-statement.result fault c.from_residual-in_err-statement.ensures.1))
     (OrdersEnd-of_writing InFileOrder config names ran.0 _ _ _ fault read ends.0 c.in_err-statement.ensures.faults
     (λ failed. record { day = day_of c.as_slice.result.now report.accepted report.refused; is_of_rows = lent ∙ ends.2; written = c.in_err-statement.ensures.failed (ap Err failed) }))

@@ -3,9 +3,11 @@ use Rattle.std.proofs.lemmas.List.{length-append}
 use Rattle.xm_rules.specs.Step.{Journal}
 use Rattle.xm_day.proofs.Days.{after_rows-append, lacks-later, lent_back}
 use Rattle.xm_day.proofs.Endings.{if_memory}
+use Rattle.xm_day.proofs.Feeding.{feed-joined}
 use Rattle.xm_day.proofs.Tells.{answers-joined}
 use Rattle.xm_day.specs.Answers.{HasTaken}
 use Rattle.xm_day.specs.Day.{Day, LacksMemoryAt, after_rows, day_of, opening_day}
+use Rattle.xm_day.specs.Feeds.{feed_of}
 use Rattle.xm_day.specs.RowAnswers.{answers_text, where_asked}
 use Rattle.xm_day.proofs.desks.take_more.Goals as goal
 
@@ -31,7 +33,8 @@ returns c = λ asked config taken has.
           ∙ ap (λ (d : Day). after_rows d rows) day
           ∙ sym (after_rows-append (opening_day config) taken rows);
       all = omega (arith, both, counted, count);
-      answers_are = answers-joined asked names config taken rows _ _ _ before.answers_are day c.in_ok-report.ensures.told;
+      answers_are = answers-joined asked.answers names config taken rows _ _ _ before.answers_are day c.in_ok-report.ensures.answers;
+      depth_is = feed-joined asked.depth names config taken rows _ _ _ before.depth_is day c.in_ok-report.ensures.depth;
     }
 
 pub returns-in_err-report : goal.returns-in_err-report
@@ -43,4 +46,7 @@ returns-in_err-report c = λ asked config taken has.
     let day = ap (λ (js : List Journal). day_of js old.report.accepted old.report.refused) c.as_mut_slice.ensures.value ∙ before.day_is in
     let Lacks : Day → Type 0 = λ d. LacksMemoryAt d rows in
     if_memory asked names config (taken ++ rows) c.from_residual-in_err-report.result c.from_residual-in_err-report.ensures.1 before.sound
-    (λ unasked. lacks-later (opening_day config) taken rows (subst Lacks day (c.in_err-report.ensures.memory (before.answers_are ∙ ap (λ (b : Bool). where_asked b (answers_text names config taken)) unasked))))
+    (λ unasked. lacks-later (opening_day config) taken rows (subst Lacks day (c.in_err-report.ensures.memory (record {
+      answers = before.answers_are ∙ ap (λ (b : Bool). where_asked b (answers_text names config taken)) unasked.answers;
+      depth = before.depth_is ∙ ap (λ (b : Bool). where_asked b (feed_of names config taken)) unasked.depth;
+    }))))

@@ -1,10 +1,12 @@
-use Rattle.std.proofs.Common.{◌∙◌, ◌<◌, List, length, map, refl, ap, sym, arith}
+use Rattle.std.proofs.Common.{◌∙◌, ◌<◌, List, length, map, option_map, refl, ap, sym, arith}
 use Rattle.std.proofs.lemmas.List.{take_all}
 use Rattle.xm_day.proofs.Days.{rows-lack, rows-step}
+use Rattle.xm_day.proofs.Feeding.{fed-more, fed-nothing}
 use Rattle.xm_day.proofs.Tells.{told-more, told-row, with_text-nil}
 use Rattle.xm_rules.specs.Step.{replay}
 use Rattle.xm_files.proofs.PassedErrors.{on_err}
 use Rattle.xm_day.specs.Day.{after_rows, day_of}
+use Rattle.xm_day.specs.Feeds.{feed_after}
 use Rattle.xm_day.specs.RowAnswers.{answers_of, with_text}
 use Rattle.xm_segment.specs.declared.rows.Row.{Row}
 use Rattle.xm_day.proofs.desks.take_rows.Goals as goal
@@ -12,7 +14,8 @@ use Rattle.xm_day.proofs.desks.take_rows.Goals as goal
 pub loop-row-init : goal.loop-row-init
 loop-row-init g c = record {
   so_far = refl;
-  told = with_text-nil c.args.answers.now;
+  answers = with_text-nil c.args.told.now.answers;
+  depth = fed-nothing c.args.names.now (day_of c.args.desks.now c.args.before.accepted c.args.before.refused) c.args.told.now.depth;
   counted = omega arith;
 }
 
@@ -31,7 +34,9 @@ loop-row-preserved g c =
     let told = told-row names c.loop-row.desks c.take_row.new.desks old.accepted old.refused _ c.in_ok-answer.answer c.in_ok-answer.ensures.answer took in
     record {
       so_far = rows-step begun c.loop-row.desks rows i _ old.accepted old.refused (day_of c.take_row.new.desks new.accepted new.refused) within c.loop-row.invariant.so_far step;
-      told = told-more names begun at rows i _ _ c.args.answers.now _ c.tell.new.self within c.loop-row.invariant.so_far c.loop-row.invariant.told c.in_ok-tell.ensures.told told;
+      answers = told-more names begun at rows i _ _ c.args.told.now.answers _ c.tell.new.self.answers within c.loop-row.invariant.so_far c.loop-row.invariant.answers c.in_ok-tell.ensures.answers told;
+      depth = fed-more names begun c.loop-row.desks c.take_row.new.desks old.accepted old.refused c.in_ok-answer.answer rows i _ c.args.told.now.depth _ c.tell.new.self.depth within c.loop-row.invariant.so_far c.loop-row.invariant.depth
+          c.in_ok-tell.ensures.depth took;
       counted = omega (arith, c.counted-report.ensures.one, c.loop-row.invariant.counted);
     }
 
@@ -48,8 +53,23 @@ returns-clause-taken g c =
     let rows = c.args.rows.now in
     c.loop-row.invariant.so_far ∙ ap (after_rows (day_of c.args.desks.now c.args.before.accepted c.args.before.refused)) (take_all c.loop-row.row-index rows (omega arith))
 
-pub returns-clause-told : goal.returns-clause-told
-returns-clause-told g c =
+pub returns-clause-answers : goal.returns-clause-answers
+returns-clause-answers g c =
     let rows = c.args.rows.now in
-    c.loop-row.invariant.told
-    ∙ ap (λ (rs : List Row). with_text (answers_of c.args.names.now (day_of c.args.desks.now c.args.before.accepted c.args.before.refused) rs) c.args.answers.now) (take_all c.loop-row.row-index rows (omega arith))
+    c.loop-row.invariant.answers
+    ∙ ap (λ (rs : List Row). with_text (answers_of c.args.names.now (day_of c.args.desks.now c.args.before.accepted c.args.before.refused) rs) c.args.told.now.answers) (take_all c.loop-row.row-index rows (omega arith))
+
+pub returns-clause-depth : goal.returns-clause-depth
+returns-clause-depth g c =
+    let rows = c.args.rows.now in
+    c.loop-row.invariant.depth
+    ∙ ap (λ (rs : List Row). option_map (feed_after c.args.names.now (day_of c.args.desks.now c.args.before.accepted c.args.before.refused) rs) c.args.told.now.depth) (take_all c.loop-row.row-index rows (omega arith))
+
+-- the row's answers can't be told: something is asked for, and the rows before left it so
+pub returns-in_err-tell-clause-memory : goal.returns-in_err-tell-clause-memory
+returns-in_err-tell-clause-memory g c =
+    on_err c.from_residual-in_err-tell.result
+    (λ unasked. absurd (c.in_err-tell.ensures.asked (record {
+      answers = c.loop-row.invariant.answers ∙ ap (with_text _) unasked.answers;
+      depth = c.loop-row.invariant.depth ∙ ap (option_map _) unasked.depth;
+    })))

@@ -1,11 +1,13 @@
-use Rattle.std.proofs.Common.{◌≡◌, ◌+◌, take}
+use Rattle.std.proofs.Common.{◌≡◌, ◌+◌, option_map, take}
 use Rattle.xm_day.specs.Day.{after_rows, day_of}
+use Rattle.xm_day.specs.Feeds.{feed_after}
 use Rattle.xm_day.specs.RowAnswers.{answers_of, with_text}
 use Rattle.xm_day.proofs.desks.take_rows.Given as goal
 
 abbrev pub invariant-loop-row : goal.invariant-loop-row
 invariant-loop-row g l = record {
   so_far : day_of l.desks l.report.accepted l.report.refused ≡ after_rows (day_of l.initial.desks l.fn.before.accepted l.fn.before.refused) (take l.row-index l.rows);
-  told : l.answers ≡ with_text (answers_of l.names (day_of l.initial.desks l.fn.before.accepted l.fn.before.refused) (take l.row-index l.rows)) l.initial.answers;
+  answers : l.told.answers ≡ with_text (answers_of l.names (day_of l.initial.desks l.fn.before.accepted l.fn.before.refused) (take l.row-index l.rows)) l.initial.told.answers;
+  depth : l.told.depth ≡ option_map (feed_after l.names (day_of l.initial.desks l.fn.before.accepted l.fn.before.refused) (take l.row-index l.rows)) l.initial.told.depth;
   counted : l.report.accepted + l.report.refused ≡ l.fn.before.accepted + l.fn.before.refused + l.row-index;
 }

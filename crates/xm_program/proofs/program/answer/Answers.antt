@@ -1,9 +1,9 @@
-use Rattle.std.proofs.Common.{rules, ap, ◌≡◌, Ok, Err, inr, map, string_bytes}
+use Rattle.std.proofs.Common.{rules, ap, ◌≡◌, Ok, Err, inr, map, option_map, string_bytes}
 use Rattle.clap.specs.Words.{fault_of}
 use Rattle.xm_day.specs.declared.faults.DayFault.TheVariants.{WriteFailed}
-use Rattle.xm_program.specs.Requests.{AnswersWords, asked_of, check, day_app, run, run_answered}
+use Rattle.xm_program.specs.Requests.{AnswersWords, asked_of, check, day_app, run, run_told}
 use Rattle.xm_program.specs.declared.requests.Failure.TheVariants.{Day}
-use Rattle.xm_program.specs.declared.requests.Request.TheVariants.{Run, RunAnswered, Check, Help}
+use Rattle.xm_program.specs.declared.requests.Request.TheVariants.{Run, RunTold, Check, Help}
 use Rattle.xm_program.proofs.Ends.{all-done, asks-help, fault-done, refused-done}
 use Rattle.xm_program.proofs.program.answer.Goals as goal
 
@@ -20,14 +20,14 @@ returns-in_err-run_files-in-Run g c =
     let is : c.from_residual-in_err-run_files-in-Run.result ≡ Err (Day met.field-0.0) = search rules in
     rw is (fault-done _ _ (run c.in-Run.segment.now c.in-Run.orders.now c.in-Run.workers) _ _ met.field-0.0 answered.0 answered.1 met.ensures.ends (λ h. ap g.W.Write.contents (met.ensures.untouched h)))
 
-pub returns-in_err-answer_files-in-RunAnswered : goal.returns-in_err-answer_files-in-RunAnswered
-returns-in_err-answer_files-in-RunAnswered g c =
+pub returns-in_err-tell_files-in-RunTold : goal.returns-in_err-tell_files-in-RunTold
+returns-in_err-tell_files-in-RunTold g c =
     let words = map string_bytes c.args.words.now in
-    let met = c.in_err-answer_files-in-RunAnswered in
-    let it = c.in-RunAnswered in
-    let answered : AnswersWords (fault_of day_app words) (asked_of words) (Ok (RunAnswered it.segment it.orders it.answers)) = search rules in
-    let is : c.from_residual-in_err-answer_files-in-RunAnswered.result ≡ Err (Day met.field-0.0) = search rules in
-    rw is (fault-done _ _ (run_answered it.segment.now it.orders.now it.answers.now) _ _ met.field-0.0 answered.0 answered.1 met.ensures.ends (λ h. ap g.W.Write.contents (met.ensures.untouched h)))
+    let met = c.in_err-tell_files-in-RunTold in
+    let it = c.in-RunTold in
+    let answered : AnswersWords (fault_of day_app words) (asked_of words) (Ok (RunTold it.segment it.orders it.answers it.depth)) = search rules in
+    let is : c.from_residual-in_err-tell_files-in-RunTold.result ≡ Err (Day met.field-0.0) = search rules in
+    rw is (fault-done _ _ (run_told it.segment.now it.orders.now (option_map (λ s. s.now) it.answers) (option_map (λ s. s.now) it.depth)) _ _ met.field-0.0 answered.0 answered.1 met.ensures.ends (λ h. ap g.W.Write.contents (met.ensures.untouched h)))
 
 pub returns-in_err-check_file-in-Check : goal.returns-in_err-check_file-in-Check
 returns-in_err-check_file-in-Check g c =
@@ -50,12 +50,12 @@ returns-in_ok-run_files-in-Run g c =
     let answered : AnswersWords (fault_of day_app words) (asked_of words) (Ok (Run c.in-Run.segment c.in-Run.orders c.in-Run.workers)) = search rules in
     all-done _ _ (run c.in-Run.segment.now c.in-Run.orders.now c.in-Run.workers) _ _ answered.0 answered.1 c.in_ok-run_files-in-Run.ensures.ends
 
-pub returns-in_ok-answer_files-in-RunAnswered : goal.returns-in_ok-answer_files-in-RunAnswered
-returns-in_ok-answer_files-in-RunAnswered g c =
+pub returns-in_ok-tell_files-in-RunTold : goal.returns-in_ok-tell_files-in-RunTold
+returns-in_ok-tell_files-in-RunTold g c =
     let words = map string_bytes c.args.words.now in
-    let it = c.in-RunAnswered in
-    let answered : AnswersWords (fault_of day_app words) (asked_of words) (Ok (RunAnswered it.segment it.orders it.answers)) = search rules in
-    all-done _ _ (run_answered it.segment.now it.orders.now it.answers.now) _ _ answered.0 answered.1 c.in_ok-answer_files-in-RunAnswered.ensures.ends
+    let it = c.in-RunTold in
+    let answered : AnswersWords (fault_of day_app words) (asked_of words) (Ok (RunTold it.segment it.orders it.answers it.depth)) = search rules in
+    all-done _ _ (run_told it.segment.now it.orders.now (option_map (λ s. s.now) it.answers) (option_map (λ s. s.now) it.depth)) _ _ answered.0 answered.1 c.in_ok-tell_files-in-RunTold.ensures.ends
 
 pub returns-in_ok-check_file-in-Check : goal.returns-in_ok-check_file-in-Check
 returns-in_ok-check_file-in-Check g c =

@@ -20,7 +20,7 @@ returns-in_err-get_str-in-run-clause-none c = λ none.
     let met : subcommand_rows_of c.args.matches.now ≡ Some (c.in_ok-name.name.now, rows_of values) = subcommand-met _ _ _ c.in_ok-name.ensures.name c.in_ok-name.ensures.rows in
     let segment : first_of (codes "SEGMENT") (rows_of values) ≡ Some c.in_ok-segment.segment.now = sym (c.in_ok-segment.ensures ∙ first_value-rows values (codes "SEGMENT")) in
     let orders : first_of (codes "ORDERS") (rows_of values) ≡ None = sym (c.in_err-get_str-in-run.ensures ∙ first_value-rows values (codes "ORDERS")) in
-    run-met _ _ _ met _ _ _ _ is_run segment orders refl refl
+    run-met _ _ _ met _ _ _ _ _ is_run segment orders refl refl refl
 
 pub returns-in_ok-workers_in-in-run-clause-some : goal.returns-in_ok-workers_in-in-run-clause-some
 returns-in_ok-workers_in-in-run-clause-some c =
@@ -30,7 +30,7 @@ returns-in_ok-workers_in-in-run-clause-some c =
     let segment : first_of (codes "SEGMENT") (rows_of values) ≡ Some c.in_ok-segment.segment.now = sym (c.in_ok-segment.ensures ∙ first_value-rows values (codes "SEGMENT")) in
     let orders : first_of (codes "ORDERS") (rows_of values) ≡ Some c.in_ok-get_str-in-run.field-0.now = sym (c.in_ok-get_str-in-run.ensures ∙ first_value-rows values (codes "ORDERS")) in
     let workers : option_and_then workers_in (one_of (codes "workers") (rows_of values)) ≡ Some c.in_ok-workers_in-in-run.field-0 = sym c.in_ok-workers_in-in-run.ensures in
-    subst (λ (asked : Option Asked). IfSome c.run_in.result (IsRequest asked)) (sym (run-met _ _ _ met _ _ _ _ is_run segment orders workers refl)) c.run_in.ensures.some
+    subst (λ (asked : Option Asked). IfSome c.run_in.result (IsRequest asked)) (sym (run-met _ _ _ met _ _ _ _ _ is_run segment orders workers refl refl)) c.run_in.ensures.some
 
 pub returns-in_ok-workers_in-in-run-clause-none : goal.returns-in_ok-workers_in-in-run-clause-none
 returns-in_ok-workers_in-in-run-clause-none c = λ none.
@@ -40,7 +40,7 @@ returns-in_ok-workers_in-in-run-clause-none c = λ none.
     let segment : first_of (codes "SEGMENT") (rows_of values) ≡ Some c.in_ok-segment.segment.now = sym (c.in_ok-segment.ensures ∙ first_value-rows values (codes "SEGMENT")) in
     let orders : first_of (codes "ORDERS") (rows_of values) ≡ Some c.in_ok-get_str-in-run.field-0.now = sym (c.in_ok-get_str-in-run.ensures ∙ first_value-rows values (codes "ORDERS")) in
     let workers : option_and_then workers_in (one_of (codes "workers") (rows_of values)) ≡ Some c.in_ok-workers_in-in-run.field-0 = sym c.in_ok-workers_in-in-run.ensures in
-    run-met _ _ _ met _ _ _ _ is_run segment orders workers refl ∙ c.run_in.ensures.none none
+    run-met _ _ _ met _ _ _ _ _ is_run segment orders workers refl refl ∙ c.run_in.ensures.none none
 
 pub returns-in-check-clause-some : goal.returns-in-check-clause-some
 returns-in-check-clause-some c =

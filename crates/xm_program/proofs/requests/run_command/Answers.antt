@@ -12,4 +12,5 @@ returns-clause-app c =
     let first_is : app_of c.in_ok-arg.field-0 ≡ with_rule (new_app (codes "run")) (path_rule (codes "SEGMENT")) = c.in_ok-arg.ensures.shape (search rules) ∙ ap₂ with_rule start_is segment_is in
     let second_is = c.in_ok-arg-2.ensures.shape (search rules) ∙ ap₂ with_rule first_is orders_is in
     let third_is = c.in_ok-arg-3.ensures.shape c.workers.ensures.local ∙ ap₂ with_rule second_is c.workers.ensures.rule in
-    c.in_ok-command.ensures.shape c.answers.ensures.local ∙ ap₂ with_rule third_is c.answers.ensures.rule
+    let fourth_is = c.in_ok-arg-4.ensures.shape c.file.ensures.local ∙ ap₂ with_rule third_is c.file.ensures.rule in
+    c.in_ok-command.ensures.shape c.file-2.ensures.local ∙ ap₂ with_rule fourth_is c.file-2.ensures.rule

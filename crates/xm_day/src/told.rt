@@ -1,0 +1,69 @@
+//! What is told of rows beside the statement of their day.
+ghost use Rattle.std.specs.Prelude.{◌≡◌, map, option_map, slice_get, IfOk, OnErr, OnOk};
+ghost use Rattle.xm_day.specs.Answers.{AsksNothing, TellsNothing};
+ghost use Rattle.xm_day.specs.Feeds.{next_feed};
+ghost use Rattle.xm_day.specs.MarketDepth.{depth_header, market_depth};
+ghost use Rattle.xm_day.specs.RowAnswers.{answer_line, answers_header, where_asked, with_text};
+ghost use Rattle.xm_rules.specs.Step.{replay};
+
+use crate::answers::Answers;
+use crate::depth::Depths;
+use crate::report::AskedTexts;
+use std::alloc::{Allocator, Global};
+use xm_desk::Desk;
+use xm_files::SegmentNames;
+use xm_memory::OutOfMemory;
+use xm_rules::{Refusal, Reply};
+use xm_segment::Row;
+
+/// The texts so far that are told beside a statement, as far as they are asked for.
+#[derive(Drop)]
+pub(crate) struct Told {
+    pub(crate) answers: Answers,
+    pub(crate) depth: Depths,
+}
+
+impl Told {
+    /// The statement alone is asked for.
+    pub(crate) fn nothing() -> Told
+        ensures { TellsNothing result }
+    {
+        Told {
+            answers: Answers::unasked(),
+            depth: Depths::unasked(),
+        }
+    }
+
+    /// What is told before any row of these desks.
+    pub(crate) fn of<A: Allocator + Copy>(
+        alloc: Global,
+        desks: &[Desk<A>],
+        asked: AskedTexts,
+    ) -> Result<Told, OutOfMemory>
+        ensures answers { IfOk result (λ told. told.answers ≡ where_asked asked.answers answers_header) }
+        ensures depth { IfOk result (λ told. told.depth ≡ where_asked asked.depth (record { text = depth_header; shown = map market_depth (map replay desks.now) })) }
+        ensures asked { OnErr result (AsksNothing asked → ⊥) }
+    {
+        let answers = Answers::of(alloc, asked.answers)?;
+        let depth = Depths::of(alloc, desks, asked.depth)?;
+        Ok(Told { answers, depth })
+    }
+
+    /// Adds what is told of a row that was answered so by the desks, which have taken it.
+    #[inline(always)]
+    pub(crate) fn tell<A: Allocator + Copy>(
+        &mut self,
+        names: &SegmentNames,
+        desks: &[Desk<A>],
+        row: &Row,
+        answer: &Result<Reply, Refusal>,
+    ) -> Result<(), OutOfMemory>
+        ensures answers { OnOk result (self.new.answers ≡ with_text (answer_line names.now row.now answer.now (slice_get (map replay desks.now) row.now.security)) self.old.answers) }
+        ensures depth { OnOk result (self.new.depth ≡ option_map (next_feed names.now row.now (slice_get (map replay desks.now) row.now.security)) self.old.depth) }
+        ensures asked { OnErr result (TellsNothing self.old → ⊥) }
+    {
+        self.answers.tell(names, desks, row, answer)?;
+        self.depth.tell(names, desks, row)?;
+        Ok(())
+    }
+}
