@@ -4,34 +4,58 @@ use crate::differences;
 use crate::texts::{self, CaseFault};
 use std::fs;
 use std::rt::Files;
-use xm_day::DayFault;
+use xm_day::{AskedTexts, DayFault};
 use xm_names::Storage;
-use xm_program::{Input, fault_line, open_input, run_answered};
+use xm_program::{Input, fault_line, open_input, run_told};
 
 /// Runs the day of a case, prints whether it gives what is stored, and tells it.
 pub fn is_as_stored<R: AllocGlobal + Files + Print>(rt: &R, name: &str) -> Result<bool, CaseFault> {
     let mut statement = Vec::new(rt.alloc());
     let mut answers = Vec::new(rt.alloc());
-    let ended = run_day(rt, name, &mut statement, &mut answers)?;
+    let mut depth = Vec::new(rt.alloc());
+    let ended = run_day(rt, name, &mut statement, &mut answers, &mut depth)?;
     match ended {
-        Ok(()) => compare(rt, name, b"", statement.as_slice(), answers.as_slice()),
-        Err(fault) => compare(rt, name, fault_line(fault).as_slice(), b"", b""),
+        Ok(()) => {
+            let levels = differences::is_stored_if_any(rt, name, "depth.csv", depth.as_slice())?;
+            compare(
+                rt,
+                name,
+                b"",
+                statement.as_slice(),
+                answers.as_slice(),
+                levels,
+            )
+        }
+        Err(fault) => compare(rt, name, fault_line(fault).as_slice(), b"", b"", true),
     }
 }
 
-/// Writes the statement and the answers of the day of a case.
+/// Writes the statement, the answers and the levels of the day of a case.
 fn run_day<R: AllocGlobal + Files>(
     rt: &R,
     name: &str,
     statement: &mut Vec<u8>,
     answers: &mut Vec<u8>,
+    depth: &mut Vec<u8>,
 ) -> Result<Result<(), DayFault>, CaseFault> {
     let own = texts::path(rt, name, "segment.toml")?;
     let orders = texts::path(rt, name, "orders.csv")?;
     let mut segment = open_segment(rt, own.as_str());
     let mut orders = open_input(|path| fs::open(rt, path), orders.as_str());
     let storage = Storage::with_fixed_seed(rt.alloc());
-    Ok(run_answered(storage, &mut segment, &mut orders, statement, answers))
+    let asked = AskedTexts {
+        answers: true,
+        depth: true,
+    };
+    Ok(run_told(
+        storage,
+        &mut segment,
+        &mut orders,
+        statement,
+        asked,
+        answers,
+        depth,
+    ))
 }
 
 /// The segment file of a case: its own, or the one that all others have.
@@ -42,18 +66,19 @@ fn open_segment<R: Files>(rt: &R, own: &str) -> Input<R::File> {
     }
 }
 
-/// Compares what a case gives with what is stored, of which each text may be empty.
+/// Compares what a case gives with what is stored, of which each text may be empty. Whether its levels are is known.
 fn compare<R: AllocGlobal + Files + Print>(
     rt: &R,
     name: &str,
     fault: &[u8],
     statement: &[u8],
     answers: &[u8],
+    levels_as_stored: bool,
 ) -> Result<bool, CaseFault> {
     let faults = differences::is_stored(rt, name, "fault", fault)?;
     let statements = differences::is_stored(rt, name, "statement", statement)?;
     let answers = differences::is_stored(rt, name, "answers.csv", answers)?;
-    if faults && statements && answers {
+    if faults && statements && answers && levels_as_stored {
         texts::said(println!(rt; "{name} as stored"))?;
         return Ok(true);
     }

@@ -12,10 +12,30 @@ pub fn is_stored<R: AllocGlobal + Files + Print>(
 ) -> Result<bool, CaseFault> {
     let path = texts::path(rt, name, ending)?;
     let stored = texts::stored(rt, path.as_str())?;
-    if stored.as_slice() == given {
+    is_alike(rt, path.as_str(), stored.as_slice(), given)
+}
+
+/// The same of a text that need not be stored.
+pub fn is_stored_if_any<R: AllocGlobal + Files + Print>(
+    rt: &R,
+    name: &str,
+    ending: &str,
+    given: &[u8],
+) -> Result<bool, CaseFault> {
+    let path = texts::path(rt, name, ending)?;
+    let stored = texts::stored(rt, path.as_str())?;
+    if stored.is_empty() {
         return Ok(true);
     }
-    print_difference(rt, path.as_str(), stored.as_slice(), given)?;
+    is_alike(rt, path.as_str(), stored.as_slice(), given)
+}
+
+/// Whether two texts are one. Prints the first line that differs.
+fn is_alike<R: Print>(rt: &R, path: &str, stored: &[u8], given: &[u8]) -> Result<bool, CaseFault> {
+    if stored == given {
+        return Ok(true);
+    }
+    print_difference(rt, path, stored, given)?;
     Ok(false)
 }
 

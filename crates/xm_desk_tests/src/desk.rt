@@ -1,5 +1,5 @@
 //! Tests of a desk that no day of files shows: its calls, each once, refused growth, and cascades of hundreds of stops. Rules
-//! and refusals are shown by the cases in `examples/cases`. Commands and answers stand in tables: a table is a value, while
+//! and refusals are shown by the cases in `crates/xetra_cases/data`. Commands and answers stand in tables: a table is a value, while
 //! each call in a test is proved.
 
 mod cascades;
