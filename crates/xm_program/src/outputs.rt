@@ -71,11 +71,14 @@ fn is_input<R: Files>(rt: &R, path: Option<&str>, inputs: [&str; 2]) -> bool {
     is_same(rt, path, Some(segment)) || is_same(rt, path, Some(orders))
 }
 
-/// Whether the same file lies at both paths.
+/// Whether the same file lies at both paths, or they are the same, whatever lies there.
 fn is_same<R: Files>(rt: &R, first: Option<&str>, second: Option<&str>) -> bool {
     let (Some(first), Some(second)) = (first, second) else {
         return false;
     };
+    if first == second {
+        return true;
+    }
     match (fs::metadata(rt, first), fs::metadata(rt, second)) {
         (Ok(first), Ok(second)) => first.dev() == second.dev() && first.ino() == second.ino(),
         _ => false,

@@ -130,28 +130,41 @@ const STATEMENTS: [End; 4] = [
 const ANSWERS: &str =
     "record,security,answer,version,phase,first_trade,trades,quantity,money,rest,best_buy,buy_quantity,best_sell,sell_quantity,last,auction,indicative,indicative_quantity\n";
 
-/// A command line that prints the statement, and writes the answers to a file.
-macro_rules! answers {
-    ($($word:expr),*) => {
+/// The levels behind them.
+const DEPTH: &str = "record,security,side,rank,limit,quantity\n";
+
+/// A command line that prints the statement, and writes a text beside it to a file.
+macro_rules! writes {
+    ($text:expr, $($word:expr),*) => {
         End {
             words: &[b"xetra-day", $($word),*],
             status: 0,
             printed: Printed::Text(STATEMENT),
             complained: Printed::Nothing,
-            written: Printed::Text(ANSWERS),
+            written: Printed::Text($text),
         }
     };
 }
 
-const ANSWERED: [End; 2] = [
-    answers!(
+const WRITTEN: [End; 3] = [
+    writes!(
+        ANSWERS,
         b"run",
         b"day.toml",
         b"day.csv",
         b"--answers",
         b"answers.csv"
     ),
-    answers!(
+    writes!(
+        DEPTH,
+        b"run",
+        b"day.toml",
+        b"day.csv",
+        b"--depth",
+        b"answers.csv"
+    ),
+    writes!(
+        ANSWERS,
         b"run",
         b"--answers=answers.csv",
         b"--workers=1",
@@ -166,7 +179,7 @@ pub const CANNOT_TELL: Printed = Printed::Text(
 );
 
 /// Runs that write no answers: the order file is at fault, the file is one that is read, or it can't be made, and mistakes.
-const UNANSWERED: [End; 6] = [
+const UNANSWERED: [End; 8] = [
     complains!(
         1,
         Printed::Text("xetra-day: orders: line 2: BadField\n"),
@@ -193,6 +206,24 @@ const UNANSWERED: [End; 6] = [
         b"day.csv",
         b"--answers",
         b"day.csv"
+    ),
+    complains!(
+        1,
+        UNWRITTEN,
+        b"run",
+        b"day.toml",
+        b"day.csv",
+        b"--depth",
+        b"day.csv"
+    ),
+    complains!(
+        1,
+        UNWRITTEN,
+        b"run",
+        b"day.toml",
+        b"answers.csv",
+        b"--answers",
+        b"answers.csv"
     ),
     complains!(
         1,
@@ -319,7 +350,7 @@ const MISTAKES: [End; 4] = [
 #[test]
 fn ends_of_runs(rt: HostRuntime) {
     are_ends(&rt, Stream::Kept, &STATEMENTS);
-    are_ends(&rt, Stream::Kept, &ANSWERED);
+    are_ends(&rt, Stream::Kept, &WRITTEN);
     are_ends(&rt, Stream::Kept, &UNANSWERED);
     are_ends(&rt, Stream::Kept, &CHECKED);
     are_ends(&rt, Stream::Kept, &FAULTS);

@@ -8,7 +8,7 @@ use std::process::Abort;
 /// What `run --help` prints.
 const RUN_HELP: &str = "Runs the day of two files and writes its statement to standard output.
 
-docs/FORMATS.md tells all of the two files and of the statement. A whole small day:
+docs/FORMATS.md tells all of the files that are read and written. A whole small day:
 
 segment.toml
   date = 20260105
@@ -21,7 +21,7 @@ segment.toml
   dynamic = 20            # widths of the price ranges, in thousandths
   static = 50
   wide = 40
-  journal = 1000          # the most commands of members
+  journal = 1000          # how many commands the security takes
 
 orders.csv
   command,member,reference,security,side,kind,limit,trigger,quantity,validity,restriction,condition
