@@ -39,19 +39,26 @@ impl<F: Write> Write for Output<F> {
     }
 }
 
+/// What the system tells of the descriptors of this process.
+const DESCRIPTORS: &str = "/proc/self/fd";
+
+/// The file that standard output goes to, which gets the statement.
+const STATEMENT_PATH: &str = "/proc/self/fd/1";
+
 /// The files for answers and levels, as far as there are paths. Where one of the two files that are to be read lies at such a
-/// path, it is not touched, and that is an error; it is one too where both would be the same file.
+/// path, or the one that standard output goes to, it is not touched, and that is an error; it is one too where both would be the
+/// same file, or where standard output is closed, whose place a file would take.
 pub(crate) fn make_files<R: Files>(
     rt: &R,
     answers: Option<&str>,
     depth: Option<&str>,
     inputs: [&str; 2],
 ) -> io::Result<(Output<R::File>, Output<R::File>)> {
-    if is_input(rt, answers, inputs) || is_input(rt, depth, inputs) {
+    if is_closed(rt)? || is_taken(rt, answers, inputs)? || is_taken(rt, depth, inputs)? {
         return Err(io::Error::from(io::ErrorKind::AlreadyExists));
     }
     let made = make_file(rt, answers)?;
-    if is_same(rt, answers, depth) {
+    if is_one(rt, answers, depth)? {
         return Err(io::Error::from(io::ErrorKind::AlreadyExists));
     }
     Ok((made, make_file(rt, depth)?))
@@ -65,22 +72,66 @@ fn make_file<R: Files>(rt: &R, path: Option<&str>) -> io::Result<Output<R::File>
     }
 }
 
-/// Whether a path is that of one of the files that are to be read.
-fn is_input<R: Files>(rt: &R, path: Option<&str>, inputs: [&str; 2]) -> bool {
+/// Whether standard output is closed, where the system tells.
+fn is_closed<R: Files>(rt: &R) -> io::Result<bool> {
+    Ok(place_of(rt, DESCRIPTORS)?.is_some() && place_of(rt, STATEMENT_PATH)?.is_none())
+}
+
+/// Whether at a path, if there is one, lies a file that is to be read, or the one that standard output goes to.
+fn is_taken<R: Files>(rt: &R, path: Option<&str>, inputs: [&str; 2]) -> io::Result<bool> {
+    let Some(path) = path else {
+        return Ok(false);
+    };
     let [segment, orders] = inputs;
-    is_same(rt, path, Some(segment)) || is_same(rt, path, Some(orders))
+    Ok(is_same(rt, path, segment)? || is_same(rt, path, orders)? || has_statement(rt, path)?)
+}
+
+/// Whether both paths are there, and the same file lies at them.
+fn is_one<R: Files>(rt: &R, first: Option<&str>, second: Option<&str>) -> io::Result<bool> {
+    match first {
+        None => Ok(false),
+        Some(first) => match second {
+            None => Ok(false),
+            Some(second) => is_same(rt, first, second),
+        },
+    }
 }
 
 /// Whether the same file lies at both paths, or they are the same, whatever lies there.
-fn is_same<R: Files>(rt: &R, first: Option<&str>, second: Option<&str>) -> bool {
-    let (Some(first), Some(second)) = (first, second) else {
-        return false;
-    };
+fn is_same<R: Files>(rt: &R, first: &str, second: &str) -> io::Result<bool> {
     if first == second {
-        return true;
+        return Ok(true);
     }
-    match (fs::metadata(rt, first), fs::metadata(rt, second)) {
-        (Ok(first), Ok(second)) => first.dev() == second.dev() && first.ino() == second.ino(),
-        _ => false,
+    let Some(place) = place_of(rt, first)? else {
+        return Ok(false);
+    };
+    Ok(place_of(rt, second)? == Some(place))
+}
+
+/// Whether standard output goes to the file at a path. A device may take more than one text.
+fn has_statement<R: Files>(rt: &R, path: &str) -> io::Result<bool> {
+    match fs::metadata(rt, STATEMENT_PATH) {
+        Ok(found) => {
+            if found.is_file() {
+                Ok(place_of(rt, path)? == Some((found.dev(), found.ino())))
+            } else {
+                Ok(false)
+            }
+        }
+        Err(_) => Ok(false),
+    }
+}
+
+/// The device and the number of the file at a path, or none where no file lies there.
+fn place_of<R: Files>(rt: &R, path: &str) -> io::Result<Option<(u64, u64)>> {
+    match fs::metadata(rt, path) {
+        Ok(found) => Ok(Some((found.dev(), found.ino()))),
+        Err(error) => {
+            if error.kind() == io::ErrorKind::NotFound {
+                Ok(None)
+            } else {
+                Err(error)
+            }
+        }
     }
 }
