@@ -36,6 +36,9 @@ extern void *__libc_memalign(size_t alignment, size_t size);
 
 enum { SHORT = -1, HALF = -2, NOTHING = -3 };
 
+/* A run that is refused again and again fills no disk. */
+enum { MOST_LINES = 1000 };
+
 static const struct {
     const char *name;
     int how;
@@ -53,14 +56,21 @@ static atomic_long count;
 static atomic_flag was_short;
 
 static void add_to_log(const char *line) {
+    static atomic_int lines;
+    if (atomic_fetch_add(&lines, 1) >= MOST_LINES)
+        return;
     int log = syscall(SYS_openat, AT_FDCWD, log_path, O_WRONLY | O_APPEND | O_CREAT | O_CLOEXEC, 0600);
     if (log < 0 || syscall(SYS_write, log, line, strlen(line)) < 0)
         abort();
     syscall(SYS_close, log);
 }
 
-/* Lets the address space grow by so many kilobytes more. */
+/* Lets the address space grow by so many kilobytes more. A megabyte of the stack is touched first: a stack that can't grow ends
+ * any program by a signal, and the program needs half of that. */
 static void limit_space(long kilobytes) {
+    volatile char stack[1 << 20];
+    for (size_t at = 0; at < sizeof stack; at += 1024)
+        stack[at] = 0;
     char text[64] = "";
     int file = syscall(SYS_openat, AT_FDCWD, "/proc/self/statm", O_RDONLY | O_CLOEXEC);
     if (file < 0 || syscall(SYS_read, file, text, sizeof text - 1) < 0)
