@@ -1,4 +1,4 @@
-//! The day of a segment: its rows run on desks, and its statement.
+//! The day of a segment: its rows run on desks, its statement, and beside it the answers to its rows and the levels behind them.
 #![tactic(auto)]
 
 mod answers;

@@ -70,7 +70,7 @@ pub record ToldRunEnds (asked : AskedTexts) (segment orders old new answers_old 
   pub are_texts : OnOk end (AreTexts asked segment orders answers depth)
   pub texts_end : TextsEnd answers depth answers_old answers_new depth_old depth_new end result
 
--- the same where a file may not be one that can be made, and then nothing is read or written
+-- the same where a file may be none that can be made, which is a failed write before anything is written
 abbrev pub FilesEnd : AskedTexts → Option (List ℕ) → Option (List ℕ) → Result (Unit {0}) DayFault → Type 0
 FilesEnd asked old new result =
     ((segment orders answers_old answers_new depth_old depth_new : Option (List ℕ)) × ToldRunEnds asked segment orders old new answers_old answers_new depth_old depth_new result)

@@ -1,16 +1,19 @@
-//! An allocator for tests, which refuses one of the requests that are made of it.
+//! An allocator for tests, which refuses one of the requests that are made of it, and what has a call refused each in turn.
 #![tactic(auto)]
 
 ghost use Rattle.std.specs.Prelude.{◌≡◌, ◌<◌, IsTrue};
 
+mod tried;
+
+pub use crate::tried::{Counted, Requests, Tried, refuse_all, refuse_each};
 use std::alloc::{AllocError, Allocator};
 use std::sync::atomic::{AtomicU64, Ordering};
 
 /// An allocator that passes each request for memory on to another one, but refuses one of them.
 ///
-/// A `&Refusing<B>` is an allocator too, so a collection over it leaves the test the value to ask. To let each growth
-/// of a call fail in turn, run the call with the first request refused, then with the second, and so on, until it has
-/// run with none refused:
+/// A `&Refusing<B>` is an allocator too, so a collection over it leaves the test the value to ask. `refuse_each` lets each
+/// growth of a call fail in turn. Where there is nothing to compare, run the call with the first request refused, then with the
+/// second, and so on, until it has run with none refused:
 ///
 /// ```text
 /// for nth in 1.. {
@@ -47,13 +50,18 @@ impl<B: Allocator> Refusing<B> {
         }
     }
 
+    /// From here on refuses the request of this number, counted from 1, in place of the one before; at 0 it refuses none.
+    pub fn refuse(&self, number: u64) {
+        self.left.store(number, Ordering::SeqCst);
+    }
+
     /// How many requests are left up to the one that is refused, with it: 0 once that one has come, and at all times
     /// where none is refused.
     pub fn requests_left(&self) -> u64 {
         self.left.load(Ordering::SeqCst)
     }
 
-    /// Whether the request that is refused has come.
+    /// Whether the request has come that it was made to refuse.
     pub fn has_refused(&self) -> bool
         ensures { IsTrue result → 0 < refused_request self.now }
     {

@@ -1,4 +1,4 @@
-//! A board whose quotes are read: what is published is seen, and a refused growth opens nothing.
+//! A board whose quotes are read: what is published is seen.
 ghost use Rattle.std.specs.Prelude.{◌≡◌, None};
 ghost use Rattle.xm_board.specs.Journals.{IsLawful, entry_of, grown, opening_of, quote_of};
 ghost use Rattle.xm_rules.specs.declared.commands.Command.TheVariants.{StartOpening};
@@ -10,13 +10,12 @@ use std::marker::Brand;
 use std::process::Abort;
 use xm_board::{Board, BoardNaming, Opened};
 use xm_memory::OutOfMemory;
-use xm_refusing::Refusing;
 use xm_rules::{Auction, CallStage, Command, DeskSettings, Phase, Quote, Widths};
 use xm_ticks::{JournalLimit, Price, TickSize};
 
 /// What two watches read: both before the opening call was published, one after, and the other when it was told.
-#[derive(Clone, Copy)]
-struct Seen {
+#[derive(Clone, Copy, PartialEq, Eq)]
+pub struct Seen {
     before: [Quote; 2],
     after: Quote,
     told: Quote,
@@ -72,7 +71,7 @@ fn read_on<N: BoardNaming, A: Allocator + Copy>(
 }
 
 /// Opens a board for two watches, and reads on it.
-fn read<A: Allocator + Copy>(
+pub fn read<A: Allocator + Copy>(
     alloc: A,
     settings: &DeskSettings,
 ) -> Result<Option<Seen>, OutOfMemory> {
@@ -87,7 +86,7 @@ fn read<A: Allocator + Copy>(
 }
 
 /// The settings of a security.
-fn settings(rt: &impl Abort) -> DeskSettings {
+pub fn settings(rt: &impl Abort) -> DeskSettings {
     DeskSettings {
         today: 20260105,
         members: 2,
@@ -112,20 +111,6 @@ fn what_is_published_is_seen(rt: HostRuntime) {
     let call = Phase::Call(Auction::Opening, CallStage::Ordinary);
     assert!(rt; read.after.version == 1 && read.after.phase == call);
     assert!(rt; read.told == read.after);
-}
-
-#[test]
-fn refused_growths_of_a_board(rt: HostRuntime) {
-    let settings = settings(&rt);
-    for nth in 1..u64::MAX {
-        let refusing = Refusing::new(rt.alloc(), nth);
-        let answer = read(&refusing, &settings);
-        if !refusing.has_refused() {
-            assert!(rt; nth > 1 && answer.is_ok());
-            return;
-        }
-        assert!(rt; answer.is_err());
-    }
 }
 
 #[test]

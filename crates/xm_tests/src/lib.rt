@@ -15,6 +15,8 @@ mod matching;
 #[cfg(test)]
 mod names;
 #[cfg(test)]
+mod openings;
+#[cfg(test)]
 mod positions;
 #[cfg(test)]
 mod prices;

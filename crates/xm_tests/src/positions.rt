@@ -3,7 +3,6 @@ use std::alloc::{Allocator, Global};
 use std::process::Abort;
 use std::test::Fail;
 use xm_positions::Positions;
-use xm_refusing::Refusing;
 use xm_rules::{MAX_TRADED_MONEY, MAX_TRADED_QUANTITY, Totals, Trade, TradeKind};
 use xm_ticks::Price;
 
@@ -154,14 +153,4 @@ fn positions_without_members(rt: HostRuntime) -> Result<(), Fail> {
             }
     );
     Ok(())
-}
-
-#[test]
-fn one_growth_is_refused(rt: HostRuntime) {
-    let alloc = Refusing::new(rt.alloc(), 1);
-    assert!(rt; Positions::new(&alloc, MEMBERS).is_err());
-    assert!(rt; alloc.has_refused());
-    let second = Refusing::new(rt.alloc(), 2);
-    assert!(rt; Positions::new(&second, MEMBERS).is_ok());
-    assert!(rt; !second.has_refused());
 }

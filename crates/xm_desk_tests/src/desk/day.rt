@@ -112,12 +112,6 @@ impl<A: Allocator + Copy> Day<A> {
         self.desk.stops()
     }
 
-    /// Compares the live orders.
-    pub fn orders_are(&self, rt: &impl Abort, expected: &[Order]) {
-        let orders = self.orders().expect(rt, "memory");
-        assert!(rt; orders.as_slice() == expected);
-    }
-
     /// Compares the live orders and the held stops with what the tables have of them.
     pub fn has_left(&self, rt: &impl Abort, live: &[Live], held: &[Held]) {
         are_live(rt, &self.orders().expect(rt, "memory"), live);
@@ -137,6 +131,22 @@ impl<A: Allocator + Copy> Day<A> {
     pub fn has_quoted(&self, rt: &impl Abort, expected: Quoted) {
         let quote = self.desk.quote();
         assert!(rt; quoted(&quote) == expected);
+    }
+
+    /// Whether two days show the same to each reader.
+    pub fn shows_as(&self, rt: &impl Abort, like: &Day<A>) -> bool {
+        let (orders, others) = (self.orders(), like.orders());
+        let (stops, held) = (self.stops(), like.stops());
+        self.settings() == like.settings()
+            && self.desk.quote() == like.desk.quote()
+            && self.indicative() == like.indicative()
+            && self.journal() == like.journal()
+            && self.trades() == like.trades()
+            && self.totals() == like.totals()
+            && self.position(0) == like.position(0)
+            && self.position(1) == like.position(1)
+            && orders.expect(rt, "memory").as_slice() == others.expect(rt, "memory").as_slice()
+            && stops.expect(rt, "memory").as_slice() == held.expect(rt, "memory").as_slice()
     }
 
     pub fn settings(&self) -> &DeskSettings {

@@ -1,11 +1,19 @@
-use super::day::{Day, lacks_memory};
+//! Growths of a desk that are refused.
+use super::cascades::{SELL, filled};
+use super::day::Day;
 use super::settings;
 use std::alloc::Allocator;
+use std::marker::Model;
 use std::process::Abort;
-use xm_refusing::Refusing;
-use xm_rules::{Command, Condition, Kind, Order, Phase, Restriction, Side, Validity};
+use xm_desk::OpenFault;
+use xm_memory::OutOfMemory;
+use xm_names::Storage;
+use xm_refusing::{Counted, Refusing, Tried, refuse_all};
+use xm_rules::{Command, Condition, Kind, Order, Refusal, Restriction, Side, Stop, Validity};
+use xm_segment::{Securities, SecurityConfig, SegmentConfig, open_desks};
 
-const COMMANDS: [Command; 17] = [
+/// A day of all kinds of commands.
+const DAY: [Command; 17] = [
     buy!(0, 1, 1000, 10),
     Command::StartOpening,
     buy!(1, 1, 1010, 5),
@@ -25,155 +33,281 @@ const COMMANDS: [Command; 17] = [
     sell!(0, 7, 990, 6),
 ];
 
-/// The list of orders after each of the seventeen commands makes good one refusal: it first asks for room for all of them, and
-/// grows as it goes where it can't have that.
-const MADE_GOOD: u64 = 17;
+/// A sell that comes and goes leaves the room that another one needs.
+const GONE: [Command; 2] = [sell!(1, 998, 1010, 1), cancel!(1, 998)];
 
-/// How often a call answered for want of memory.
-#[derive(Drop)]
-struct Refused {
-    openings: u64,
-    rooms: u64,
-    commands: u64,
-    lists: u64,
+/// What a call comes after.
+#[derive(Clone, Copy)]
+enum Before {
+    /// So many commands of the day.
+    Commands(usize),
+    /// The same, where room was made first for all of the day.
+    Ahead(usize),
+    /// So many stops that the sell reaches.
+    Stops(u32),
+    /// The same, where the sell and the journal have their room.
+    Room(u32),
 }
 
-impl Refused {
-    /// The orders of a day, asked for once more where the first answer is for want of memory.
-    fn orders<A: Allocator + Copy>(&mut self, rt: &impl Abort, day: &Day<A>) -> Vec<Order, A> {
-        match day.orders() {
-            Ok(orders) => orders,
-            Err(_refused) => {
-                self.lists = self.lists.wrapping_add(1);
-                day.orders().expect(rt, "refused twice")
+#[derive(Clone, Copy)]
+enum Call {
+    /// `open_desks`, for so many securities.
+    OpenDesks(usize),
+    /// `Desk::open`, in place of the desk that there is.
+    Open,
+    /// `Desk::reserve`, for so many commands.
+    Reserve(usize),
+    /// `Desk::apply`.
+    Apply(Command),
+    /// The same, with the command of the day at this index.
+    Next(usize),
+    Orders,
+    Stops,
+}
+
+const STOP: Command = stop!(Sell, 1, 1, Kind::StopMarket(990), 1);
+
+/// A sell stop with a limit and a buy stop, at prices that no other order has.
+const STOP_LIMIT: Command = stop!(
+    Sell,
+    1,
+    2,
+    Kind::StopLimit {
+        trigger: 5,
+        limit: 700_000
+    },
+    1
+);
+
+const BUY_STOP: Command = stop!(Buy, 0, 3, Kind::StopMarket(900_000), 1);
+
+/// The next command of the day.
+macro_rules! next {
+    ($before:ident, $commands:expr) => {
+        (Before::$before($commands), Call::Next($commands))
+    };
+}
+
+/// Where room was made ahead, commands ask for no more than their orders' places; where a sell and the journal have their room, a
+/// cascade of any length asks for nothing. A list first asks for room for its whole answer, and grows as it goes where it can't
+/// have that.
+const CALLS: [Counted<(Before, Call)>; 48] = [
+    ((Before::Commands(1), Call::OpenDesks(1)), 2, 0),
+    ((Before::Commands(1), Call::OpenDesks(8)), 12, 0),
+    ((Before::Commands(1), Call::Open), 1, 0),
+    (next!(Commands, 0), 23, 0),
+    (next!(Commands, 1), 0, 0),
+    (next!(Commands, 2), 5, 0),
+    (next!(Commands, 3), 0, 0),
+    (next!(Commands, 4), 1, 0),
+    (next!(Commands, 5), 0, 0),
+    (next!(Commands, 6), 7, 0),
+    (next!(Commands, 7), 0, 0),
+    (next!(Commands, 8), 1, 0),
+    (next!(Commands, 9), 0, 0),
+    (next!(Commands, 10), 0, 0),
+    (next!(Commands, 11), 0, 0),
+    (next!(Commands, 12), 0, 0),
+    (next!(Commands, 13), 1, 0),
+    (next!(Commands, 14), 0, 0),
+    (next!(Commands, 15), 0, 0),
+    (next!(Commands, 16), 1, 0),
+    ((Before::Commands(0), Call::Reserve(DAY.len())), 2, 0),
+    ((Before::Commands(17), Call::Reserve(DAY.len())), 2, 0),
+    (next!(Ahead, 0), 21, 0),
+    (next!(Ahead, 1), 0, 0),
+    (next!(Ahead, 2), 5, 0),
+    (next!(Ahead, 3), 0, 0),
+    (next!(Ahead, 4), 0, 0),
+    (next!(Ahead, 5), 0, 0),
+    (next!(Ahead, 6), 7, 0),
+    (next!(Ahead, 7), 0, 0),
+    (next!(Ahead, 8), 0, 0),
+    (next!(Ahead, 9), 0, 0),
+    (next!(Ahead, 10), 0, 0),
+    (next!(Ahead, 11), 0, 0),
+    (next!(Ahead, 12), 0, 0),
+    (next!(Ahead, 13), 0, 0),
+    (next!(Ahead, 14), 0, 0),
+    (next!(Ahead, 15), 0, 0),
+    (next!(Ahead, 16), 0, 0),
+    ((Before::Commands(17), Call::Orders), 1, 1),
+    ((Before::Commands(11), Call::Orders), 1, 1),
+    ((Before::Stops(8), Call::Stops), 2, 1),
+    ((Before::Stops(0), Call::Apply(STOP)), 28, 0),
+    ((Before::Stops(1), Call::Apply(STOP_LIMIT)), 7, 0),
+    ((Before::Stops(1), Call::Apply(BUY_STOP)), 12, 0),
+    ((Before::Stops(60), Call::Apply(SELL)), 8, 0),
+    ((Before::Stops(300), Call::Apply(SELL)), 7, 0),
+    ((Before::Room(300), Call::Apply(SELL)), 0, 0),
+];
+
+/// A desk, with what was listed last and how many desks a segment opened. A clause sees nothing of it.
+struct Opened<A: Allocator + Copy> {
+    alloc: A,
+    day: Day<A>,
+    orders: Vec<Order, A>,
+    stops: Vec<Stop, A>,
+    desks: usize,
+}
+
+impl<A: Allocator + Copy> Drop for Opened<A> {
+    fn drop(self) {
+        let Opened {
+            alloc: _,
+            day: _day,
+            orders: _orders,
+            stops: _stops,
+            desks: _,
+        } = self;
+    }
+}
+
+impl<A: Allocator + Copy> Model for Opened<A> {
+    ghost Value = { Unit };
+
+    ghost view = { λ _. tt };
+}
+
+/// The want of memory at which an opening ended.
+fn wanting(rt: &impl Abort, fault: &OpenFault) -> OutOfMemory {
+    match fault {
+        OpenFault::OutOfMemory(error) => *error,
+        _ => panic!(rt; "another fault"),
+    }
+}
+
+/// The want of memory for which a command was refused.
+fn lacking(rt: &impl Abort, refusal: &Refusal) -> OutOfMemory {
+    match refusal {
+        Refusal::OutOfMemory(error) => *error,
+        _ => panic!(rt; "another refusal"),
+    }
+}
+
+/// The settings of a segment of so many securities.
+fn segment(rt: &(impl Abort + AllocGlobal), securities: usize) -> SegmentConfig {
+    let settings = settings(rt, 100);
+    let mut all = Vec::new(rt.alloc());
+    for _ in 0..securities {
+        let security = SecurityConfig {
+            tick: settings.tick,
+            reference: settings.reference,
+            widths: settings.widths,
+            limit: settings.limit,
+        };
+        all.push(security).ok().expect(rt, "memory");
+    }
+    SegmentConfig {
+        today: settings.today,
+        members: settings.members,
+        securities: Securities::new(all),
+    }
+}
+
+/// A day with its first commands, for so many of which room was made first.
+fn day_of<A: Allocator + Copy>(rt: &impl Abort, alloc: A, ahead: usize, commands: usize) -> Day<A> {
+    let mut day = Day::open(rt, alloc, 100);
+    assert!(rt; day.reserve(ahead).is_ok());
+    for command in DAY.as_slice().iter().take(commands) {
+        day.accept(rt, &[*command]);
+    }
+    day
+}
+
+/// What stands before a call.
+fn standing<A: Allocator + Copy>(rt: &impl Abort, alloc: A, before: Before) -> Day<A> {
+    match before {
+        Before::Commands(commands) => day_of(rt, alloc, 0, commands),
+        Before::Ahead(commands) => day_of(rt, alloc, DAY.len(), commands),
+        Before::Stops(stops) => filled(rt, alloc, stops),
+        Before::Room(stops) => {
+            let mut day = filled(rt, alloc, stops);
+            day.accept(rt, &GONE);
+            day
+        }
+    }
+}
+
+impl<A: Allocator + Copy> Opened<A> {
+    fn open_desks(&mut self, rt: &impl Abort, config: &SegmentConfig) -> Result<(), OutOfMemory> {
+        match open_desks(Storage::with_fixed_seed(self.alloc), config) {
+            Ok(desks) => {
+                self.desks = desks.len();
+                Ok(())
+            }
+            Err(fault) => Err(wanting(rt, &fault)),
+        }
+    }
+
+    fn open(&mut self, rt: &impl Abort) -> Result<(), OutOfMemory> {
+        match Day::opened(self.alloc, settings(rt, 100)) {
+            Ok(day) => {
+                self.day = day;
+                Ok(())
+            }
+            Err(fault) => Err(wanting(rt, &fault)),
+        }
+    }
+
+    fn apply(&mut self, rt: &impl Abort, command: Command) -> Result<(), OutOfMemory> {
+        match self.day.apply(rt, command) {
+            Ok(_reply) => Ok(()),
+            Err(refusal) => Err(lacking(rt, &refusal)),
+        }
+    }
+}
+
+impl<A: Allocator + Copy> Tried<A> for Opened<A> {
+    type Call = (Before, Call);
+
+    fn before<R: Abort + AllocGlobal>(rt: &R, alloc: A, (before, _): &(Before, Call)) -> Opened<A> {
+        Opened {
+            alloc,
+            day: standing(rt, alloc, *before),
+            orders: Vec::new(alloc),
+            stops: Vec::new(alloc),
+            desks: 0,
+        }
+    }
+
+    fn make<R: Abort + AllocGlobal>(
+        &mut self,
+        rt: &R,
+        (_, call): &(Before, Call),
+    ) -> Result<(), OutOfMemory> {
+        match *call {
+            Call::OpenDesks(securities) => self.open_desks(rt, &segment(rt, securities)),
+            Call::Open => self.open(rt),
+            Call::Reserve(commands) => self.day.reserve(commands),
+            Call::Apply(command) => self.apply(rt, command),
+            Call::Next(index) => {
+                let command = DAY.as_slice().get(index).expect(rt, "a command");
+                self.apply(rt, *command)
+            }
+            Call::Orders => {
+                self.orders = self.day.orders()?;
+                Ok(())
+            }
+            Call::Stops => {
+                self.stops = self.day.stops()?;
+                Ok(())
             }
         }
     }
 
-    /// Compares all that the readers answer of two days.
-    fn compare<A: Allocator + Copy, B: Allocator + Copy>(
-        &mut self,
-        rt: &impl Abort,
-        day: &Day<A>,
-        like: &Day<B>,
-    ) {
-        assert!(rt; day.settings() == like.settings());
-        assert!(rt; day.phase() == like.phase());
-        assert!(rt; day.reference_prices() == like.reference_prices());
-        assert!(rt; day.journal() == like.journal());
-        assert!(rt; day.trades() == like.trades());
-        assert!(rt; day.totals() == like.totals());
-        assert!(rt; day.position(0) == like.position(0));
-        assert!(rt; day.position(1) == like.position(1));
-        like.orders_are(rt, &self.orders(rt, day));
+    fn shows_as<R: Abort>(&self, rt: &R, like: &Opened<A>) -> bool {
+        self.day.shows_as(rt, &like.day)
+            && self.orders.as_slice() == like.orders.as_slice()
+            && self.stops.as_slice() == like.stops.as_slice()
+            && self.desks == like.desks
     }
-
-    /// Opens a day, once more where the first answer is for want of memory.
-    fn open<A: Allocator + Copy>(&mut self, rt: &impl Abort, alloc: A) -> Day<A> {
-        if let Ok(day) = Day::opened(alloc, settings(rt, 100)) {
-            return day;
-        }
-        self.openings = self.openings.wrapping_add(1);
-        Day::open(rt, alloc, 100)
-    }
-
-    /// Makes room for so many commands ahead, once more where the first answer is for want of memory, which changes nothing.
-    fn reserve<A: Allocator + Copy, B: Allocator + Copy>(
-        &mut self,
-        rt: &impl Abort,
-        day: &mut Day<A>,
-        like: &Day<B>,
-        commands: usize,
-    ) {
-        if day.reserve(commands).is_err() {
-            self.rooms = self.rooms.wrapping_add(1);
-            self.compare(rt, day, like);
-            assert!(rt; day.reserve(commands).is_ok());
-        }
-        self.compare(rt, day, like);
-    }
-
-    /// Gives a command to a day, where memory may be refused, and to one like it, where it is not.
-    fn give<A: Allocator + Copy, B: Allocator + Copy>(
-        &mut self,
-        rt: &impl Abort,
-        day: &mut Day<A>,
-        like: &mut Day<B>,
-        command: Command,
-    ) {
-        let mut answer = day.apply(rt, command);
-        if lacks_memory(&answer) {
-            self.commands = self.commands.wrapping_add(1);
-            self.compare(rt, day, like);
-            answer = day.apply(rt, command);
-        }
-        assert!(rt; answer == like.apply(rt, command));
-        self.compare(rt, day, like);
-    }
-
-    /// Gives the commands of a day.
-    fn give_all<A: Allocator + Copy, B: Allocator + Copy>(
-        &mut self,
-        rt: &impl Abort,
-        day: &mut Day<A>,
-        like: &mut Day<B>,
-    ) {
-        for command in COMMANDS.as_slice() {
-            self.give(rt, day, like, *command);
-        }
-        assert!(rt; like.journal() == COMMANDS.as_slice());
-        assert!(rt; like.phase() == Phase::Continuous);
-        assert!(rt; like.trades().len() == 6);
-        like.has_left(rt, &[(Side::Buy, 0, 2, 990, 7)], &[]);
-    }
-
-    /// Runs a day that makes room for so many commands ahead, in which the request of this number is refused, and answers
-    /// whether one was.
-    fn run(&mut self, rt: &(impl Abort + AllocGlobal), ahead: usize, nth: u64) -> bool {
-        let mut like = Day::open(rt, rt.alloc(), 100);
-        let refusing = Refusing::new(rt.alloc(), nth);
-        let mut day = self.open(rt, &refusing);
-        self.reserve(rt, &mut day, &like, ahead);
-        self.give_all(rt, &mut day, &mut like);
-        refusing.has_refused()
-    }
-
-    /// Compares the counts after days of which the last one, of this number, had no request refused.
-    fn are_counted(&self, rt: &impl Abort, rooms: u64, made_good: u64, nth: u64) {
-        let answered = self.commands.wrapping_add(self.lists);
-        let before = self.openings.wrapping_add(rooms);
-        assert!(rt; self.openings == 1 && self.rooms == rooms);
-        assert!(rt; answered.wrapping_add(before).wrapping_add(made_good) == nth.wrapping_sub(1));
-        assert!(rt; self.commands > 0 && self.lists > 0);
-    }
-}
-
-/// Runs days that make room for so many commands ahead, with each request refused in turn. Each refusal but those made good is
-/// an answer for want of memory, and this many are answers of the room.
-fn refuse_each(rt: &(impl Abort + AllocGlobal), ahead: usize, rooms: u64, made_good: u64) {
-    let mut refused = Refused {
-        openings: 0,
-        rooms: 0,
-        commands: 0,
-        lists: 0,
-    };
-    for nth in 1..300 {
-        if !refused.run(rt, ahead, nth) {
-            refused.are_counted(rt, rooms, made_good, nth);
-            return;
-        }
-    }
-    panic!(rt; "memory was refused in each run")
 }
 
 #[test]
 fn each_growth_refused_in_turn(rt: HostRuntime) {
-    refuse_each(&rt, 0, 0, MADE_GOOD);
-}
-
-#[test]
-fn each_growth_refused_after_room_was_made(rt: HostRuntime) {
-    refuse_each(&rt, COMMANDS.len(), 2, MADE_GOOD);
+    let alloc = Refusing::new(rt.alloc(), 0);
+    refuse_all::<_, Opened<_>, _>(&rt, &alloc, &CALLS);
 }
 
 #[test]

@@ -1,26 +1,46 @@
-//! Growths that are refused.
+//! Growths of a book and of its trades that are refused.
 use super::entries::Entries;
-use super::{limit, order};
+use super::{OPENING, limit, order};
 use std::alloc::Allocator;
+use std::marker::Model;
 use std::process::Abort;
-use xm_refusing::Refusing;
+use xm_book::Trades;
+use xm_memory::OutOfMemory;
+use xm_refusing::{Counted, Refusing, Tried, refuse_all};
 use xm_rules::{Order, OrderKind, Restriction, Side};
 
-/// How many orders enter, and are each replaced by another.
-const ORDERS: u32 = 8;
+#[derive(Clone, Copy)]
+enum Call {
+    /// `Book::reserve_for`, for an order that comes in.
+    Enter,
+    /// The same for one that comes in place of another.
+    Replace,
+    Orders,
+    OfMember,
+    /// `Trades::reserve`, for so many.
+    Reserve(usize),
+    /// `Trades::make_room`, for so many.
+    MakeRoom(usize),
+}
 
-/// The calls of a run: those that enter an order come first, then those that replace one, and then these.
-const LIST: u32 = 2 * ORDERS;
+/// Calls, each after so many orders. The first order lets each of the five parts of a book grow. A list first asks for room for
+/// its whole answer, and grows as it goes where it can't have that.
+const CALLS: [Counted<(u32, Call)>; 12] = [
+    ((0, Call::Enter), 21, 0),
+    ((1, Call::Enter), 12, 0),
+    ((2, Call::Enter), 5, 0),
+    ((4, Call::Enter), 3, 0),
+    ((7, Call::Enter), 0, 0),
+    ((8, Call::Enter), 3, 0),
+    ((8, Call::Replace), 3, 0),
+    ((0, Call::Orders), 0, 0),
+    ((8, Call::Orders), 2, 1),
+    ((8, Call::OfMember), 1, 1),
+    ((8, Call::Reserve(100)), 1, 0),
+    ((8, Call::MakeRoom(100)), 1, 0),
+];
 
-const OF_MEMBER: u32 = LIST + 1;
-
-const CALLS: u32 = LIST + 2;
-
-/// Of `orders` and `of_member` each makes good one refusal: it first asks for room for its whole answer, and grows as it
-/// goes where it can't have that.
-const MADE_GOOD: u32 = 2;
-
-/// Orders of three members on both sides, each with a place of its own.
+/// Orders of three members on both sides.
 fn numbered(rt: &impl Abort, reference: u32) -> Order {
     let (side, restriction) = if reference % 2 == 0 {
         (Side::Buy, Restriction::Free)
@@ -34,88 +54,85 @@ fn numbered(rt: &impl Abort, reference: u32) -> Order {
     }
 }
 
-/// The order that comes in its place.
-fn changed(rt: &impl Abort, reference: u32) -> Order {
+/// The order that comes in place of the first one.
+fn changed(rt: &impl Abort) -> Order {
     Order {
         kind: OrderKind::Market,
-        ..numbered(rt, reference)
+        ..numbered(rt, 0)
     }
 }
 
-/// Compares orders, in time order, with those that so many calls leave.
-fn compare(rt: &impl Abort, orders: &[Order], calls: u32) {
-    assert!(rt; orders.len() == calls.min(ORDERS) as usize);
-    let mut reference = calls.saturating_sub(ORDERS).min(ORDERS);
-    for order in orders {
-        let expected = if reference < ORDERS {
-            numbered(rt, reference)
-        } else {
-            changed(rt, reference - ORDERS)
-        };
-        assert!(rt; *order == expected);
-        reference = reference.wrapping_add(1);
+/// A book and its trades, with what was listed last. A clause sees nothing of it.
+struct Filled<A: Allocator + Copy> {
+    book: Entries<A>,
+    trades: Trades<A>,
+    orders: Vec<Order, A>,
+    references: Vec<u32, A>,
+}
+
+impl<A: Allocator + Copy> Drop for Filled<A> {
+    fn drop(self) {
+        let Filled {
+            book: _book,
+            trades: _trades,
+            orders: _orders,
+            references: _references,
+        } = self;
     }
 }
 
-/// Makes a call of a run, and answers whether memory sufficed.
-fn call<A: Allocator + Copy>(rt: &impl Abort, book: &mut Entries<A>, number: u32) -> bool {
-    match number {
-        LIST => is_listed(rt, book, number),
-        OF_MEMBER => match book.of_member(0) {
-            Ok(references) => references.as_slice() == [0, 3, 6].as_slice(),
-            Err(_) => false,
-        },
-        _ if number < ORDERS => book.enter(numbered(rt, number)) == Ok(true),
-        _ => book.replace(changed(rt, number - ORDERS)) == Ok(true),
-    }
+impl<A: Allocator + Copy> Model for Filled<A> {
+    ghost Value = { Unit };
+
+    ghost view = { λ _. tt };
 }
 
-/// Whether memory sufficed to list the orders, which so many calls leave.
-fn is_listed<A: Allocator + Copy>(rt: &impl Abort, book: &Entries<A>, calls: u32) -> bool {
-    match book.orders() {
-        Ok(orders) => {
-            compare(rt, orders.as_slice(), calls);
-            true
+impl<A: Allocator + Copy> Tried<A> for Filled<A> {
+    type Call = (u32, Call);
+
+    fn before<R: Abort + AllocGlobal>(rt: &R, alloc: A, (orders, _): &(u32, Call)) -> Filled<A> {
+        let mut book = Entries::new(alloc);
+        for reference in 0..*orders {
+            assert!(rt; book.enter(numbered(rt, reference)) == Ok(true));
         }
-        Err(_) => false,
-    }
-}
-
-/// Makes the calls of a run, each again where memory was refused, and answers which one it was.
-fn run<A: Allocator + Copy>(rt: &impl Abort, alloc: A) -> Option<u32> {
-    let mut book = Entries::new(alloc);
-    let mut refused = None;
-    for number in 0..CALLS {
-        if !call(rt, &mut book, number) {
-            refused = Some(number);
-            assert!(rt; is_listed(rt, &book, number));
-            assert!(rt; call(rt, &mut book, number));
+        Filled {
+            book,
+            trades: Trades::new(alloc),
+            orders: Vec::new(alloc),
+            references: Vec::new(alloc),
         }
     }
-    refused
+
+    fn make<R: Abort + AllocGlobal>(
+        &mut self,
+        rt: &R,
+        (orders, call): &(u32, Call),
+    ) -> Result<(), OutOfMemory> {
+        match *call {
+            Call::Enter => assert!(rt; self.book.enter(numbered(rt, *orders))?),
+            Call::Replace => assert!(rt; self.book.replace(changed(rt))?),
+            Call::Orders => self.orders = self.book.orders()?,
+            Call::OfMember => self.references = self.book.of_member(0)?,
+            Call::Reserve(trades) => self.trades.reserve(trades)?,
+            Call::MakeRoom(trades) => self.trades.make_room(trades)?,
+        }
+        Ok(())
+    }
+
+    fn shows_as<R: Abort>(&self, rt: &R, like: &Filled<A>) -> bool {
+        let (orders, others) = (self.book.orders(), like.book.orders());
+        orders.expect(rt, "memory").as_slice() == others.expect(rt, "memory").as_slice()
+            && self.book.len() == like.book.len()
+            && self.book.best(Side::Buy, OPENING) == like.book.best(Side::Buy, OPENING)
+            && self.book.best(Side::Sell, OPENING) == like.book.best(Side::Sell, OPENING)
+            && self.trades.as_slice() == like.trades.as_slice()
+            && self.orders.as_slice() == like.orders.as_slice()
+            && self.references.as_slice() == like.references.as_slice()
+    }
 }
 
 #[test]
 fn each_growth_refused_in_turn(rt: HostRuntime) {
-    let (mut enter, mut replace, mut list) = (0u32, 0u32, 0u32);
-    let (mut of_member, mut made_good) = (0u32, 0u32);
-    for nth in 1..100 {
-        let alloc = Refusing::new(rt.alloc(), nth);
-        let refused = run(&rt, &alloc);
-        if !alloc.has_refused() {
-            // Each of the five parts of a book grows for the first order.
-            assert!(rt; refused.is_none() && enter >= 5);
-            assert!(rt; replace >= 1 && list >= 1);
-            assert!(rt; of_member >= 1 && made_good == MADE_GOOD);
-            return;
-        }
-        match refused {
-            Some(LIST) => list = list.wrapping_add(1),
-            Some(OF_MEMBER) => of_member = of_member.wrapping_add(1),
-            Some(call) if call < ORDERS => enter = enter.wrapping_add(1),
-            Some(_) => replace = replace.wrapping_add(1),
-            None => made_good = made_good.wrapping_add(1),
-        }
-    }
-    panic!(rt; "memory was refused in each run");
+    let alloc = Refusing::new(rt.alloc(), 0);
+    refuse_all::<_, Filled<_>, _>(&rt, &alloc, &CALLS);
 }

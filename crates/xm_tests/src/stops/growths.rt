@@ -1,26 +1,36 @@
-//! Growths that are refused.
+//! Growths of held and pending stops that are refused.
 use super::held::Held;
-use super::{come_in, price, stop};
+use super::{price, stop};
 use std::alloc::Allocator;
+use std::marker::Model;
 use std::process::Abort;
-use xm_refusing::Refusing;
+use xm_memory::OutOfMemory;
+use xm_refusing::{Counted, Refusing, Tried, refuse_all};
 use xm_rules::{Side, Stop};
 
-/// How many stops enter.
-const STOPS: u32 = 8;
+#[derive(Clone, Copy)]
+enum Call {
+    /// `Stops::reserve_one`, for a stop that comes in.
+    Enter,
+    List,
+    OfMember,
+    /// `Pending::reserve`, for all that are held, before those are taken that are reached.
+    TakeReached,
+}
 
-/// The calls of a run: those that enter a stop come first, and then these.
-const LIST: u32 = STOPS;
-
-const OF_MEMBER: u32 = STOPS + 1;
-
-const TAKE_REACHED: u32 = STOPS + 2;
-
-const CALLS: u32 = STOPS + 3;
-
-/// Of `list` and `of_member` each makes good one refusal: it first asks for room for its whole answer, and grows as it
-/// goes where it can't have that.
-const MADE_GOOD: u32 = 2;
+/// Calls, each after so many stops. The first stop lets each part of the held stops grow. A list first asks for room for its
+/// whole answer, and grows as it goes where it can't have that.
+const CALLS: [Counted<(u32, Call)>; 9] = [
+    ((0, Call::Enter), 21, 0),
+    ((1, Call::Enter), 12, 0),
+    ((2, Call::Enter), 6, 0),
+    ((4, Call::Enter), 3, 0),
+    ((8, Call::Enter), 3, 0),
+    ((0, Call::List), 0, 0),
+    ((8, Call::List), 2, 1),
+    ((8, Call::OfMember), 1, 1),
+    ((8, Call::TakeReached), 1, 0),
+];
 
 /// Stops of three members on both sides, at triggers on several pages.
 fn numbered(reference: u32) -> Stop {
@@ -35,68 +45,70 @@ fn numbered(reference: u32) -> Stop {
     }
 }
 
-/// Makes a call of a run, and answers whether memory sufficed.
-fn call<A: Allocator + Copy>(rt: &impl Abort, stops: &mut Held<A>, number: u32) -> bool {
-    match number {
-        LIST => is_listed(rt, stops, STOPS),
-        OF_MEMBER => match stops.of_member(1) {
-            Ok(references) => references.as_slice() == [1, 4, 7].as_slice(),
-            Err(_) => false,
-        },
-        TAKE_REACHED => stops.take_reached(price(rt, 1)).is_ok(),
-        reference => stops.enter(numbered(reference)) == Ok(true),
+/// Stops, with what was listed last. A clause sees nothing of it.
+struct Filled<A: Allocator + Copy> {
+    stops: Held<A>,
+    listed: Vec<Stop, A>,
+    references: Vec<u32, A>,
+}
+
+impl<A: Allocator + Copy> Drop for Filled<A> {
+    fn drop(self) {
+        let Filled {
+            stops: _stops,
+            listed: _listed,
+            references: _references,
+        } = self;
     }
 }
 
-/// Whether memory sufficed to list the stops, which are the first so many; none is pending.
-fn is_listed<A: Allocator + Copy>(rt: &impl Abort, stops: &Held<A>, held: u32) -> bool {
-    assert!(rt; stops.len() == held as usize && stops.pending_len() == 0);
-    let Ok(listed) = stops.list() else {
-        return false;
-    };
-    for (reference, stop) in (0..held).zip(listed.iter()) {
-        assert!(rt; *stop == numbered(reference));
-    }
-    listed.len() == held as usize
+impl<A: Allocator + Copy> Model for Filled<A> {
+    ghost Value = { Unit };
+
+    ghost view = { λ _. tt };
 }
 
-/// Makes the calls of a run, each again where memory was refused, and answers which one it was.
-fn run<A: Allocator + Copy>(rt: &impl Abort, alloc: A) -> Option<u32> {
-    let mut stops = Held::new(alloc);
-    let mut refused = None;
-    for number in 0..CALLS {
-        if !call(rt, &mut stops, number) {
-            refused = Some(number);
-            assert!(rt; is_listed(rt, &stops, number.min(STOPS)));
-            assert!(rt; call(rt, &mut stops, number));
+impl<A: Allocator + Copy> Tried<A> for Filled<A> {
+    type Call = (u32, Call);
+
+    fn before<R: Abort + AllocGlobal>(rt: &R, alloc: A, (held, _): &(u32, Call)) -> Filled<A> {
+        let mut stops = Held::new(alloc);
+        for reference in 0..*held {
+            assert!(rt; stops.enter(numbered(reference)) == Ok(true));
+        }
+        Filled {
+            stops,
+            listed: Vec::new(alloc),
+            references: Vec::new(alloc),
         }
     }
-    come_in(rt, &mut stops, &[1, 3, 5, 7]);
-    assert!(rt; stops.pop().is_none() && stops.len() == 4);
-    refused
+
+    fn make<R: Abort + AllocGlobal>(
+        &mut self,
+        rt: &R,
+        (held, call): &(u32, Call),
+    ) -> Result<(), OutOfMemory> {
+        match *call {
+            Call::Enter => assert!(rt; self.stops.enter(numbered(*held))?),
+            Call::List => self.listed = self.stops.list()?,
+            Call::OfMember => self.references = self.stops.of_member(1)?,
+            Call::TakeReached => self.stops.take_reached(price(rt, 1))?,
+        }
+        Ok(())
+    }
+
+    fn shows_as<R: Abort>(&self, rt: &R, like: &Filled<A>) -> bool {
+        let (stops, others) = (self.stops.list(), like.stops.list());
+        stops.expect(rt, "memory").as_slice() == others.expect(rt, "memory").as_slice()
+            && self.stops.len() == like.stops.len()
+            && self.stops.pending_len() == like.stops.pending_len()
+            && self.listed.as_slice() == like.listed.as_slice()
+            && self.references.as_slice() == like.references.as_slice()
+    }
 }
 
 #[test]
 fn each_growth_refused_in_turn(rt: HostRuntime) {
-    let (mut enter, mut list, mut of_member) = (0u32, 0u32, 0u32);
-    let (mut take_reached, mut made_good) = (0u32, 0u32);
-    for nth in 1..200 {
-        let alloc = Refusing::new(rt.alloc(), nth);
-        let refused = run(&rt, &alloc);
-        if !alloc.has_refused() {
-            // Each part of the held stops grows for the first one.
-            assert!(rt; refused.is_none() && enter >= 8);
-            assert!(rt; list >= 1 && of_member >= 1);
-            assert!(rt; take_reached == 1 && made_good == MADE_GOOD);
-            return;
-        }
-        match refused {
-            Some(LIST) => list = list.wrapping_add(1),
-            Some(OF_MEMBER) => of_member = of_member.wrapping_add(1),
-            Some(TAKE_REACHED) => take_reached = take_reached.wrapping_add(1),
-            Some(_) => enter = enter.wrapping_add(1),
-            None => made_good = made_good.wrapping_add(1),
-        }
-    }
-    panic!(rt; "memory was refused in each run");
+    let alloc = Refusing::new(rt.alloc(), 0);
+    refuse_all::<_, Filled<_>, _>(&rt, &alloc, &CALLS);
 }
