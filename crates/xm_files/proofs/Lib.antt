@@ -8,6 +8,7 @@ mod Distinct
 mod Documents
 mod Takes
 mod Unread
+mod Places
 mod PlainFields
 mod Marked
 mod CsvFields

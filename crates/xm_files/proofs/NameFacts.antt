@@ -1,15 +1,13 @@
 -- Look-ups among names.
-use Rattle.std.proofs.Common.{◌≡◌, ℕ, ◌+◌, ◌≤◌, suc, Bool, true, false, not, ◌||◌, cond, List, [], ◌∷◌, ◌++◌, length, map, Some, None, Result, Ok, Err, IfOk, subst, String, Global, string_bytes, refl, sym, ap, ◌∙◌, arith, nat_lt}
+use Rattle.std.proofs.Common.{◌≡◌, ℕ, ◌+◌, ◌≤◌, suc, Bool, true, false, not, ◌||◌, cond, List, [], ◌∷◌, length, map, Some, None, Result, Ok, Err, IfOk, String, Global, string_bytes, refl, sym, ap, ◌∙◌, arith, nat_lt}
 use Rattle.std.proofs.Math.Logic.{∥∥₁_elim}
 use Rattle.std.proofs.lemmas.Bool.{or_parts}
 use Rattle.std.proofs.lemmas.Bool.Decides.{nat_tests}
-use Rattle.std.proofs.lemmas.List.{length-map, map-append}
+use Rattle.std.proofs.lemmas.List.{length-map}
 use Rattle.std.proofs.lemmas.Slice.Eq.{bytes_eq-Decides}
 use Rattle.std.specs.List.{list_any, prefix_len, position_or_len, position}
 use Rattle.std.specs.Result.{is_err}
 use Rattle.std.specs.Str.{bytes_eq, IsUtf8}
-use Rattle.std.specs.String.{string_eq}
-use Rattle.indexmap.specs.IndexSet.{insert_key}
 
 prefix_len-map : {A B : Type 0} (p : B → Bool) (f : A → B) (xs : List A) → prefix_len p (map f xs) ≡ prefix_len (λ x. p (f x)) xs
 prefix_len-map p f [] = refl
@@ -22,13 +20,6 @@ position-map p f xs = rw (prefix_len-map (λ x. not (p x)) f xs, length-map xs f
 pub list_any-map : {A B : Type 0} (p : B → Bool) (f : A → B) (xs : List A) → list_any p (map f xs) ≡ list_any (λ x. p (f x)) xs
 list_any-map p f [] = refl
 list_any-map p f (x ∷ xs) = ap (λ b. p (f x) || b) (list_any-map p f xs)
-
--- the bytes of a text that is not there yet go last
-pub bytes-insert_key : (keys : List (String Global)) (name : String Global) (bytes : List ℕ) → string_bytes name ≡ bytes → list_any (λ key. bytes_eq bytes (string_bytes key)) keys ≡ false
-    → map string_bytes (insert_key string_eq keys name) ≡ map string_bytes keys ++ bytes ∷ []
-bytes-insert_key keys name bytes same none =
-    let absent : list_any (string_eq name) keys ≡ false = subst (λ (b : List ℕ). list_any (λ (key : String Global). bytes_eq b (string_bytes key)) keys ≡ false) (sym same) none in
-    rw (absent, map-append) (ap (λ (b : List ℕ). map string_bytes keys ++ b ∷ []) same)
 
 -- a result that is no error has what holds of an `Ok`
 pub not_err : {T E : Type 0} {P : Type 0} (r : Result T E) → false ≡ is_err r → IfOk r (λ _. P) → P
@@ -46,7 +37,8 @@ none_equal : (bytes : List ℕ) (keys : List (String Global)) → ¬ (IsUtf8 byt
 none_equal bytes [] lacks = refl
 none_equal bytes (key ∷ keys) lacks = rw (differs bytes key _ refl lacks, none_equal bytes keys lacks) refl
 
-none-prefix : {A : Type 0} (p : A → Bool) (xs : List A) → list_any p xs ≡ false → prefix_len (λ x. not (p x)) xs ≡ length xs
+-- where none passes, no place comes before the end
+pub none-prefix : {A : Type 0} (p : A → Bool) (xs : List A) → list_any p xs ≡ false → prefix_len (λ x. not (p x)) xs ≡ length xs
 none-prefix p [] none = refl
 none-prefix p (x ∷ xs) none =
     let parts = or_parts (p x) (list_any p xs) none in
@@ -66,7 +58,7 @@ within-if : (t : Bool) (n m : ℕ) → n ≤ m → cond t (1 + n) 0 ≤ suc m
 within-if true n m h = omega arith
 within-if false n m h = omega arith
 
-prefix-within : {A : Type 0} (p : A → Bool) (xs : List A) → prefix_len p xs ≤ length xs
+pub prefix-within : {A : Type 0} (p : A → Bool) (xs : List A) → prefix_len p xs ≤ length xs
 prefix-within p [] = omega arith
 prefix-within p (x ∷ xs) = within-if (p x) (prefix_len p xs) (length xs) (prefix-within p xs)
 

@@ -7,9 +7,8 @@ ghost use Rattle.xm_files.specs.Names.{is_among};
 
 use crate::bytes::MAX_BYTES;
 use crate::file_faults::FileCause;
-use indexmap::IndexSet;
 use std::alloc::Global;
-use std::hash::{BuildHasherDefault, FoldHasher};
+use std::collections::BTreeMap;
 use std::marker::Model;
 use xm_memory::{OutOfMemory, count_within};
 
@@ -34,10 +33,12 @@ struct Hint {
 /// of their bytes.
 ///
 /// The place of a short name among the hints has its own, or that of a later name with this place. So
-/// most names are found by a look at one hint.
+/// most names are found by a look at one hint. The others are found in the order of their bytes, so that
+/// no choice of names makes look-ups slow.
 #[derive(Drop)]
 pub(crate) struct NameList {
-    names: IndexSet<String, BuildHasherDefault<FoldHasher>>,
+    names: Vec<String>,
+    places: BTreeMap<String, u32>,
     hints: [Hint; HINTS],
 }
 
@@ -46,16 +47,18 @@ impl Model for NameList {
     ghost use Rattle.std.specs.List.{All};
     ghost use Rattle.xm_files.specs.FileFaults.{max_bytes};
     ghost use Rattle.xm_files.specs.Hints.{LeadsInto};
+    ghost use Rattle.xm_files.specs.Names.{ArePlaces};
     ghost use Rattle.xm_files.specs.Segment.{are_distinct};
 
     ghost Value = { List (List ℕ) };
 
-    ghost view = { λ n. map string_bytes n.names.keys };
+    ghost view = { λ n. map string_bytes n.names.items };
 
     ghost invariant = { λ n. record {
-      few : length n.names.keys ≤ max_bytes;
-      distinct : are_distinct (map string_bytes n.names.keys) ≡ true;
-      hints : All (LeadsInto (map string_bytes n.names.keys)) n.hints;
+      few : length n.names.items ≤ max_bytes;
+      distinct : are_distinct (map string_bytes n.names.items) ≡ true;
+      places : ArePlaces (map string_bytes n.names.items) n.places;
+      hints : All (LeadsInto (map string_bytes n.names.items)) n.hints;
     } };
 }
 
@@ -65,7 +68,8 @@ impl NameList {
         ensures { result ≡ [] }
     {
         NameList {
-            names: IndexSet::with_hasher(alloc, BuildHasherDefault::new()),
+            names: Vec::new(alloc),
+            places: BTreeMap::new(alloc),
             hints: no_hints(),
         }
     }
@@ -82,7 +86,7 @@ impl NameList {
     pub(crate) fn get(&self, index: u32) -> Option<&str>
         ensures { option_map (λ name. name.now) result ≡ slice_get self.now index }
     {
-        match self.names.get_index(index as usize) {
+        match self.names.get(index as usize) {
             Some(name) => Some(name.as_str()),
             None => None,
         }
@@ -107,10 +111,7 @@ impl NameList {
         ensures { result ≡ position (bytes_eq bytes.now) self.now }
     {
         match std::str::from_utf8(bytes) {
-            Ok(name) => match self.names.get_index_of(name) {
-                Some(index) => Some(index as u32),
-                None => None,
-            },
+            Ok(name) => self.places.get(name).copied(),
             Err(_) => None,
         }
     }
@@ -123,7 +124,7 @@ impl NameList {
         ensures causes { IfErr result (λ cause. cause ≢ FileCause.OutOfMemory tt → (cause ≡ FileCause.DuplicateName) × (is_among name.now self.old ≡ true)) }
         ensures kept { OnErr result (self.new ≡ self.old) }
     {
-        if self.names.contains(name) {
+        if self.places.contains_key(name) {
             return Err(FileCause::DuplicateName);
         }
         self.push(alloc, name)?;
@@ -138,8 +139,13 @@ impl NameList {
     {
         count_within(self.names.len() as u64, MOST_NAMES as u64 - 1)?;
         let (bytes, index) = (name.as_bytes(), self.len());
-        let name = String::from_str(alloc, name)?;
-        self.names.insert(name)?;
+        let (listed, placed) = (
+            String::from_str(alloc, name)?,
+            String::from_str(alloc, name)?,
+        );
+        self.names.reserve(1)?;
+        self.places.insert(placed, index)?;
+        self.names.push_reserved(listed);
         add_hint(&mut self.hints, bytes, index);
         Ok(())
     }

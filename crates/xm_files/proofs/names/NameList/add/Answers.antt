@@ -1,16 +1,20 @@
-use Rattle.std.proofs.Common.{string_bytes, refl, sym, ◌∙◌}
+use Rattle.std.proofs.Common.{map, string_bytes, refl, sym, ap, ◌∙◌}
+use Rattle.std.specs.Prelude.{is_some}
 use Rattle.std.specs.Str.{bytes_eq}
-use Rattle.xm_files.proofs.NameFacts.{list_any-map}
+use Rattle.xm_files.proofs.Places.{has-position}
 use Rattle.xm_files.proofs.names.NameList.add.Goals as goal
 
-pub returns-then-contains-clause-causes : goal.returns-then-contains-clause-causes
-returns-then-contains-clause-causes c = λ _.
-    (refl, rw (← c.self.view_is) (list_any-map (bytes_eq c.args.name.now) string_bytes c.self.inside.names.keys ∙ sym c.contains.ensures ∙ c.if-contains.true))
+pub returns-then-contains_key-clause-causes : goal.returns-then-contains_key-clause-causes
+returns-then-contains_key-clause-causes c = λ _.
+    let names = map string_bytes c.self.inside.names.items in
+    (refl, rw (← c.self.view_is) (sym (has-position (bytes_eq c.args.name.now) names) ∙ ap is_some (sym (c.self.invariant.places c.args.name.now)) ∙ sym c.contains_key.ensures ∙ c.if-contains_key.true))
 
 pub push-requires : goal.push-requires
 push-requires c =
-    rw (← c.self.view_is) (list_any-map (bytes_eq c.args.name.now) string_bytes c.self.inside.names.keys ∙ sym c.contains.ensures ∙ c.if-contains.false)
+    let names = map string_bytes c.self.inside.names.items in
+    rw (← c.self.view_is) (sym (has-position (bytes_eq c.args.name.now) names) ∙ ap is_some (sym (c.self.invariant.places c.args.name.now)) ∙ sym c.contains_key.ensures ∙ c.if-contains_key.false)
 
 pub returns-clause-fresh : goal.returns-clause-fresh
 returns-clause-fresh c =
-    rw (← c.self.view_is) (list_any-map (bytes_eq c.args.name.now) string_bytes c.self.inside.names.keys ∙ sym c.contains.ensures ∙ c.if-contains.false)
+    let names = map string_bytes c.self.inside.names.items in
+    rw (← c.self.view_is) (sym (has-position (bytes_eq c.args.name.now) names) ∙ ap is_some (sym (c.self.invariant.places c.args.name.now)) ∙ sym c.contains_key.ensures ∙ c.if-contains_key.false)
