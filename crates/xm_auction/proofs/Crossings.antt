@@ -4,11 +4,13 @@ use Rattle.std.specs.Prelude.{IfSome, option_map}
 use Rattle.std.proofs.lemmas.Bool.{both_ways, not-true, not-false, not_from_false, false_from_ne_true, leb-true, le-leb}
 use Rattle.xm_auction.specs.Covered.{best_covered, covered_at, covers}
 use Rattle.xm_auction.specs.Crossings.{IsCrossing, IsAtEnd, IsPassed}
-use Rattle.xm_auction.specs.Depths.{depth_at, later, level_reached, reaches_price, units_to}
+use Rattle.xm_auction.specs.Depths.{depth_at, level_reached, reaches_price}
+use Rattle.xm_book.specs.Curves.{later, units_to}
 use Rattle.xm_auction.specs.declared.covered.Covered.{Covered}
 use Rattle.xm_auction.specs.declared.depth.Depth.{Depth}
-use Rattle.xm_auction.proofs.Bests.{best-is, best-none, reaches-on, reaches-other}
-use Rattle.xm_auction.proofs.Curves.{Nexts, depth-made, limit-made, next-candidate, next-units, next_reaches, nexts, of-candidate, reached-above, reached-more, unreached-below}
+use Rattle.xm_book.proofs.Bests.{best-is, best-none, reaches-on, reaches-other}
+use Rattle.xm_book.proofs.Curves.{Nexts, nexts}
+use Rattle.xm_auction.proofs.Curves.{depth-made, limit-made, next-candidate, next-units, next_reaches, of-candidate, reached-above, reached-more, unreached-below}
 use Rattle.xm_slots.proofs.Members.{Contains-filter, Passes-filter}
 use Rattle.xm_rules.specs.Active.{active, limits}
 use Rattle.xm_rules.specs.Auction.{accepting, candidates, surplus, volume}

@@ -1,4 +1,3 @@
-mod Bests
 mod Crossings
 pub mod Curves
 mod Growing

@@ -6,7 +6,7 @@ use Rattle.std.proofs.lemmas.Bool.Decides.{nat_tests}
 use Rattle.xm_auction.specs.Covered.{best_covered, covered_at, covers}
 use Rattle.xm_auction.specs.Prices.{executed, is_preferred}
 use Rattle.xm_auction.specs.declared.covered.Covered.{Covered}
-use Rattle.xm_auction.proofs.Bests.{Bests, best-says, reaches-once}
+use Rattle.xm_book.proofs.Bests.{Bests, best-says, reaches-once}
 use Rattle.xm_auction.proofs.Curves.{market-alone}
 use Rattle.xm_auction.proofs.Winners.{Beats, HasOther, IsCovered, NotWorse, Wins, beats-covers, beats-not_worse, chosen_of_both, chosen_of_none, chosen_of_side, covered-wins, either_covers, found_at, own-falls, other-rises, surplus_at, volume_kept}
 use Rattle.xm_slots.proofs.Members.{Contains-filter, Contains-here, Passes-filter}

@@ -6,7 +6,7 @@ use Rattle.std.proofs.lemmas.Bool.{and_from, and_parts, both_ways, eq-eqb, eqb-t
 use Rattle.std.proofs.lemmas.Bool.Decides.{nat_tests}
 use Rattle.std.proofs.lemmas.List.Elements.{All-contains_itself, All-weaker}
 use Rattle.xm_auction.specs.Prices.{executed}
-use Rattle.xm_auction.proofs.Bests.{best-is}
+use Rattle.xm_book.proofs.Bests.{best-is}
 use Rattle.xm_slots.proofs.Members.{Contains-cases, Contains-filter, Contains-here, Contains-none, Contains-there, Passes-filter, filter_none}
 use Rattle.xm_ticks.specs.Ranges.{kept_between}
 use Rattle.xm_rules.specs.Auction.{absolute_surplus, accepting, auction_price, best_candidates, candidates, chosen_price, highest, lowest, price_among, price_from, surplus, volume, where_greatest, with_volume}

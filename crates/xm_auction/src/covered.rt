@@ -2,7 +2,8 @@
 ghost use Rattle.std.specs.Prelude.{◌≡◌, ◌-◌, ◌+◌, ◌≤◌, ◌<◌, IsTrue, None, false};
 ghost use Rattle.xm_auction.specs.Covered.{best_covered};
 ghost use Rattle.xm_auction.specs.Crossings.{IsCrossing, IsAtEnd, IsPassed};
-ghost use Rattle.xm_auction.specs.Depths.{depth_at, orders_left};
+ghost use Rattle.xm_auction.specs.Depths.{depth_at};
+ghost use Rattle.xm_book.specs.Curves.{orders_left};
 ghost use Rattle.xm_rules.specs.Sides.{opposite};
 ghost use Rattle.xm_auction.specs.Prices.{is_preferred};
 

@@ -1,3 +1,5 @@
+pub mod Bests
+pub mod Curves
 pub mod Cutting
 pub mod Expiring
 pub mod FirstKinds

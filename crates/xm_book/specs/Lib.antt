@@ -1,3 +1,4 @@
+pub mod Curves
 pub mod Expiry
 pub mod Fronts
 pub mod Indexed

@@ -85,6 +85,29 @@ one_or_apart w x i xt it = by_ahead (one_or_ahead (other_side w) (queue w) (risi
     by_ahead (inr (inl e)) = inr (inl (gap (other_side w) (queue w) i x it e))
     by_ahead (inr (inr e)) = inr (inr (gap (other_side w) (queue w) x i xt e))
 
+-- ---- which orders may be executed
+pub executable_from : (w : Sweep) (i : Positioned) → is_met_inside w i ≡ true
+    → ((j : Positioned) → Contains (queue w) j → is_ahead (other_side w) j i ≡ true → is_met_inside w j ≡ true) → is_executable w i ≡ true
+executable_from w i met ahead =
+    and_from (is_met_inside w i) (list_all (is_met_inside w) (ahead_of w i)) met
+    (all_of_each (is_met_inside w) (ahead_of w i) (λ j at.
+    let p = Passes-filter (λ (k : Positioned). is_ahead (other_side w) k i) (queue w) j at in
+    ahead j p.contains p.passes))
+
+-- where one isn't met inside the ranges, neither it nor an order behind it may be
+module _ (w : Sweep) (m : Positioned) (outside : is_met_inside w m ≡ false) where
+  pub not_inside : is_executable w m ≡ false
+  not_inside =
+      false_from_ne_true (is_executable w m)
+      (λ e. both_ways (is_met_inside w m) outside (and_parts (is_met_inside w m) (list_all (is_met_inside w) (ahead_of w m)) e).0)
+
+  pub not_behind : Contains (queue w) m → (i : Positioned) → is_ahead (other_side w) m i ≡ true → is_executable w i ≡ false
+  not_behind at i h =
+      false_from_ne_true (is_executable w i)
+      (λ e. both_ways (is_met_inside w m) outside
+      (all_pass (is_met_inside w) (ahead_of w i) m (and_parts (is_met_inside w i) (list_all (is_met_inside w) (ahead_of w i)) e).1
+      (Contains-filter (λ (j : Positioned). is_ahead (other_side w) j i) (queue w) m h at)))
+
 -- ---- what an order is filled
 pub fill_of : (w : Sweep) (t : ℕ) (i : Positioned) → is_executable w i ≡ true → fill (upto t w) i ≡ min (units i) (t - units_before w i)
 fill_of w t i e = ap (λ (b : Bool). if b then min (units i) (t - units_before w i) else 0) e
@@ -181,26 +204,10 @@ module _ (w : Sweep) (done : ℕ) (s : IsSound w) (d : IsDone w done) (c : IsCut
   -- the next order may be executed where it is met inside the ranges
   pub executable_next : (m : Positioned) → IsNext w done m → is_met_inside w m ≡ true → is_executable w m ≡ true
   executable_next m next met =
-      and_from (is_met_inside w m) (list_all (is_met_inside w) (ahead_of w m)) met
-      (all_of_each (is_met_inside w) (ahead_of w m) (λ i at.
-      let p = Passes-filter (λ (j : Positioned). is_ahead (other_side w) j m) (queue w) i at in
-      let l = next.ahead i p.contains p.passes in
-      let some = some_units w s i p.contains in
-      (and_parts (is_met_inside w i) (list_all (is_met_inside w) (ahead_of w i)) (d.executed i p.contains (omega arith))).0))
-
-  -- where it isn't, neither it nor an order behind it may be
-  module _ (m : Positioned) (next : IsNext w done m) (outside : is_met_inside w m ≡ false) where
-    pub not_inside : is_executable w m ≡ false
-    not_inside =
-        false_from_ne_true (is_executable w m)
-        (λ e. both_ways (is_met_inside w m) outside (and_parts (is_met_inside w m) (list_all (is_met_inside w) (ahead_of w m)) e).0)
-
-    pub not_behind : (i : Positioned) → is_ahead (other_side w) m i ≡ true → is_executable w i ≡ false
-    not_behind i h =
-        false_from_ne_true (is_executable w i)
-        (λ e. both_ways (is_met_inside w m) outside
-        (all_pass (is_met_inside w) (ahead_of w i) m (and_parts (is_met_inside w i) (list_all (is_met_inside w) (ahead_of w i)) e).1
-        (Contains-filter (λ (j : Positioned). is_ahead (other_side w) j i) (queue w) m h next.contained)))
+      executable_from w m met (λ i at h.
+      let l = next.ahead i at h in
+      let some = some_units w s i at in
+      (and_parts (is_met_inside w i) (list_all (is_met_inside w) (ahead_of w i)) (d.executed i at (omega arith))).0)
 
   -- an order is past, or it is the next one or behind it
   pub placed : (m : Positioned) → IsNext w done m → (i : Positioned) → Contains (queue w) i → (units_before w i + units i ≤ done) ⊎ ((i ≡ m) ⊎ (is_ahead (other_side w) m i ≡ true))

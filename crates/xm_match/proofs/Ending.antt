@@ -142,12 +142,12 @@ module _ (w : Sweep) (number left : ℕ) (now : List Order) (old made : List Tra
       place = placed w p.done s p.is_done (p.cut some) m next
 
       not_next : is_executable w m ≡ false
-      not_next = not_inside w p.done s p.is_done (p.cut some) m next outside
+      not_next = not_inside w m outside
 
       same_by : (i : Positioned) → Contains (queue w) i → Place i → fill (upto p.done w) i ≡ fill w i
       same_by i at (inl l) = same_past i at l
       same_by i at (inr (inl e)) = same_none i (ap (is_executable w) e ∙ not_next)
-      same_by i at (inr (inr h)) = same_none i (not_behind w p.done s p.is_done (p.cut some) m next outside i h)
+      same_by i at (inr (inr h)) = same_none i (not_behind w m outside next.contained i h)
 
       next_is_met : interrupts (terms_of w) left now ≡ is_met w m
       next_is_met =

@@ -7,11 +7,11 @@ ghost use Rattle.xm_ticks.specs.declared.ranges.TheConstants.{MAX_WIDTH};
 use crate::terms::Terms;
 use std::alloc::Allocator;
 use xm_book::Book;
-use xm_rules::{Order, Phase, Widths};
+use xm_rules::{Order, OrderKind, Phase, Widths};
 use xm_ticks::Price;
 
 /// Whether the orders that a sweep may execute have at least the quantity of the incoming order. The ranges are those of the
-/// sweep. It looks at the orders in priority, until their sum suffices or one may not be executed.
+/// sweep. It looks at the levels in priority, the market orders first, until their sum suffices or one may not be executed.
 pub fn fillable<A: Allocator + Copy>(
     book: &Book<A>,
     incoming: &Order,
@@ -26,17 +26,21 @@ pub fn fillable<A: Allocator + Copy>(
     let _ = book.len(); // What every book keeps is known of one whose length is asked.
     let terms = Terms::new(book, incoming, ref1, ref2, widths);
     let side = terms.other_side();
-    let mut missing = incoming.rest;
-    let mut next = book.best(side, Phase::Continuous);
+    let market = book.market_sum(side, Phase::Continuous);
+    if 0 < market && !terms.meets_inside(&OrderKind::Market) {
+        return incoming.rest == 0; // None behind the market orders may be executed either.
+    }
+    let mut missing = u64::from(incoming.rest).saturating_sub(market);
+    let mut after = None;
     while 0 < missing {
-        match next {
+        match book.level_after(side, Phase::Continuous, after) {
             None => return false,
-            Some(order) => {
-                if !terms.meets_inside(&order.kind) {
+            Some(level) => {
+                if !terms.meets_inside(&OrderKind::Limit(level.0)) {
                     return false;
                 }
-                missing = missing.saturating_sub(order.rest);
-                next = book.next_after(side, Phase::Continuous, order);
+                missing = missing.saturating_sub(level.1);
+                after = Some(level.0);
             }
         }
     }

@@ -22,7 +22,7 @@ struct Example {
     fillable: bool,
 }
 
-const EXAMPLES: [Example; 8] = [
+const EXAMPLES: [Example; 11] = [
     // The best limit first, then the earlier.
     Example {
         side: Side::Sell,
@@ -97,6 +97,71 @@ const EXAMPLES: [Example; 8] = [
         rest: 0,
         interrupted: false,
         fillable: true,
+    },
+    // Market orders, and levels of several orders each, the last of which is outside a range.
+    Example {
+        side: Side::Sell,
+        resting: &[
+            (Some(1010), 2),
+            (None, 3),
+            (Some(1005), 4),
+            (Some(1021), 5),
+            (Some(1005), 1),
+            (None, 2),
+            (Some(1010), 2),
+            (Some(1021), 5),
+        ],
+        limit: Some(1030),
+        units: 14,
+        trades: &[
+            (1000, 3, 2),
+            (1000, 2, 6),
+            (1005, 4, 3),
+            (1005, 1, 5),
+            (1010, 2, 1),
+            (1010, 2, 7),
+        ],
+        rest: 0,
+        interrupted: false,
+        fillable: true,
+    },
+    // A unit more than they have.
+    Example {
+        side: Side::Buy,
+        resting: &[
+            (Some(990), 2),
+            (None, 3),
+            (Some(995), 4),
+            (Some(979), 5),
+            (Some(995), 1),
+            (None, 2),
+            (Some(990), 2),
+            (Some(979), 5),
+        ],
+        limit: Some(970),
+        units: 15,
+        trades: &[
+            (1000, 3, 2),
+            (1000, 2, 6),
+            (995, 4, 3),
+            (995, 1, 5),
+            (990, 2, 1),
+            (990, 2, 7),
+        ],
+        rest: 1,
+        interrupted: true,
+        fillable: false,
+    },
+    // Market orders that are met outside a range, at the best limit of their side: the order inside is behind them.
+    Example {
+        side: Side::Buy,
+        resting: &[(Some(1021), 5), (None, 10), (Some(1005), 5)],
+        limit: Some(1000),
+        units: 5,
+        trades: &[],
+        rest: 5,
+        interrupted: true,
+        fillable: false,
     },
     // No order is met.
     Example {

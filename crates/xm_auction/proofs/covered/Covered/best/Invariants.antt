@@ -1,6 +1,6 @@
 use Rattle.std.proofs.Common.{◌≡◌, ◌+◌}
 use Rattle.xm_auction.specs.Crossings.{IsCrossing}
-use Rattle.xm_auction.specs.Depths.{orders_left}
+use Rattle.xm_book.specs.Curves.{orders_left}
 use Rattle.xm_auction.proofs.covered.Covered.best.Given as goal
 
 abbrev pub invariant-loop : goal.invariant-loop

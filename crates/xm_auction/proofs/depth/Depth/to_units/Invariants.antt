@@ -1,6 +1,7 @@
 use Rattle.std.proofs.Common.{◌≡◌, ◌<◌, ℕ, Contains, false}
 use Rattle.std.specs.Prelude.{IfSome}
-use Rattle.xm_auction.specs.Depths.{depth_at, orders_left, reaches_price}
+use Rattle.xm_auction.specs.Depths.{depth_at, reaches_price}
+use Rattle.xm_book.specs.Curves.{orders_left}
 use Rattle.xm_rules.specs.Auction.{accepting, candidates}
 use Rattle.xm_auction.proofs.depth.Depth.to_units.Given as goal
 
