@@ -305,7 +305,7 @@ fn crowd_named<S: Naming + Send + Sync, R: AllocGlobal + Threads + Wait + Abort 
 
 /// Runs a crowd on a security of its own.
 fn written_beside<R: AllocGlobal + Threads + Wait + Abort + Sync>(rt: &R) -> Crowd {
-    let opened = one_security(rt, CROWD, CROWD);
+    let opened = one_security(rt, CROWD, CROWD, 1_000_000);
     crowd_named::<Brand, R>(rt, opened)
 }
 

@@ -99,7 +99,7 @@ fn quote_while_held<R: AllocGlobal + Threads + Wait + Abort + Sync>(
     rt: &R,
     gate: &Held,
 ) -> Option<u64> {
-    let opened = one_security(rt, 1, 1);
+    let opened = one_security(rt, 1, 1, 100);
     held_named::<Brand, R>(rt, gate, opened)
 }
 

@@ -5,7 +5,7 @@ use std::alloc::Global;
 use std::marker::{Brand, Model};
 use std::process::Abort;
 use std::sync::Wait;
-use xm_desk::OpenFault;
+use xm_desk::{Desk, OpenFault};
 use xm_memory::OutOfMemory;
 use xm_names::Storage;
 use xm_rules::{Command, Phase, Quote, Refusal, Reply, Widths};
@@ -95,8 +95,14 @@ fn opened(
     Opened::new(Storage::with_fixed_seed(alloc), config, workers, watchers)
 }
 
-/// A segment of one security, before a type names it. A member for each worker, and more commands than any test gives.
-pub fn one_security(rt: &(impl Abort + AllocGlobal), workers: u32, watchers: u32) -> Opened {
+/// A segment of one security, before a type names it. A member for each worker, and a journal that takes so many commands of
+/// members.
+pub fn one_security(
+    rt: &(impl Abort + AllocGlobal),
+    workers: u32,
+    watchers: u32,
+    limit: u32,
+) -> Opened {
     let size = Size {
         securities: 1,
         members: workers,
@@ -104,7 +110,7 @@ pub fn one_security(rt: &(impl Abort + AllocGlobal), workers: u32, watchers: u32
         watchers,
         widths: [20, 50, 40],
     };
-    let config = config(rt, &size, 1_000_000);
+    let config = config(rt, &size, limit);
     let opened = opened(rt.alloc(), &config, workers, watchers);
     opened.ok().expect(rt, "a segment")
 }
@@ -205,16 +211,10 @@ impl<S: Naming> Running<S> {
         assert!(rt; seen == Some(watched));
     }
 
-    /// Gathers the segment, once without a seat, when all is handed back, and then with all.
+    /// Gathers the segment.
     fn gathered<R: Abort>(self, rt: &R, alloc: Global) -> Ended {
-        let (segment, mut seats, mut rows) = self.parts();
-        let last = seats.pop().expect(rt, "a seat");
-        let given = seats.len();
-        let (segment, mut seats, fault) = missing(rt, alloc, segment, seats, &mut rows);
-        assert!(rt; fault == GatherFault::MissingSeat);
-        assert!(rt; seats.len() == given);
-        seats.push(last).ok().expect(rt, "memory");
-        gathered_whole(rt, alloc, segment, seats, &mut rows)
+        let (segment, seats, mut rows) = self.parts();
+        gathered(rt, alloc, segment, seats, &mut rows)
     }
 
     fn parts(self) -> (Segment<S>, Vec<Seat<S>>, Vec<WatchRow<S>>) {
@@ -225,6 +225,24 @@ impl<S: Naming> Running<S> {
         } = self;
         (segment, seats, rows)
     }
+}
+
+/// Gathers a segment, once without its last seat, when all is handed back in its order, and then with all.
+pub fn gathered<S: Naming, R: Abort>(
+    rt: &R,
+    alloc: Global,
+    segment: Segment<S>,
+    mut seats: Vec<Seat<S>>,
+    rows: &mut Vec<WatchRow<S>>,
+) -> Ended {
+    let last = seats.pop().expect(rt, "a seat");
+    let given = seats.len();
+    let (segment, mut seats, fault) = missing(rt, alloc, segment, seats, rows);
+    assert!(rt; fault == GatherFault::MissingSeat);
+    assert!(rt; seats.len() == given);
+    seats.push(last).ok().expect(rt, "memory");
+    are_in_order(rt, seats.as_slice());
+    gathered_whole(rt, alloc, segment, seats, rows)
 }
 
 /// What is handed back where a seat is missing.
@@ -239,6 +257,13 @@ fn missing<S: Naming, R: Abort>(
         .gather(alloc, seats, rows.as_mut_slice())
         .err()
         .expect(rt, "a seat is missing")
+}
+
+/// The seats are those of the workers from number 0 on.
+fn are_in_order<S: Naming, R: Abort>(rt: &R, seats: &[Seat<S>]) {
+    for (place, seat) in seats.iter().enumerate() {
+        assert!(rt; seat.number() as usize == place, "at {place}");
+    }
 }
 
 /// What a segment comes to whose seats are all there.
@@ -257,7 +282,7 @@ fn gathered_whole<S: Naming, R: Abort>(
 }
 
 /// A segment that was gathered. A clause sees nothing of it.
-struct Ended {
+pub struct Ended {
     gathered: Gathered,
 }
 
@@ -277,7 +302,7 @@ impl Model for Ended {
 
 impl Ended {
     /// Compares what is left of each security, and the sums over all.
-    fn leaves<R: Abort>(&self, rt: &R, expected: &[Left]) {
+    pub fn leaves<R: Abort>(&self, rt: &R, expected: &[Left]) {
         assert!(rt; self.gathered.desks.len() == expected.len());
         let mut quantity: u128 = 0;
         let mut money: u128 = 0;
@@ -290,8 +315,13 @@ impl Ended {
         assert!(rt; self.gathered.money == money);
     }
 
+    /// The desk of the security with this index.
+    pub fn desk<'d, R: Abort>(&'d self, rt: &R, index: usize) -> &'d Desk<Global> {
+        self.gathered.desks.get(index).expect(rt, "a desk")
+    }
+
     fn left<R: Abort>(&self, rt: &R, index: usize) -> Left {
-        let desk = self.gathered.desks.get(index).expect(rt, "a desk");
+        let desk = self.desk(rt, index);
         let totals = self.gathered.totals.get(index).expect(rt, "totals");
         let orders = desk.orders().ok().expect(rt, "memory").len();
         let stops = desk.stops().ok().expect(rt, "memory").len();
