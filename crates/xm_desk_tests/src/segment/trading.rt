@@ -251,6 +251,29 @@ const REFUSALS: [Given; 19] = [
     accepted!(0, Command::Uncross, 5, 0, 0, 0, Phase::Continuous),
 ];
 
+/// One that rests before the opening.
+macro_rules! early {
+    ($command:expr, $version:expr) => {
+        accepted!(0, $command, $version, 0, 0, 0, Phase::PreTrading)
+    };
+}
+
+/// A journal that takes eight commands of members is full before the opening, and phase commands are accepted.
+const FULL: [Given; 12] = [
+    early!(buy!(0, 1, 990, 1), 1),
+    early!(buy!(0, 2, 990, 1), 2),
+    early!(buy!(0, 3, 990, 1), 3),
+    early!(buy!(0, 4, 990, 1), 4),
+    early!(buy!(0, 5, 990, 1), 5),
+    early!(buy!(0, 6, 990, 1), 6),
+    early!(buy!(0, 7, 990, 1), 7),
+    early!(buy!(0, 8, 990, 1), 8),
+    refused!(0, buy!(0, 9, 990, 1), JournalFull),
+    refused!(0, buy!(0, 9, 990, 0), BadQuantity),
+    accepted!(0, Command::StartOpening, 9, 0, 0, 0, OPENING),
+    rested!(0, Command::Uncross, 10),
+];
+
 const DAY_ENDED: [Given; 6] = [
     accepted!(0, Command::StartOpening, 1, 0, 0, 0, OPENING),
     rested!(0, Command::Uncross, 2),
@@ -277,6 +300,13 @@ fn refusals_through_locks(rt: HostRuntime) {
         left: &[(0, 0, 1000, 1000, 2, 1)],
     };
     run(&rt, &case, &REFUSALS);
+    let full = Case {
+        limit: 8,
+        shown: (10, Phase::Continuous, Some(990), None, 1000, 1000, 0),
+        left: &[(0, 0, 1000, 1000, 8, 0)],
+        ..case
+    };
+    run(&rt, &full, &FULL);
     let ended = Case {
         shown: (5, Phase::Ended, None, None, 1000, 1000, 0),
         left: &[FRESH],
