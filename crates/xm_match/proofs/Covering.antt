@@ -1,6 +1,6 @@
 -- Whether the orders that a sweep may execute have the incoming quantity: the market orders and then the levels are passed, until
 -- they have, or until there is none left, or the next one may not be executed.
-use Rattle.std.proofs.Common.{◌≡◌, ℕ, ◌+◌, ◌-◌, ◌<◌, ◌≤◌, Bool, true, false, ◌&&◌, ◌||◌, not, ◌==◌, if◌then◌else◌, List, [], ◌∷◌, filter, sum_by, Contains, Option, Some, None, refl, sym, ap, subst, ◌∙◌, arith}
+use Rattle.std.proofs.Common.{◌≡◌, ℕ, ◌-◌, ◌<◌, ◌≤◌, Bool, true, false, ◌&&◌, ◌||◌, not, ◌==◌, if◌then◌else◌, List, [], ◌∷◌, filter, sum_by, Contains, Option, Some, None, refl, sym, ap, subst, ◌∙◌, arith}
 use Rattle.std.specs.Prelude.{nat_le, nat_lt}
 use Rattle.std.proofs.lemmas.Bool.{both_ways, not_from_false}
 use Rattle.std.proofs.lemmas.Bool.Decides.{nat_tests}
@@ -8,15 +8,15 @@ use Rattle.std.proofs.lemmas.List.Elements.{All-contains_itself}
 use Rattle.xm_book.specs.Curves.{later, orders_left, units_to}
 use Rattle.xm_book.specs.Queues.{level_after, market_sum, units_at}
 use Rattle.xm_book.proofs.Bests.{reaches-on, reaches-once, reaches-other}
-use Rattle.xm_book.proofs.Curves.{IsNext, Nexts, counted, counted_in, fewer-left, next-adds, nexts, units_to-is}
+use Rattle.xm_book.proofs.Curves.{IsNext, Nexts, counted, fewer-left, next-adds, nexts, units_to-is}
 use Rattle.xm_book.proofs.Limited.{limit_is}
 use Rattle.xm_slots.proofs.Members.{Contains-filter_map, Contains-here, IsGiven-filter_map, Passes-filter}
 use Rattle.xm_match.specs.Meeting.{meets_inside, terms_of}
 use Rattle.xm_match.proofs.Cuts.{IsSound, executable_from, not_behind, not_inside, some_units}
 use Rattle.xm_match.proofs.Progress.{inside_same}
-use Rattle.xm_rules.specs.Active.{Positioned, active, limits}
+use Rattle.xm_rules.specs.Active.{Positioned, limits}
 use Rattle.xm_rules.specs.Orders.{limit_of, same_kind}
-use Rattle.xm_rules.specs.Priority.{is_ahead, is_prior}
+use Rattle.xm_rules.specs.Priority.{is_prior}
 use Rattle.xm_rules.specs.Sides.{reaches}
 use Rattle.xm_rules.specs.Sweep.{Sweep, is_executable, is_fillable, is_met_inside, other_side, queue}
 use Rattle.xm_rules.specs.declared.orders.OrderKind.{OrderKind}

@@ -184,7 +184,7 @@ module _ (w : Sweep) (number left : ℕ) (now : List Order) (old made : List Tra
   turn o met trade same = turn_if trade (ap (λ (t : Trade). Some t) same ∙ sym ((inside (terms_of w) left now o met).trade number)) (some_or_none left)
 
 -- ---- at the begin
-pub none_done : (w : Sweep) → IsDone w 0
+none_done : (w : Sweep) → IsDone w 0
 none_done w = record { executed = λ i at l. absurd (omega arith); whole = (let f = filled_within (upto 0 w) in omega arith) }
 
 pub at_begin : (w : Sweep) (number : ℕ) (old : List Trade) (room : ℕ) → IsSound w → length w.orders ≤ room

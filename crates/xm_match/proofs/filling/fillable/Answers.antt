@@ -46,8 +46,8 @@ loop-missing-init g c =
     (let whole = c.from.ensures in let less = c.saturating_sub-missing.ensures in omega arith) in
     at_market w sound c.market_sum-market.result c.saturating_sub-missing.result market left (λ some.
     elim c.else-market-gt0.branch [
-    else-market-gt0-via-then-market-gt0+else-not-meets_inside v ↦ inside_is w t Market v.meets_inside.result true c.new-terms.ensures v.meets_inside.ensures v.if-not-meets_inside.false
-    | else-market-gt0-via-else-market-gt0 v ↦ absurd (let none = v.if-market-gt0.false in omega arith)
+      | else-market-gt0-via-then-market-gt0+else-not-meets_inside v ↦ inside_is w t Market v.meets_inside.result true c.new-terms.ensures v.meets_inside.ensures v.if-not-meets_inside.false
+      | else-market-gt0-via-else-market-gt0 v ↦ absurd (let none = v.if-market-gt0.false in omega arith)
     ])
 
 pub returns-in-None : goal.returns-in-None
