@@ -1,5 +1,6 @@
 mod damaged_fields;
 pub(crate) mod fixtures;
+mod hurtful;
 mod order_files;
 mod rounds_read;
 mod segment_files;

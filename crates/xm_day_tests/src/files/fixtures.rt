@@ -146,21 +146,22 @@ impl Read for OneByteReader<'_> {
     }
 }
 
-/// Gives this many bytes 255.
+/// Gives one byte, so many times.
 pub(crate) struct Filler {
+    pub(crate) byte: u8,
     pub(crate) left: usize,
 }
 
 impl Drop for Filler {
     fn drop(self) {
-        let Filler { left: _ } = self;
+        let Filler { byte: _, left: _ } = self;
     }
 }
 
 impl Read for Filler {
     fn read(&mut self, buf: &mut [u8]) -> io::Result<usize> {
         let count = buf.len().min(self.left);
-        buf[..count].fill(255);
+        buf[..count].fill(self.byte);
         self.left -= count;
         Ok(count)
     }

@@ -1,18 +1,22 @@
 use super::fault;
 use super::fixtures::{
-    CASCADE, Filler, HEADER, NO_SECURITY, ORDERS, OneByteReader, SECOND, SEGMENT, replaced,
+    CASCADE, HEADER, NO_SECURITY, ORDERS, OneByteReader, SECOND, SEGMENT, replaced,
 };
 use std::alloc::Global;
 use std::io::{ErrorKind, Read};
 use std::process::Abort;
 use std::test::Fail;
-use xm_files::{FileCause, FileFault, MAX_BYTES, MAX_ROWS, read_rows, read_segment};
+use xm_files::{FileCause, FileFault, MAX_ROWS, read_rows, read_segment};
 use xm_rules::{Command, Condition, Kind, Restriction, Side, Validity};
 use xm_segment::Row;
 
 /// The rows of an order file for the members and the securities of a segment file, or the fault of either. A clause sees nothing
 /// of it.
-fn read(alloc: Global, segment: &str, orders: &mut impl Read) -> Result<Vec<Row>, FileFault> {
+pub(super) fn read(
+    alloc: Global,
+    segment: &str,
+    orders: &mut impl Read,
+) -> Result<Vec<Row>, FileFault> {
     let mut reader = segment.as_bytes();
     let (config, names) = read_segment(alloc, &mut reader)?;
     read_rows(alloc, orders, &names, &config)
@@ -28,7 +32,12 @@ pub(super) fn rows_of(
 }
 
 /// Compares the fault of an order file.
-fn has_fault(rt: &(impl Abort + AllocGlobal), orders: &mut impl Read, line: u32, cause: FileCause) {
+pub(super) fn has_fault(
+    rt: &(impl Abort + AllocGlobal),
+    orders: &mut impl Read,
+    line: u32,
+    cause: FileCause,
+) {
     let answer = read(rt.alloc(), SEGMENT, orders).err();
     assert!(rt; answer == fault(line, cause), "in place of {cause:?}");
 }
@@ -281,14 +290,4 @@ fn failing_readers(rt: HostRuntime) {
             fails_at(&rt, call, kind);
         }
     }
-}
-
-#[test]
-fn order_files_at_the_limit(rt: HostRuntime) {
-    let mut longest = Filler { left: MAX_BYTES };
-    has_fault(&rt, &mut longest, 1, FileCause::BadHeader);
-    let mut longer = Filler {
-        left: MAX_BYTES + 1,
-    };
-    has_fault(&rt, &mut longer, 0, FileCause::TooLong);
 }

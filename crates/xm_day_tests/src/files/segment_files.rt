@@ -1,9 +1,9 @@
 use super::fault;
-use super::fixtures::{Filler, NO_SECURITY, OneByteReader, SECOND, SEGMENT, replaced};
+use super::fixtures::{NO_SECURITY, OneByteReader, SECOND, SEGMENT, replaced};
 use std::alloc::Global;
 use std::io::{ErrorKind, Read};
 use std::process::Abort;
-use xm_files::{FileCause, FileFault, MAX_BYTES, SegmentNames, read_segment};
+use xm_files::{FileCause, FileFault, SegmentNames, read_segment};
 use xm_segment::{Securities, SecurityConfig, SegmentConfig};
 
 /// Reads a segment file. A clause sees nothing of it.
@@ -15,7 +15,7 @@ fn read(
 }
 
 /// Compares the fault of a segment file.
-fn has_fault(
+pub(super) fn has_fault(
     rt: &(impl Abort + AllocGlobal),
     segment: &mut impl Read,
     line: u32,
@@ -26,7 +26,12 @@ fn has_fault(
 }
 
 /// Compares the fault of the segment file of a text.
-fn text_has_fault(rt: &(impl Abort + AllocGlobal), text: &str, line: u32, cause: FileCause) {
+pub(super) fn text_has_fault(
+    rt: &(impl Abort + AllocGlobal),
+    text: &str,
+    line: u32,
+    cause: FileCause,
+) {
     has_fault(rt, &mut text.as_bytes(), line, cause);
 }
 
@@ -193,14 +198,4 @@ fn failing_readers(rt: HostRuntime) {
             fails_at(&rt, call, kind);
         }
     }
-}
-
-#[test]
-fn segment_files_at_the_limit(rt: HostRuntime) {
-    let mut longest = Filler { left: MAX_BYTES };
-    has_fault(&rt, &mut longest, 0, FileCause::Syntax);
-    let mut longer = Filler {
-        left: MAX_BYTES + 1,
-    };
-    has_fault(&rt, &mut longer, 0, FileCause::TooLong);
 }
