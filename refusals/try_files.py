@@ -17,7 +17,8 @@ FLOOR = 0.2
 # Times the processor time of the ordinary file that a run may take, and after which it is ended.
 MOST_TIMES = 2
 END_TIMES = 40
-SEGMENTS = 8
+# How many ordinary segment files have the size of one that is made to hurt.
+EIGHTHS = 8
 
 
 class Trial:
@@ -66,10 +67,10 @@ def order_files():
 def segment_files():
     """Segment files of many keys, members and securities, and those that are hardly any."""
     securities, members, keys = "25,000 securities", "200,000 members", "190,000 keys"
-    yield Trial("segment: 200,000 securities", lambda: files.many_securities(200_000), securities, SEGMENTS)
-    yield Trial("segment: the last of them again", lambda: files.many_securities(200_000, True), securities, SEGMENTS)
-    yield Trial("segment: 1,600,000 members", lambda: files.many_members(1_600_000), members, SEGMENTS)
-    yield Trial("segment: 1,520,000 keys", lambda: files.many_keys(1_520_000), keys, SEGMENTS)
+    yield Trial("segment: 200,000 securities", lambda: files.many_securities(200_000), securities, EIGHTHS)
+    yield Trial("segment: the last of them again", lambda: files.many_securities(200_000, True), securities, EIGHTHS)
+    yield Trial("segment: 1,600,000 members", lambda: files.many_members(1_600_000), members, EIGHTHS)
+    yield Trial("segment: 1,520,000 keys", lambda: files.many_keys(1_520_000), keys, EIGHTHS)
     for name, byte in {"letters": "A", "quotes": '"', "brackets": "["}.items():
         said = files.fault(0, "Syntax", "segment")
         text = byte * files.MOST_BYTES
@@ -122,16 +123,22 @@ def last_line(path):
 def run_once(words, room, most):
     """Runs the program, for at most so many seconds of processor time."""
     out, err = f"{room}/out", f"{room}/err"
-    limit = lambda: resource.setrlimit(resource.RLIMIT_CPU, (most, most))
+
+    def limit():
+        resource.setrlimit(resource.RLIMIT_CPU, (most, most))
+
     with open(out, "wb") as output, open(err, "wb") as error:
         child = subprocess.Popen(words, stdin=subprocess.DEVNULL, stdout=output, stderr=error, preexec_fn=limit)
         _, status, used = os.wait4(child.pid, 0)
     child.returncode = os.waitstatus_to_exitcode(status)
-    if child.returncode < 0:
-        line = f"ended by signal {-child.returncode}"
-    else:
+    seconds = used.ru_utime + used.ru_stime
+    if child.returncode >= 0:
         line = last_line(out if child.returncode == 0 else err)
-    return Run(used.ru_utime + used.ru_stime, used.ru_maxrss / 1024, line)
+    elif seconds > most - 1:
+        line = f"no end after {most} seconds"
+    else:
+        line = f"an end by signal {-child.returncode}"
+    return Run(seconds, used.ru_maxrss / 1024, line)
 
 
 def run_least(program, room, day, most):
