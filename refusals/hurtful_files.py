@@ -119,19 +119,11 @@ def ten_rows(turn):
     )
 
 
-def filled(segment_text, rows, turn_of, promise_of, words=()):
-    """A day whose file is filled turn by turn."""
-    turns = 0
-    while rows.add(turn_of(turns)):
-        turns += 1
-    return Day(segment_text, rows.text(), promise_of(turns), words)
-
-
-def filled(segment_text, rows, turn_of, promise_of, words=(), end=""):
-    """A day whose order file is filled turn by turn, and then has an end, for which there is room."""
+def filled(segment_text, rows, turn_of, promise_of, words=(), end="", most=MOST_BYTES):
+    """A day whose order file is filled turn by turn, with at most so many, and then has an end, for which there is room."""
     turns = 0
     rows.left -= len(end)
-    while rows.add(turn_of(turns)):
+    while turns < most and rows.add(turn_of(turns)):
         turns += 1
     return Day(segment_text, rows.text() + end, promise_of(turns), words)
 
@@ -211,15 +203,15 @@ def stops(trigger_of, last):
     return filled(segment(dynamic=997), Rows(TRADING), turn, lambda turns: counts(turns + 4), end=end)
 
 
-def rounds(members):
-    """Rounds of a row of each of so many members and a row of a phase, which is refused, taken by eight workers."""
+def rounds(members, most):
+    """So many rounds of a row of each of so many members and a row of a phase, which is refused, taken by eight workers."""
     names = members_of(8)
 
     def turn(number):
         rows = [enter(number, "buy", 100_000 - number % 1000, 1, name) for name in names[:members]]
         return "".join(rows) + phase("open", "ABC")
 
-    return filled(segment(1, names), Rows(TRADING), turn, lambda turns: counts(2 + turns * members, turns), ["--workers", "8"])
+    return filled(segment(1, names), Rows(TRADING), turn, lambda turns: counts(2 + turns * members, turns), ["--workers", "8"], most=most)
 
 
 def calls_without_price(levels):
@@ -231,18 +223,18 @@ def calls_without_price(levels):
     return filled(segment(), Rows("".join(rows)), lambda _number: turn, lambda turns: counts(2 + levels + 2 * turns))
 
 
-def calls_without_trade(levels):
-    """Calls in which so many levels cross, each interrupted, and at its end without the order that they crossed with."""
+def calls_without_trade(levels, most):
+    """So many calls in which so many levels cross, each interrupted, and at its end without the order that they crossed with."""
     begin = TRADING + "".join(enter(level, "buy", 1 + level) for level in range(levels))
     turn = phase("intraday") + enter(1, "sell", 1, levels, "BBB") + phase("uncross") + cancel(1, "BBB") + phase("uncross")
-    return filled(segment(), Rows(begin), lambda _number: turn, lambda turns: counts(2 + levels + 5 * turns))
+    return filled(segment(), Rows(begin), lambda _number: turn, lambda turns: counts(2 + levels + 5 * turns), most=most)
 
 
-def fill_or_kill(orders, limits):
-    """So many sells of a unit at so many limits, and fill-or-kill buys of more than all of them."""
+def fill_or_kill(orders, limits, most=MOST_BYTES):
+    """So many sells of a unit at so many limits, and at most so many fill-or-kill buys of more than all of them."""
     begin = TRADING + "".join(enter(order, "sell", 100_000 + order % limits) for order in range(orders))
     turn = enter(1, "buy", 145_000, 1_000_000, "BBB", condition="fok")
-    return filled(segment(), Rows(begin), lambda _number: turn, lambda turns: counts(2 + orders + turns))
+    return filled(segment(), Rows(begin), lambda _number: turn, lambda turns: counts(2 + orders + turns), most=most)
 
 
 def changes(orders):

@@ -1,5 +1,5 @@
-"""Runs the built program on files that are made to hurt, and on ordinary ones of their sizes. Each must say what is promised, in at
-most twice the processor time of the ordinary one, of three runs the least.
+"""Runs the built program on files that are made to hurt, and on ordinary ones. Each must say what is promised, in at most twice the
+processor time that the ordinary one takes for as many bytes, of three runs the least, or in so many times as stand beside it.
 
 Usage: try_files.py PROGRAM ROOM [WORD..]
 
@@ -14,21 +14,19 @@ import hurtful_files as files
 
 # Seconds of processor time that are never too many, so that what else the machine does decides nothing.
 FLOOR = 0.2
-# Times the processor time of the ordinary file that a run may take, and after which it is ended.
+# Times the processor time of the ordinary file that a run may take, and times that after which it is ended.
 MOST_TIMES = 2
-END_TIMES = 40
-# How many ordinary segment files have the size of one that is made to hurt.
-EIGHTHS = 8
+END_TIMES = 10
 
 
 class Trial:
-    """A file made to hurt: what makes it, the title of the ordinary one, and how many of these have its size."""
+    """A file made to hurt: what makes it, the title of the ordinary one, and how many times the time of this it may take."""
 
-    def __init__(self, title, make, ordinary="a day", size=1):
+    def __init__(self, title, make, ordinary="a day", most=MOST_TIMES):
         self.title = title
         self.make = make
         self.ordinary = ordinary
-        self.size = size
+        self.most = most
 
 
 class Run:
@@ -43,7 +41,6 @@ class Run:
 ORDINARY = {
     "a day": files.ordinary,
     "a shared day": lambda: files.ordinary(words=["--workers", "8"]),
-    "a short day": lambda: files.ordinary(2_125_098),
     "25,000 securities": lambda: files.many_securities(25_000),
     "200,000 members": lambda: files.many_members(200_000),
     "190,000 keys": lambda: files.many_keys(190_000),
@@ -59,7 +56,7 @@ def order_files():
         yield Trial(f"{name} behind the header", lambda byte=byte, said=behind: files.one_byte(byte, said, files.HEADER))
     yield Trial("a quote that is never closed", lambda: files.one_byte("A", files.fault(2, "Syntax"), files.HEADER + '"'))
     yield Trial("an ordinary day, each record with a quote", files.quoted)
-    yield Trial("125,000 records of eight securities", lambda: files.openings(125_000), "a short day")
+    yield Trial("125,000 records of eight securities", lambda: files.openings(125_000))
     yield Trial("more records of eight securities", lambda: files.openings(986_000))
     yield Trial("the most rows", files.shortest_rows)
 
@@ -67,10 +64,10 @@ def order_files():
 def segment_files():
     """Segment files of many keys, members and securities, and those that are hardly any."""
     securities, members, keys = "25,000 securities", "200,000 members", "190,000 keys"
-    yield Trial("segment: 200,000 securities", lambda: files.many_securities(200_000), securities, EIGHTHS)
-    yield Trial("segment: the last of them again", lambda: files.many_securities(200_000, True), securities, EIGHTHS)
-    yield Trial("segment: 1,600,000 members", lambda: files.many_members(1_600_000), members, EIGHTHS)
-    yield Trial("segment: 1,520,000 keys", lambda: files.many_keys(1_520_000), keys, EIGHTHS)
+    yield Trial("segment: 200,000 securities", lambda: files.many_securities(200_000), securities)
+    yield Trial("segment: the last of them again", lambda: files.many_securities(200_000, True), securities)
+    yield Trial("segment: 1,600,000 members", lambda: files.many_members(1_600_000), members)
+    yield Trial("segment: 1,520,000 keys", lambda: files.many_keys(1_520_000), keys)
     for name, byte in {"letters": "A", "quotes": '"', "brackets": "["}.items():
         said = files.fault(0, "Syntax", "segment")
         text = byte * files.MOST_BYTES
@@ -99,17 +96,22 @@ def days():
     yield Trial("orders cancelled, one at once", lambda: files.cancelled_in_portions(1))
     yield Trial("stops at one trigger", lambda: files.stops(lambda _number: 100_010, 100_010))
     yield Trial("stops at 99,000 triggers", lambda: files.stops(lambda number: 100_001 + number * 7919 % 99_000, 199_500))
-    for members in (1, 2, 8):
-        yield Trial(f"rounds of {members} and a phase row", lambda members=members: files.rounds(members), "a shared day")
     yield Trial("calls of 100,000 levels without a price", lambda: files.calls_without_price(100_000))
-    yield Trial("calls of 100,000 levels, interrupted", lambda: files.calls_without_trade(100_000))
     yield Trial("fill-or-kill over one limit", lambda: files.fill_or_kill(150_000, 1))
-    yield Trial("fill-or-kill over 40,000 limits", lambda: files.fill_or_kill(150_000, 40_000))
     yield Trial("changes of the first in a long queue", lambda: files.changes(100_000))
     yield Trial("levels far from each other", files.far_levels)
     yield Trial("unknown orders", lambda: files.unknown_orders(100_000))
     yield Trial("orders that end with the day", files.day_ended)
     yield Trial("an interruption at each order", files.interruptions)
+
+
+def dear_days():
+    """Days of a thousand rows and more that each ask for many levels, or for threads, in plain Rust as well."""
+    for members, rounds in ((1, 200_000), (2, 20_000), (8, 5000)):
+        title = f"{rounds:,} rounds of {members} and a phase row"
+        yield Trial(title, lambda members=members, rounds=rounds: files.rounds(members, rounds), "a shared day", 100)
+    yield Trial("1,000 calls that 100,000 levels cross", lambda: files.calls_without_trade(100_000, 1000), most=1000)
+    yield Trial("1,000 fill-or-kill over 40,000 limits", lambda: files.fill_or_kill(150_000, 40_000, 1000), most=1000)
 
 
 def last_line(path):
@@ -162,49 +164,50 @@ def run_least(program, room, day, most):
 def show(title, size, run, ordinary, wrong):
     """Prints a row of the table."""
     ratio = f"{run.seconds / ordinary:6.2f}" if ordinary else " " * 6
-    print(f"{title:44} {size:>10} {run.seconds:7.2f} {ratio} {run.megabytes:5.0f}  {wrong}".rstrip(), flush=True)
+    print(f"{title:50} {size:>10,} {run.seconds:7.2f} {ratio} {run.megabytes:5.0f}  {wrong}".rstrip(), flush=True)
 
 
 def size_of(day):
     """The bytes of the file that matters."""
-    return f"{len(day.segment if day.orders is None else day.orders):,}"
+    return len(day.segment if day.orders is None else day.orders)
 
 
-def ordinary_runs(program, room, titles):
-    """The ordinary files with these titles, each with what it took."""
-    runs = {}
+def ordinary_times(program, room, titles):
+    """The processor time that the ordinary files with these titles take for a byte."""
+    times = {}
     for title in titles:
         day = ORDINARY[title]()
         run = run_least(program, room, day, 120)
         if run.line != day.promise:
             sys.exit(f"try_files.py: {title}: {run.line} in place of {day.promise}")
         show(title, size_of(day), run, None, "")
-        runs[title] = run
-    return runs
+        times[title] = run.seconds / size_of(day)
+    return times
 
 
-def attempt(program, room, trial, ordinary):
-    """Tries a file; answers whether it ended with status 0, and whether it is wrong."""
+def attempt(program, room, trial, time):
+    """Tries a file, for a byte of which an ordinary one takes this time; answers whether it ended with status 0, and whether it is
+    wrong."""
     day = trial.make()
-    yardstick = ordinary.seconds * trial.size
-    most = 5 + round(END_TIMES * yardstick)
-    run = run_least(program, room, day, most)
+    ordinary = time * size_of(day)
+    most = max(FLOOR, trial.most * ordinary)
+    run = run_least(program, room, day, 5 + round(END_TIMES * most))
     wrong = ""
-    if run.seconds > max(FLOOR, MOST_TIMES * yardstick):
-        wrong = f"wrong: more than {MOST_TIMES} times {trial.ordinary}"
+    if run.seconds > most:
+        wrong = f"wrong: more than {trial.most} times {trial.ordinary}"
     if run.line != day.promise:
         wrong = f"wrong: {run.line} in place of {day.promise}"
-    show(trial.title, size_of(day), run, yardstick, wrong)
+    show(trial.title, size_of(day), run, ordinary, wrong)
     return run.line.startswith(("ROWS", "OK")), bool(wrong)
 
 
 def main(program, room, words):
     """Tries each file whose title has one of the words, or each one."""
-    trials = [*order_files(), *segment_files(), *name_files(f"{room}/collide"), *days()]
+    trials = [*order_files(), *segment_files(), *name_files(f"{room}/collide"), *days(), *dear_days()]
     trials = [trial for trial in trials if not words or any(word in trial.title for word in words)]
-    print(f"{'File':44} {'bytes':>10} {'seconds':>7} {'times':>6} {'MB':>5}")
-    runs = ordinary_runs(program, room, [title for title in ORDINARY if any(trial.ordinary == title for trial in trials)])
-    ends = [attempt(program, room, trial, runs[trial.ordinary]) for trial in trials]
+    print(f"{'File':50} {'bytes':>10} {'seconds':>7} {'times':>6} {'MB':>5}")
+    times = ordinary_times(program, room, [title for title in ORDINARY if any(trial.ordinary == title for trial in trials)])
+    ends = [attempt(program, room, trial, times[trial.ordinary]) for trial in trials]
     wrong = sum(is_wrong for _, is_wrong in ends)
     whole = sum(is_whole and not is_wrong for is_whole, is_wrong in ends)
     with open(f"{room}/table", "a", encoding="ascii") as table:
