@@ -36,11 +36,12 @@ pub fn fillable<A: Allocator + Copy>(
         match book.level_after(side, Phase::Continuous, after) {
             None => return false,
             Some(level) => {
-                if !terms.meets_inside(&OrderKind::Limit(level.0)) {
+                let (limit, units) = level;
+                if !terms.meets_inside(&OrderKind::Limit(limit)) {
                     return false;
                 }
-                missing = missing.saturating_sub(level.1);
-                after = Some(level.0);
+                missing = missing.saturating_sub(units);
+                after = Some(limit);
             }
         }
     }
