@@ -3,6 +3,7 @@
 use super::fixtures::{Filler, HEADER, SECOND, replaced};
 use super::{order_files, segment_files};
 use std::alloc::Global;
+use std::io::{Read, Write};
 use std::process::Abort;
 use xm_day::{DayFault, run_alone};
 use xm_files::FileCause::{self, BadHeader, DuplicateName, MissingKey, Syntax, TooLong};
@@ -225,19 +226,23 @@ fn text_of(rt: &(impl Abort + AllocGlobal), day: &Repeated) -> String {
     text
 }
 
-/// The counts of a day of `ONE`. A clause sees nothing of it.
-fn run(alloc: Global, orders: &str, out: &mut Vec<u8>) -> Result<(u64, u64), DayFault> {
-    let (mut segment, mut orders) = (ONE.as_bytes(), orders.as_bytes());
-    let storage = Storage::with_fixed_seed(alloc);
-    let report = run_alone(storage, &mut segment, &mut orders, out)?;
+/// The counts of a day. A clause sees nothing of it.
+fn run(
+    alloc: Global,
+    segment: &mut impl Read,
+    orders: &mut impl Read,
+    out: &mut impl Write,
+) -> Result<(u64, u64), DayFault> {
+    let report = run_alone(Storage::with_fixed_seed(alloc), segment, orders, out)?;
     Ok((report.accepted, report.refused))
 }
 
 /// Compares the counts of such a day.
 fn has_counts(rt: &(impl Abort + AllocGlobal), day: &Repeated) {
     let text = text_of(rt, day);
+    let (mut segment, mut orders) = (ONE.as_bytes(), text.as_bytes());
     let mut out = Vec::new(rt.alloc());
-    let answer = run(rt.alloc(), text.as_str(), &mut out);
+    let answer = run(rt.alloc(), &mut segment, &mut orders, &mut out);
     assert!(rt; answer == Ok(day.counts), "{}", day.name);
 }
 
