@@ -32,9 +32,8 @@ class Trial:
 class Run:
     """What a run took, and the last line that it wrote."""
 
-    def __init__(self, seconds, megabytes, line):
+    def __init__(self, seconds, line):
         self.seconds = seconds
-        self.megabytes = megabytes
         self.line = line
 
 
@@ -140,7 +139,7 @@ def run_once(words, room, most):
         line = f"no end after {most} seconds"
     else:
         line = f"an end by signal {-child.returncode}"
-    return Run(seconds, used.ru_maxrss / 1024, line)
+    return Run(seconds, line)
 
 
 def run_least(program, room, day, most):
