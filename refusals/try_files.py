@@ -14,7 +14,8 @@ import hurtful_files as files
 
 # Seconds of processor time that are never too many, so that what else the machine does decides nothing.
 FLOOR = 0.2
-# Times the processor time of the ordinary file that a run may take, and times that after which it is ended.
+# Times the processor time of the ordinary file that a run may take, where no other bound stands beside it, and times the bound
+# after which it is ended.
 MOST_TIMES = 2
 END_TIMES = 10
 
@@ -51,8 +52,9 @@ def order_files():
     bytes_of = {"letters": "A", "quotes": '"', "commas": ",", "line feeds": "\n", "carriage returns": "\r", "zeros": "\0"}
     for name, byte in bytes_of.items():
         behind = files.counts(0) if byte in "\r\n" else files.fault(2, "Syntax")
-        yield Trial(f"{name} alone", lambda byte=byte: files.one_byte(byte, files.fault(1, "BadHeader")))
-        yield Trial(f"{name} behind the header", lambda byte=byte, said=behind: files.one_byte(byte, said, files.HEADER))
+        most = 3 if byte == "," else MOST_TIMES
+        yield Trial(f"{name} alone", lambda byte=byte: files.one_byte(byte, files.fault(1, "BadHeader")), most=most)
+        yield Trial(f"{name} behind the header", lambda byte=byte, said=behind: files.one_byte(byte, said, files.HEADER), most=most)
     yield Trial("a quote that is never closed", lambda: files.one_byte("A", files.fault(2, "Syntax"), files.HEADER + '"'))
     yield Trial("an ordinary day, each record with a quote", files.quoted)
     yield Trial("125,000 records of eight securities", lambda: files.openings(125_000))
@@ -89,12 +91,13 @@ def name_files(collide):
 
 def days():
     """Days of rows that are to be dear."""
-    yield Trial("all orders cancelled at once", lambda: files.cancelled_at_once(files.enter))
-    yield Trial("all stops cancelled at once", lambda: files.cancelled_at_once(files.hold))
+    yield Trial("all orders cancelled at once", lambda: files.cancelled_at_once(files.enter), most=3)
+    yield Trial("all stops cancelled at once", lambda: files.cancelled_at_once(files.hold), most=3)
     yield Trial("orders cancelled, 4,000 at once", lambda: files.cancelled_in_portions(4000))
     yield Trial("orders cancelled, one at once", lambda: files.cancelled_in_portions(1))
-    yield Trial("stops at one trigger", lambda: files.stops(lambda _number: 100_010, 100_010))
-    yield Trial("stops at 99,000 triggers", lambda: files.stops(lambda number: 100_001 + number * 7919 % 99_000, 199_500))
+    yield Trial("stops at one trigger", lambda: files.stops(lambda _number: 100_010, 100_010), most=3)
+    many = lambda number: 100_001 + number * 7919 % 99_000
+    yield Trial("stops at 99,000 triggers", lambda: files.stops(many, 199_500), most=4)
     yield Trial("calls of 100,000 levels without a price", lambda: files.calls_without_price(100_000))
     yield Trial("fill-or-kill over one limit", lambda: files.fill_or_kill(150_000, 1))
     yield Trial("changes of the first in a long queue", lambda: files.changes(100_000))
@@ -105,12 +108,12 @@ def days():
 
 
 def dear_days():
-    """Days of a thousand rows and more that each ask for many levels, or for threads, in plain Rust as well."""
-    for members, rounds in ((1, 200_000), (2, 20_000), (8, 5000)):
+    """Days whose rows each ask for many levels, or for threads, in plain Rust as well."""
+    for members, rounds, most in ((1, 200_000, 8), (2, 20_000, 60), (8, 5000, 120)):
         title = f"{rounds:,} rounds of {members} and a phase row"
-        yield Trial(title, lambda members=members, rounds=rounds: files.rounds(members, rounds), "a shared day", 100)
-    yield Trial("1,000 calls that 100,000 levels cross", lambda: files.calls_without_trade(100_000, 1000), most=1000)
-    yield Trial("1,000 fill-or-kill over 40,000 limits", lambda: files.fill_or_kill(150_000, 40_000, 1000), most=1000)
+        yield Trial(title, lambda members=members, rounds=rounds: files.rounds(members, rounds), "a shared day", most)
+    yield Trial("1,000 calls that 100,000 levels cross", lambda: files.calls_without_trade(100_000, 1000), most=500)
+    yield Trial("1,000 fill-or-kill over 40,000 limits", lambda: files.fill_or_kill(150_000, 40_000, 1000), most=30)
 
 
 def last_line(path):
