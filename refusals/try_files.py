@@ -166,7 +166,7 @@ def run_least(program, room, day, most):
 def show(title, size, run, ordinary, wrong):
     """Prints a row of the table."""
     ratio = f"{run.seconds / ordinary:6.2f}" if ordinary else " " * 6
-    print(f"{title:50} {size:>10,} {run.seconds:7.2f} {ratio} {run.megabytes:5.0f}  {wrong}".rstrip(), flush=True)
+    print(f"{title:50} {size:>10,} {run.seconds:7.2f} {ratio}  {wrong}".rstrip(), flush=True)
 
 
 def size_of(day):
@@ -207,7 +207,7 @@ def main(program, room, words):
     """Tries each file whose title has one of the words, or each one."""
     trials = [*order_files(), *segment_files(), *name_files(f"{room}/collide"), *days(), *dear_days()]
     trials = [trial for trial in trials if not words or any(word in trial.title for word in words)]
-    print(f"{'File':50} {'bytes':>10} {'seconds':>7} {'times':>6} {'MB':>5}")
+    print(f"{'File':50} {'bytes':>10} {'seconds':>7} {'times':>6}")
     times = ordinary_times(program, room, [title for title in ORDINARY if any(trial.ordinary == title for trial in trials)])
     ends = [attempt(program, room, trial, times[trial.ordinary]) for trial in trials]
     wrong = sum(is_wrong for _, is_wrong in ends)

@@ -5,7 +5,7 @@ ghost use Rattle.std.specs.Prelude.{◌≡◌, ◌<◌, IsTrue};
 
 mod tried;
 
-pub use crate::tried::{Counted, Requests, Tried, refuse_all, refuse_each};
+pub use crate::tried::{Counted, Requests, Tried, Wrong, refuse_all, refuse_each};
 use std::alloc::{AllocError, Allocator};
 use std::sync::atomic::{AtomicU64, Ordering};
 

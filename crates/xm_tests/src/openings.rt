@@ -53,10 +53,10 @@ fn shown<A: Allocator>(positions: &Option<Positions<A>>) -> Option<(Option<i64>,
     }
 }
 
-impl<A: Allocator + Copy> Tried<A> for Opened<A> {
+impl<A: Allocator + Copy, R: Abort + AllocGlobal> Tried<A, R> for Opened<A> {
     type Call = Call;
 
-    fn before<R: Abort + AllocGlobal>(_rt: &R, alloc: A, _call: &Call) -> Opened<A> {
+    fn before(_rt: &R, alloc: A, _call: &Call) -> Opened<A> {
         Opened {
             alloc,
             positions: None,
@@ -64,7 +64,7 @@ impl<A: Allocator + Copy> Tried<A> for Opened<A> {
         }
     }
 
-    fn make<R: Abort + AllocGlobal>(&mut self, rt: &R, call: &Call) -> Result<(), OutOfMemory> {
+    fn make(&mut self, rt: &R, call: &Call) -> Result<(), OutOfMemory> {
         match *call {
             Call::Positions(members) => self.positions = Some(Positions::new(self.alloc, members)?),
             Call::Board => self.seen = read(self.alloc, &settings(rt))?,
@@ -72,7 +72,7 @@ impl<A: Allocator + Copy> Tried<A> for Opened<A> {
         Ok(())
     }
 
-    fn shows_as<R: Abort>(&self, _rt: &R, like: &Opened<A>) -> bool {
+    fn shows_as(&self, _rt: &R, like: &Opened<A>) -> bool {
         shown(&self.positions) == shown(&like.positions) && self.seen == like.seen
     }
 }
@@ -80,5 +80,6 @@ impl<A: Allocator + Copy> Tried<A> for Opened<A> {
 #[test]
 fn each_growth_refused_in_turn(rt: HostRuntime) {
     let alloc = Refusing::new(rt.alloc(), 0);
-    refuse_all::<_, Opened<_>, _>(&rt, &alloc, &CALLS);
+    let other = refuse_all::<_, Opened<_>, _>(&rt, &alloc, &CALLS);
+    assert!(rt; other.is_none(), "{other:?}");
 }

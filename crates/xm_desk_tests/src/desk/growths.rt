@@ -258,10 +258,10 @@ impl<A: Allocator + Copy> Opened<A> {
     }
 }
 
-impl<A: Allocator + Copy> Tried<A> for Opened<A> {
+impl<A: Allocator + Copy, R: Abort + AllocGlobal> Tried<A, R> for Opened<A> {
     type Call = (Before, Call);
 
-    fn before<R: Abort + AllocGlobal>(rt: &R, alloc: A, (before, _): &(Before, Call)) -> Opened<A> {
+    fn before(rt: &R, alloc: A, (before, _): &(Before, Call)) -> Opened<A> {
         Opened {
             alloc,
             day: standing(rt, alloc, *before),
@@ -271,11 +271,7 @@ impl<A: Allocator + Copy> Tried<A> for Opened<A> {
         }
     }
 
-    fn make<R: Abort + AllocGlobal>(
-        &mut self,
-        rt: &R,
-        (_, call): &(Before, Call),
-    ) -> Result<(), OutOfMemory> {
+    fn make(&mut self, rt: &R, (_, call): &(Before, Call)) -> Result<(), OutOfMemory> {
         match *call {
             Call::OpenDesks(securities) => self.open_desks(rt, &segment(rt, securities)),
             Call::Open => self.open(rt),
@@ -296,7 +292,7 @@ impl<A: Allocator + Copy> Tried<A> for Opened<A> {
         }
     }
 
-    fn shows_as<R: Abort>(&self, rt: &R, like: &Opened<A>) -> bool {
+    fn shows_as(&self, rt: &R, like: &Opened<A>) -> bool {
         self.day.shows_as(rt, &like.day)
             && self.orders.as_slice() == like.orders.as_slice()
             && self.stops.as_slice() == like.stops.as_slice()
@@ -307,7 +303,8 @@ impl<A: Allocator + Copy> Tried<A> for Opened<A> {
 #[test]
 fn each_growth_refused_in_turn(rt: HostRuntime) {
     let alloc = Refusing::new(rt.alloc(), 0);
-    refuse_all::<_, Opened<_>, _>(&rt, &alloc, &CALLS);
+    let other = refuse_all::<_, Opened<_>, _>(&rt, &alloc, &CALLS);
+    assert!(rt; other.is_none(), "{other:?}");
 }
 
 #[test]

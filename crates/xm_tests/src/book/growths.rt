@@ -87,10 +87,10 @@ impl<A: Allocator + Copy> Model for Filled<A> {
     ghost view = { λ _. tt };
 }
 
-impl<A: Allocator + Copy> Tried<A> for Filled<A> {
+impl<A: Allocator + Copy, R: Abort + AllocGlobal> Tried<A, R> for Filled<A> {
     type Call = (u32, Call);
 
-    fn before<R: Abort + AllocGlobal>(rt: &R, alloc: A, (orders, _): &(u32, Call)) -> Filled<A> {
+    fn before(rt: &R, alloc: A, (orders, _): &(u32, Call)) -> Filled<A> {
         let mut book = Entries::new(alloc);
         for reference in 0..*orders {
             assert!(rt; book.enter(numbered(rt, reference)) == Ok(true));
@@ -103,11 +103,7 @@ impl<A: Allocator + Copy> Tried<A> for Filled<A> {
         }
     }
 
-    fn make<R: Abort + AllocGlobal>(
-        &mut self,
-        rt: &R,
-        (orders, call): &(u32, Call),
-    ) -> Result<(), OutOfMemory> {
+    fn make(&mut self, rt: &R, (orders, call): &(u32, Call)) -> Result<(), OutOfMemory> {
         match *call {
             Call::Enter => assert!(rt; self.book.enter(numbered(rt, *orders))?),
             Call::Replace => assert!(rt; self.book.replace(changed(rt))?),
@@ -119,7 +115,7 @@ impl<A: Allocator + Copy> Tried<A> for Filled<A> {
         Ok(())
     }
 
-    fn shows_as<R: Abort>(&self, rt: &R, like: &Filled<A>) -> bool {
+    fn shows_as(&self, rt: &R, like: &Filled<A>) -> bool {
         let (orders, others) = (self.book.orders(), like.book.orders());
         orders.expect(rt, "memory").as_slice() == others.expect(rt, "memory").as_slice()
             && self.book.len() == like.book.len()
@@ -134,5 +130,6 @@ impl<A: Allocator + Copy> Tried<A> for Filled<A> {
 #[test]
 fn each_growth_refused_in_turn(rt: HostRuntime) {
     let alloc = Refusing::new(rt.alloc(), 0);
-    refuse_all::<_, Filled<_>, _>(&rt, &alloc, &CALLS);
+    let other = refuse_all::<_, Filled<_>, _>(&rt, &alloc, &CALLS);
+    assert!(rt; other.is_none(), "{other:?}");
 }

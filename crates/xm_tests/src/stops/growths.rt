@@ -68,10 +68,10 @@ impl<A: Allocator + Copy> Model for Filled<A> {
     ghost view = { λ _. tt };
 }
 
-impl<A: Allocator + Copy> Tried<A> for Filled<A> {
+impl<A: Allocator + Copy, R: Abort + AllocGlobal> Tried<A, R> for Filled<A> {
     type Call = (u32, Call);
 
-    fn before<R: Abort + AllocGlobal>(rt: &R, alloc: A, (held, _): &(u32, Call)) -> Filled<A> {
+    fn before(rt: &R, alloc: A, (held, _): &(u32, Call)) -> Filled<A> {
         let mut stops = Held::new(alloc);
         for reference in 0..*held {
             assert!(rt; stops.enter(numbered(reference)) == Ok(true));
@@ -83,11 +83,7 @@ impl<A: Allocator + Copy> Tried<A> for Filled<A> {
         }
     }
 
-    fn make<R: Abort + AllocGlobal>(
-        &mut self,
-        rt: &R,
-        (held, call): &(u32, Call),
-    ) -> Result<(), OutOfMemory> {
+    fn make(&mut self, rt: &R, (held, call): &(u32, Call)) -> Result<(), OutOfMemory> {
         match *call {
             Call::Enter => assert!(rt; self.stops.enter(numbered(*held))?),
             Call::List => self.listed = self.stops.list()?,
@@ -97,7 +93,7 @@ impl<A: Allocator + Copy> Tried<A> for Filled<A> {
         Ok(())
     }
 
-    fn shows_as<R: Abort>(&self, rt: &R, like: &Filled<A>) -> bool {
+    fn shows_as(&self, rt: &R, like: &Filled<A>) -> bool {
         let (stops, others) = (self.stops.list(), like.stops.list());
         stops.expect(rt, "memory").as_slice() == others.expect(rt, "memory").as_slice()
             && self.stops.len() == like.stops.len()
@@ -110,5 +106,6 @@ impl<A: Allocator + Copy> Tried<A> for Filled<A> {
 #[test]
 fn each_growth_refused_in_turn(rt: HostRuntime) {
     let alloc = Refusing::new(rt.alloc(), 0);
-    refuse_all::<_, Filled<_>, _>(&rt, &alloc, &CALLS);
+    let other = refuse_all::<_, Filled<_>, _>(&rt, &alloc, &CALLS);
+    assert!(rt; other.is_none(), "{other:?}");
 }
