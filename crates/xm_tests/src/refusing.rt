@@ -1,10 +1,12 @@
 //! The allocator that refuses one request.
-use std::alloc::Global;
+use std::alloc::{Allocator, Global};
+use std::marker::Model;
 use std::process::Abort;
 use std::sync::{Mutex, Wait};
 use std::test::Fail;
 use std::thread::join;
-use xm_refusing::Refusing;
+use xm_memory::OutOfMemory;
+use xm_refusing::{Refusing, Requests, Tried, Wrong, refuse_all, refuse_each};
 
 /// Pushes twenty numbers, one again where it was refused, and answers which.
 fn refused_push(rt: &impl Abort, alloc: &Refusing<Global>) -> Option<u64> {
@@ -94,4 +96,93 @@ fn two_threads_share_one_refusal(rt: HostRuntime) {
     assert!(rt; one.checked_add(other) == Some(1));
     assert!(rt; shared.into_inner().len() == 199);
     assert!(rt; alloc.has_refused());
+}
+
+/// How a call pushes a number.
+#[derive(Clone, Copy)]
+enum Push {
+    Well,
+    /// It leaves a mark where memory is wanting.
+    LeavesMark,
+    /// It makes a mark where it is called again.
+    MarksLater,
+}
+
+/// A list, with what calls leave beside it. A clause sees nothing of it.
+struct Pushed<A: Allocator> {
+    numbers: Vec<u64, A>,
+    called: bool,
+    marked: bool,
+}
+
+impl<A: Allocator> Drop for Pushed<A> {
+    fn drop(self) {
+        let Pushed {
+            numbers: _numbers,
+            called: _,
+            marked: _,
+        } = self;
+    }
+}
+
+impl<A: Allocator> Model for Pushed<A> {
+    ghost Value = { Unit };
+
+    ghost view = { λ _. tt };
+}
+
+impl<A: Allocator, R> Tried<A, R> for Pushed<A> {
+    type Call = Push;
+
+    fn before(_rt: &R, alloc: A, _push: &Push) -> Pushed<A> {
+        Pushed {
+            numbers: Vec::new(alloc),
+            called: false,
+            marked: false,
+        }
+    }
+
+    fn make(&mut self, _rt: &R, push: &Push) -> Result<(), OutOfMemory> {
+        let again = self.called;
+        self.called = true;
+        match self.numbers.push(1) {
+            Ok(()) => {
+                self.marked = again && matches!(*push, Push::MarksLater);
+                Ok(())
+            }
+            Err(error) => {
+                self.marked = matches!(*push, Push::LeavesMark);
+                Err(OutOfMemory::from(error))
+            }
+        }
+    }
+
+    fn shows_as(&self, _rt: &R, like: &Pushed<A>) -> bool {
+        self.numbers.as_slice() == like.numbers.as_slice() && self.marked == like.marked
+    }
+}
+
+const ONE: Requests = Requests {
+    wanting: 1,
+    made_good: 0,
+};
+
+#[test]
+fn what_is_wrong_with_a_call_is_found(rt: HostRuntime) {
+    let alloc = Refusing::new(rt.alloc(), 0);
+    let found = [
+        refuse_each::<_, Pushed<_>, _>(&rt, &alloc, &Push::Well),
+        refuse_each::<_, Pushed<_>, _>(&rt, &alloc, &Push::LeavesMark),
+        refuse_each::<_, Pushed<_>, _>(&rt, &alloc, &Push::MarksLater),
+    ];
+    assert!(rt; found == [Ok(ONE), Err(Wrong::Changed), Err(Wrong::EndsOtherwise)]);
+}
+
+#[test]
+fn other_counts_than_are_stored_are_found(rt: HostRuntime) {
+    let alloc = Refusing::new(rt.alloc(), 0);
+    let calls = [(Push::Well, 1, 0), (Push::Well, 2, 0)];
+    let other = refuse_all::<_, Pushed<_>, _>(&rt, &alloc, &calls);
+    assert!(rt; other == Some((1, Ok(ONE))));
+    assert!(rt; refuse_all::<_, Pushed<_>, _>(&rt, &alloc, &calls[..1]).is_none());
 }
