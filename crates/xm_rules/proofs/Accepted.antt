@@ -2,7 +2,8 @@
 use Rattle.std.proofs.Common.{◌≡◌, ℕ, ◌+◌, ◌<◌, ◌≤◌, Bool, true, false, ◌&&◌, ◌||◌, not, [], ◌∷◌, find, Option, Some, None, refl, arith}
 use Rattle.std.proofs.lemmas.Bool.Decides.{nat_tests}
 use Rattle.xm_rules.proofs.Checks.{first_failing-front, last_passes, passes}
-use Rattle.xm_rules.specs.Commands.{has_prices_in_range, is_bad_combination, is_immediate, is_in_range, is_over, member_of, trigger_of}
+use Rattle.xm_rules.specs.Commands.{has_prices_in_range, is_bad_combination, is_book_or_cancel, is_for_trading, is_in_range, is_over, member_of, order_kind, trigger_of}
+use Rattle.xm_rules.specs.Crossing.{would_execute}
 use Rattle.xm_rules.specs.Orders.{is_named}
 use Rattle.xm_rules.specs.Refusals.{Check, first_failing, entries_more, has_order, is_trigger_reached, has_stop, is_allowed, is_ended, is_full, is_given_in_range, is_limit_for_market, is_not_changeable, is_unknown_member, is_unknown_order, own_checks, refusal_of}
 use Rattle.xm_rules.specs.Settling.{is_continuous}
@@ -14,7 +15,7 @@ use Rattle.xm_rules.specs.declared.commands.Kind.{Kind}
 use Rattle.xm_rules.specs.declared.orders.Restriction.{Restriction}
 use Rattle.xm_rules.specs.declared.orders.Side.{Side}
 use Rattle.xm_rules.specs.declared.orders.Validity.{Validity}
-use Rattle.xm_rules.specs.declared.replies.Refusal.TheVariants.{UnknownMember, DayEnded, BadQuantity, BadPrice, BadValidity, BadCombination, WrongPhase, DuplicateReference, UnknownOrder, NotChangeable, TriggerReached, JournalFull}
+use Rattle.xm_rules.specs.declared.replies.Refusal.TheVariants.{UnknownMember, DayEnded, BadQuantity, BadPrice, BadValidity, BadCombination, WrongPhase, DuplicateReference, UnknownOrder, NotChangeable, TriggerReached, JournalFull, WouldExecute}
 use Rattle.xm_rules.specs.declared.settings.TheConstants.{PHASE_COMMANDS_MORE}
 
 not_false : (b : Bool) → not b ≡ false → b ≡ true
@@ -57,10 +58,11 @@ pub record EntryPasses (s : State) (member reference : ℕ) (side : Side) (k : K
   pub prices : has_prices_in_range k ≡ true
   pub valid : is_over s.settings.today v ≡ false
   pub combined : is_bad_combination condition k r ≡ false
-  pub in_phase : (is_immediate condition && not (is_continuous s.phase)) ≡ false
+  pub in_phase : (is_for_trading condition && not (is_continuous s.phase)) ≡ false
   pub no_order : has_order s member reference ≡ false
   pub no_stop : has_stop s member reference ≡ false
   pub not_reached : is_trigger_reached s side (trigger_of k) ≡ false
+  pub unmet : (is_book_or_cancel condition && would_execute s.orders side (order_kind k)) ≡ false
 
 pub entry-accepted : (s : State) (member reference : ℕ) (side : Side) (k : Kind) (quantity : ℕ) (v : Validity) (r : Restriction) (condition : Condition)
     → refusal_of s (Enter member reference side k quantity v r condition) ≡ None → EntryPasses s member reference side k quantity v r condition
@@ -70,9 +72,10 @@ entry-accepted s member reference side k quantity v r condition h =
     let priced = passes (not (has_prices_in_range k)) BadPrice _ counted.1 in
     let valid = passes (is_over s.settings.today v) BadValidity _ priced.1 in
     let combined = passes (is_bad_combination condition k r) BadCombination _ valid.1 in
-    let in_phase = passes (is_immediate condition && not (is_continuous s.phase)) WrongPhase _ combined.1 in
+    let in_phase = passes (is_for_trading condition && not (is_continuous s.phase)) WrongPhase _ combined.1 in
     let fresh = passes (has_order s member reference || has_stop s member reference) DuplicateReference _ in_phase.1 in
     let reached = passes (is_trigger_reached s side (trigger_of k)) TriggerReached _ fresh.1 in
+    let unmet = passes (is_book_or_cancel condition && would_execute s.orders side (order_kind k)) WouldExecute None reached.1 in
     let unused = neither (has_order s member reference) (has_stop s member reference) fresh.0 in
     record {
       quantity = not_false _ counted.0;
@@ -83,6 +86,7 @@ entry-accepted s member reference side k quantity v r condition h =
       no_order = unused.0;
       no_stop = unused.1;
       not_reached = reached.0;
+      unmet = unmet.0;
     }
 
 -- a change

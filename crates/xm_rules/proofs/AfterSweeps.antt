@@ -37,7 +37,7 @@ meets_mirrored Sell (Limit p) Market = refl
 meets_mirrored Sell (Limit p) (Limit q) = refl
 
 -- what is ahead of an order that is met is met
-kinds_met : (side : Side) (o k : OrderKind) (m : ℕ) (l : OrderKind) (n : ℕ) → precedes (opposite side) k m l n ≡ true → meets side o l ≡ true → meets side o k ≡ true
+pub kinds_met : (side : Side) (o k : OrderKind) (m : ℕ) (l : OrderKind) (n : ℕ) → precedes (opposite side) k m l n ≡ true → meets side o l ≡ true → meets side o k ≡ true
 kinds_met side o Market m l n h e = refl
 kinds_met side Market (Limit p) m l n h e = refl
 kinds_met side (Limit r) (Limit p) m Market n h e = absurd (cc)

@@ -13,7 +13,7 @@ use Rattle.xm_rules.specs.State.{Ranges, State, inside_both, ranges}
 use Rattle.xm_rules.specs.Step.{come_under}
 use Rattle.xm_rules.specs.Sweep.{Sweep, ahead_of, fill, is_executable, is_fillable, is_interrupted, is_met, is_met_inside, meet_price, orders_after_sweep, other_side, queue, rest_after, sweep_trades, units_before}
 use Rattle.xm_rules.specs.declared.commands.Condition.{Condition}
-use Rattle.xm_rules.specs.declared.commands.Condition.TheVariants.{Plain, Ioc, Fok}
+use Rattle.xm_rules.specs.declared.commands.Condition.TheVariants.{Plain, Ioc, Fok, Boc}
 use Rattle.xm_rules.specs.declared.orders.Order.{Order}
 use Rattle.xm_rules.specs.declared.orders.Restriction.{Restriction}
 use Rattle.xm_rules.specs.declared.orders.Restriction.TheVariants.{Free, OpeningOnly, AuctionsOnly, ClosingOnly}
@@ -182,6 +182,7 @@ module _ (s : State) (o : Order) (none : NoneMeet s.orders) where
   none_meet Plain phase = come_none phase
   none_meet Ioc phase = swept_none
   none_meet Fok phase = fillable_if (is_fillable w) phase
+  none_meet Boc phase = come_none phase
 
 -- ---- the phase after it
 
@@ -209,6 +210,7 @@ module _ (s : State) (o : Order) (trading : s.phase ≡ Continuous) where
   phase_after Plain = come_phase
   phase_after Ioc = swept_phase
   phase_after Fok = of_either (come s o) s (is_fillable (sweep_of s o)) come_phase (inl trading)
+  phase_after Boc = come_phase
 
 -- ---- the trades
 
@@ -254,6 +256,7 @@ module _ (P : Trade → Type 0) (s : State) (o : Order) (each : All P (sweep_tra
   adds_under Plain = come_adds
   adds_under Ioc = record { more = sweep_trades (s.sweeps + 1) (sweep_of s o); trades = refl; each = each }
   adds_under Fok = adds_either (come s o) s (is_fillable (sweep_of s o)) come_adds (adds_none P s s refl)
+  adds_under Boc = come_adds
 
 -- what holds of each trade of the sweep holds of each that it adds
 pub sweep_adds : (P : Trade → Type 0) (condition : Condition) (s : State) (o : Order) → ((t : Trade) → IsOfSweep (ranges s) (s.sweeps + 1) t → P t)

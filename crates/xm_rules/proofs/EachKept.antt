@@ -17,7 +17,7 @@ use Rattle.xm_rules.specs.Sweep.{fill, is_fillable, rest_after, sweep_trades}
 use Rattle.xm_rules.specs.declared.commands.Command.{Command}
 use Rattle.xm_rules.specs.declared.commands.Command.TheVariants.{Enter, Change, Cancel, CancelAll, StartOpening, StartIntraday, StartClosing, Uncross, EndDay}
 use Rattle.xm_rules.specs.declared.commands.Condition.{Condition}
-use Rattle.xm_rules.specs.declared.commands.Condition.TheVariants.{Plain, Ioc, Fok}
+use Rattle.xm_rules.specs.declared.commands.Condition.TheVariants.{Plain, Ioc, Fok, Boc}
 use Rattle.xm_rules.specs.declared.commands.Kind.{Kind}
 use Rattle.xm_rules.specs.declared.orders.Order.{Order}
 use Rattle.xm_rules.specs.declared.orders.Restriction.{Restriction}
@@ -107,6 +107,7 @@ module _ (G : Order → Type 0) (S : Stop → Type 0) (T : Trade → Type 0) (se
   condition-has Plain s o own k = come-has s o own k
   condition-has Ioc s o own k = swept-has s o own k
   condition-has Fok s o own k = either (is_fillable (sweep_of s o)) (come s o) s (come-has s o own k) k
+  condition-has Boc s o own k = come-has s o own k
 
   entered-has : (s : State) (condition : Condition) (trigger : Option ℕ) (o : Order) → G o → Has s → Has (entered s condition trigger o)
   entered-has s condition None o own k = condition-has condition s o own k

@@ -19,7 +19,7 @@ use Rattle.xm_rules.specs.Sweep.{is_fillable, rest_after}
 use Rattle.xm_rules.specs.declared.commands.Command.{Command}
 use Rattle.xm_rules.specs.declared.commands.Command.TheVariants.{Enter, Change, Cancel, CancelAll, StartOpening, StartIntraday, StartClosing, Uncross, EndDay}
 use Rattle.xm_rules.specs.declared.commands.Condition.{Condition}
-use Rattle.xm_rules.specs.declared.commands.Condition.TheVariants.{Plain, Ioc, Fok}
+use Rattle.xm_rules.specs.declared.commands.Condition.TheVariants.{Plain, Ioc, Fok, Boc}
 use Rattle.xm_rules.specs.declared.orders.Order.{Order}
 use Rattle.xm_rules.specs.declared.orders.Stop.{Stop}
 use Rattle.xm_rules.specs.declared.phases.Auction.{Auction}
@@ -73,6 +73,7 @@ condition-follows : (condition : Condition) (s : State) (o : Order) → Follows 
 condition-follows Plain s o = come-follows s o
 condition-follows Ioc s o = same-stops s (swept s o) refl (omega arith)
 condition-follows Fok s o = follows_if s (come s o) s (is_fillable (sweep_of s o)) (come-follows s o) (same-stops s s refl (omega arith))
+condition-follows Boc s o = come-follows s o
 
 entered-follows : (s : State) (condition : Condition) (trigger : Option ℕ) (o : Order) → is_in_range o.rest ≡ true → Follows s (entered s condition trigger o)
 entered-follows s condition None o units = condition-follows condition s o

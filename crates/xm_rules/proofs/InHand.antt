@@ -15,7 +15,7 @@ use Rattle.xm_rules.specs.Sweep.{is_fillable, rest_after, sweep_trades}
 use Rattle.xm_rules.specs.declared.commands.Command.{Command}
 use Rattle.xm_rules.specs.declared.commands.Command.TheVariants.{Enter, Change, Cancel, CancelAll, StartOpening, StartIntraday, StartClosing, Uncross, EndDay}
 use Rattle.xm_rules.specs.declared.commands.Condition.{Condition}
-use Rattle.xm_rules.specs.declared.commands.Condition.TheVariants.{Plain, Ioc, Fok}
+use Rattle.xm_rules.specs.declared.commands.Condition.TheVariants.{Plain, Ioc, Fok, Boc}
 use Rattle.xm_rules.specs.declared.orders.Order.{Order}
 use Rattle.xm_rules.specs.declared.orders.Side.TheVariants.{Buy, Sell}
 use Rattle.xm_rules.specs.declared.orders.Stop.{Stop}
@@ -169,6 +169,7 @@ condition-more : (condition : Condition) (s : State) (o : Order) → in_hand (co
 condition-more Plain s o = come-more s o
 condition-more Ioc s o = omega (arith, swept-keeps s o)
 condition-more Fok s o = at_most s (come s o) s o.rest (is_fillable (sweep_of s o)) (come-more s o) (omega arith)
+condition-more Boc s o = come-more s o
 
 entered-more : (s : State) (condition : Condition) (trigger : Option ℕ) (o : Order) → in_hand (entered s condition trigger o) ≤ in_hand s + o.rest
 entered-more s condition None o = condition-more condition s o

@@ -12,7 +12,7 @@ use Rattle.xm_rules.specs.Sweep.{is_fillable, rest_after}
 use Rattle.xm_rules.specs.declared.commands.Command.{Command}
 use Rattle.xm_rules.specs.declared.commands.Command.TheVariants.{Enter, Change, Uncross}
 use Rattle.xm_rules.specs.declared.commands.Condition.{Condition}
-use Rattle.xm_rules.specs.declared.commands.Condition.TheVariants.{Plain, Ioc, Fok}
+use Rattle.xm_rules.specs.declared.commands.Condition.TheVariants.{Plain, Ioc, Fok, Boc}
 use Rattle.xm_rules.specs.declared.orders.Order.{Order}
 use Rattle.xm_rules.specs.declared.orders.Stop.{Stop}
 use Rattle.xm_rules.specs.declared.phases.Auction.{Auction}
@@ -56,6 +56,7 @@ condition-keeps : (condition : Condition) (s : State) (o : Order) → Keeps s (c
 condition-keeps Plain s o = come-keeps s o
 condition-keeps Ioc s o = record { settings = refl; accepted = refl }
 condition-keeps Fok s o = either s (come s o) s (is_fillable (sweep_of s o)) (come-keeps s o) (record { settings = refl; accepted = refl })
+condition-keeps Boc s o = come-keeps s o
 
 entered-keeps : (s : State) (condition : Condition) (trigger : Option ℕ) (o : Order) → Keeps s (entered s condition trigger o)
 entered-keeps s condition None o = condition-keeps condition s o

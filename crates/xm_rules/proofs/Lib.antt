@@ -3,6 +3,7 @@ pub mod AfterCalls
 pub mod AfterSweeps
 pub mod Ahead
 pub mod Allotments
+pub mod BookOrCancel
 pub mod CallTrades
 pub mod Checks
 pub mod Choices

@@ -17,7 +17,7 @@ use Rattle.xm_rules.specs.Sweep.{is_fillable, rest_after, sweep_trades}
 use Rattle.xm_rules.specs.declared.commands.Command.{Command}
 use Rattle.xm_rules.specs.declared.commands.Command.TheVariants.{Enter, Change, Cancel, CancelAll, StartOpening, StartIntraday, StartClosing, Uncross, EndDay}
 use Rattle.xm_rules.specs.declared.commands.Condition.{Condition}
-use Rattle.xm_rules.specs.declared.commands.Condition.TheVariants.{Plain, Ioc, Fok}
+use Rattle.xm_rules.specs.declared.commands.Condition.TheVariants.{Plain, Ioc, Fok, Boc}
 use Rattle.xm_rules.specs.declared.orders.Order.{Order}
 use Rattle.xm_rules.specs.declared.orders.Side.TheVariants.{Buy, Sell}
 use Rattle.xm_rules.specs.declared.orders.Trade.{Trade}
@@ -149,6 +149,7 @@ condition-inside : (condition : Condition) (s : State) (o : Order) → WereInsid
 condition-inside Plain s o k = come-inside s o k
 condition-inside Ioc s o k = swept-inside s o k
 condition-inside Fok s o k = either (come s o) s (is_fillable (sweep_of s o)) (come-inside s o k) k
+condition-inside Boc s o k = come-inside s o k
 
 entered-inside : (s : State) (condition : Condition) (trigger : Option ℕ) (o : Order) → WereInside s → WereInside (entered s condition trigger o)
 entered-inside s condition None o k = condition-inside condition s o k

@@ -18,7 +18,7 @@ use Rattle.xm_rules.specs.Sweep.{fill, is_fillable, rest_after}
 use Rattle.xm_rules.specs.declared.commands.Command.{Command}
 use Rattle.xm_rules.specs.declared.commands.Command.TheVariants.{Enter, Change, Cancel, CancelAll, StartOpening, StartIntraday, StartClosing, Uncross, EndDay}
 use Rattle.xm_rules.specs.declared.commands.Condition.{Condition}
-use Rattle.xm_rules.specs.declared.commands.Condition.TheVariants.{Plain, Ioc, Fok}
+use Rattle.xm_rules.specs.declared.commands.Condition.TheVariants.{Plain, Ioc, Fok, Boc}
 use Rattle.xm_rules.specs.declared.orders.Order.{Order}
 use Rattle.xm_rules.specs.declared.orders.Stop.{Stop}
 use Rattle.xm_rules.specs.declared.phases.Auction.{Auction}
@@ -100,6 +100,7 @@ module _ (member reference : ℕ) where
   condition-uses Plain s o = come-uses s o
   condition-uses Ioc s o = omega (arith, without-uses (fill (sweep_of s o)) s.orders)
   condition-uses Fok s o = at_most (come s o) s (uses s + named o) (is_fillable (sweep_of s o)) (come-uses s o) (omega arith)
+  condition-uses Boc s o = come-uses s o
 
   entered-uses : (s : State) (condition : Condition) (trigger : Option ℕ) (o : Order) → uses (entered s condition trigger o) ≤ uses s + named o
   entered-uses s condition None o = condition-uses condition s o

@@ -19,7 +19,7 @@ use Rattle.xm_rules.specs.Sweep.{is_fillable, is_interrupted, rest_after}
 use Rattle.xm_rules.specs.declared.commands.Command.{Command}
 use Rattle.xm_rules.specs.declared.commands.Command.TheVariants.{Enter, Change, Cancel, CancelAll, StartOpening, StartIntraday, StartClosing, Uncross, EndDay}
 use Rattle.xm_rules.specs.declared.commands.Condition.{Condition}
-use Rattle.xm_rules.specs.declared.commands.Condition.TheVariants.{Plain, Ioc, Fok}
+use Rattle.xm_rules.specs.declared.commands.Condition.TheVariants.{Plain, Ioc, Fok, Boc}
 use Rattle.xm_rules.specs.declared.orders.Order.{Order}
 use Rattle.xm_rules.specs.declared.orders.Side.{Side}
 use Rattle.xm_rules.specs.declared.orders.Stop.{Stop}
@@ -156,6 +156,7 @@ condition-comes : (condition : Condition) (s : State) (o : Order) → 1 ≤ o.re
 condition-comes Plain s o l = come-comes s o l
 condition-comes Ioc s o l = swept-comes s o
 condition-comes Fok s o l = either_comes s (come s o) s (is_fillable (sweep_of s o)) (come-comes s o l) (record { rests = λ some. some; stops = refl; phase = λ e. e })
+condition-comes Boc s o l = come-comes s o l
 
 condition-uncrossed : (condition : Condition) (s : State) (o : Order) → 1 ≤ o.rest → IsUncrossed s → IsUncrossed (come_under condition s o)
 condition-uncrossed condition s o l u =

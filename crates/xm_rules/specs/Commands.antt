@@ -4,7 +4,7 @@ use Rattle.xm_rules.specs.Settling.{is_free}
 use Rattle.xm_rules.specs.declared.commands.Command.{Command}
 use Rattle.xm_rules.specs.declared.commands.Command.TheVariants.{Enter, Change, Cancel, CancelAll}
 use Rattle.xm_rules.specs.declared.commands.Condition.{Condition}
-use Rattle.xm_rules.specs.declared.commands.Condition.TheVariants.{Plain}
+use Rattle.xm_rules.specs.declared.commands.Condition.TheVariants.{Plain, Ioc, Fok, Boc}
 use Rattle.xm_rules.specs.declared.commands.Kind.{Kind}
 use Rattle.xm_rules.specs.declared.commands.Kind.TheVariants as kind
 use Rattle.xm_rules.specs.declared.commands.TheConstants.{MAX_NUMBER}
@@ -57,16 +57,34 @@ outlasts today Day = false
 outlasts today (TillDate date) = nat_lt today date
 outlasts today TillCancelled = true
 
--- immediate-or-cancel, or fill-or-kill: of such an order nothing joins the book
-abbrev pub is_immediate : Condition → Bool
-is_immediate Plain = false
-is_immediate _ = true
+-- what comes in only in continuous trading
+abbrev pub is_for_trading : Condition → Bool
+is_for_trading Plain = false
+is_for_trading Ioc = true
+is_for_trading Fok = true
+is_for_trading Boc = true
+
+-- an order that isn't executed as it comes in
+abbrev pub is_book_or_cancel : Condition → Bool
+is_book_or_cancel Plain = false
+is_book_or_cancel Ioc = false
+is_book_or_cancel Fok = false
+is_book_or_cancel Boc = true
+
+-- a limit order, and no stop
+abbrev pub is_limit : Kind → Bool
+is_limit kind.Market = false
+is_limit (kind.Limit p) = true
+is_limit (kind.StopMarket t) = false
+is_limit (kind.StopLimit t p) = false
 
 abbrev pub is_stop : Option ℕ → Bool
 is_stop None = false
 is_stop (Some trigger) = true
 
--- of an immediate condition, a trigger and a restriction an order has one at most
+-- of a condition, a trigger and a restriction an order has one at most, and a book-or-cancel order has a limit
 abbrev pub is_bad_combination : Condition → Kind → Restriction → Bool
-is_bad_combination condition k restriction =
-    (is_immediate condition && (not (is_free restriction) || is_stop (trigger_of k))) || (is_stop (trigger_of k) && not (is_free restriction))
+is_bad_combination Plain k restriction = is_stop (trigger_of k) && not (is_free restriction)
+is_bad_combination Ioc k restriction = is_stop (trigger_of k) || not (is_free restriction)
+is_bad_combination Fok k restriction = is_stop (trigger_of k) || not (is_free restriction)
+is_bad_combination Boc k restriction = not (is_limit k) || not (is_free restriction)

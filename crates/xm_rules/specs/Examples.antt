@@ -9,7 +9,7 @@ use Rattle.xm_rules.specs.Step.{step, reply, replay, Journal}
 use Rattle.xm_rules.specs.Sweep.{Sweep}
 use Rattle.xm_rules.specs.declared.commands.Command.{Command}
 use Rattle.xm_rules.specs.declared.commands.Command.TheVariants.{Enter, Change, StartOpening, StartIntraday, StartClosing, Uncross, EndDay}
-use Rattle.xm_rules.specs.declared.commands.Condition.TheVariants.{Plain}
+use Rattle.xm_rules.specs.declared.commands.Condition.TheVariants.{Plain, Boc}
 use Rattle.xm_rules.specs.declared.commands.Kind.{Kind}
 use Rattle.xm_rules.specs.declared.commands.Kind.TheVariants as kind
 use Rattle.xm_rules.specs.declared.orders.Order.{Order}
@@ -46,6 +46,10 @@ stop member reference side trigger becomes quantity =
 abbrev pub enter : ℕ → ℕ → Side → Kind → ℕ → Command
 enter member reference side kind quantity = Enter member reference side kind quantity Day Free Plain
 
+-- a book-or-cancel order of the first member
+abbrev pub boc : ℕ → Side → ℕ → ℕ → Command
+boc reference side limit quantity = Enter 0 reference side (kind.Limit limit) quantity Day Free Boc
+
 -- a trade of a sweep number: quantity, price, and the member and reference of its buyer and its seller
 abbrev pub trade : TradeKind → ℕ → ℕ → ℕ → ℕ × ℕ → ℕ × ℕ → Trade
 trade kind sweep quantity price buyer seller =
@@ -72,6 +76,10 @@ answer commands command = reply (state_after commands) (step (state_after comman
 -- a state of these orders and stops, with no trade and the settings above
 abbrev pub standing : Phase → List Order → List Stop → State
 standing phase orders stops = record { settings = settings; accepted = 2; phase = phase; orders = orders; stops = stops; trades = []; sweeps = 0 }
+
+-- why a command is refused in continuous trading with these orders
+abbrev pub refusal_beside : List Order → Command → Option Refusal
+refusal_beside orders command = refusal_of (standing Continuous orders []) command
 
 -- the price of the last trade, and that of the last auction trade
 abbrev pub references : State → ℕ × ℕ

@@ -1,7 +1,8 @@
 -- The refusal of a command: the first of its checks that fails. Memory isn't asked.
 use Rattle.std.specs.Prelude.{ℕ, ◌+◌, Bool, true, false, ◌&&◌, ◌||◌, not, nat_le, List, [], ◌∷◌, ◌++◌, Option, Some, None, if◌then◌else◌, find}
 use Rattle.std.specs.List.{list_any}
-use Rattle.xm_rules.specs.Commands.{member_of, is_in_range, trigger_of, has_prices_in_range, is_over, is_immediate, is_bad_combination}
+use Rattle.xm_rules.specs.Commands.{member_of, is_in_range, trigger_of, has_prices_in_range, is_over, is_for_trading, is_book_or_cancel, is_bad_combination, order_kind}
+use Rattle.xm_rules.specs.Crossing.{would_execute}
 use Rattle.xm_rules.specs.Orders.{is_named, is_stop_named}
 use Rattle.xm_rules.specs.Settling.{is_continuous}
 use Rattle.xm_rules.specs.Sides.{reaches}
@@ -16,7 +17,7 @@ use Rattle.xm_rules.specs.declared.orders.Side.{Side}
 use Rattle.xm_rules.specs.declared.phases.Phase.{Phase}
 use Rattle.xm_rules.specs.declared.phases.Phase.TheVariants as phase
 use Rattle.xm_rules.specs.declared.replies.Refusal.{Refusal}
-use Rattle.xm_rules.specs.declared.replies.Refusal.TheVariants.{UnknownMember, DayEnded, BadQuantity, BadPrice, BadValidity, BadCombination, WrongPhase, DuplicateReference, UnknownOrder, NotChangeable, TriggerReached, JournalFull}
+use Rattle.xm_rules.specs.declared.replies.Refusal.TheVariants.{UnknownMember, DayEnded, BadQuantity, BadPrice, BadValidity, BadCombination, WrongPhase, DuplicateReference, UnknownOrder, NotChangeable, TriggerReached, JournalFull, WouldExecute}
 
 -- what is wrong, if it is, and the refusal for it
 pub record Check : Type 0 where
@@ -91,9 +92,10 @@ own_checks s (Enter member reference side kind quantity validity restriction con
     ∷ record { fails = not (has_prices_in_range kind); refusal = BadPrice }
     ∷ record { fails = is_over s.settings.today validity; refusal = BadValidity }
     ∷ record { fails = is_bad_combination condition kind restriction; refusal = BadCombination }
-    ∷ record { fails = is_immediate condition && not (is_continuous s.phase); refusal = WrongPhase }
+    ∷ record { fails = is_for_trading condition && not (is_continuous s.phase); refusal = WrongPhase }
     ∷ record { fails = has_order s member reference || has_stop s member reference; refusal = DuplicateReference }
     ∷ record { fails = is_trigger_reached s side (trigger_of kind); refusal = TriggerReached }
+    ∷ record { fails = is_book_or_cancel condition && would_execute s.orders side (order_kind kind); refusal = WouldExecute }
     ∷ []
 own_checks s (Change member reference quantity limit) =
     record { fails = is_unknown_order s member reference; refusal = UnknownOrder }

@@ -12,7 +12,7 @@ use Rattle.xm_rules.specs.Sweep.{is_fillable}
 use Rattle.xm_rules.specs.declared.commands.Command.{Command}
 use Rattle.xm_rules.specs.declared.commands.Command.TheVariants.{Enter, Change, Cancel, CancelAll, StartOpening, StartIntraday, StartClosing, Uncross, EndDay}
 use Rattle.xm_rules.specs.declared.commands.Condition.{Condition}
-use Rattle.xm_rules.specs.declared.commands.Condition.TheVariants.{Plain, Ioc, Fok}
+use Rattle.xm_rules.specs.declared.commands.Condition.TheVariants.{Plain, Ioc, Fok, Boc}
 use Rattle.xm_rules.specs.declared.commands.Kind.{Kind}
 use Rattle.xm_rules.specs.declared.orders.Order.{Order}
 use Rattle.xm_rules.specs.declared.orders.OrderKind.{OrderKind}
@@ -32,11 +32,13 @@ use Rattle.xm_rules.specs.declared.replies.Reply.{Reply}
 use Rattle.xm_rules.specs.declared.settings.DeskSettings.{DeskSettings}
 
 -- an immediate-or-cancel order is swept, as the checks let it come only free and in continuous trading, and its rest is deleted;
--- a fill-or-kill order comes in only where it can be executed whole
+-- a fill-or-kill order comes in only where it can be executed whole; a book-or-cancel order comes in like one without a condition, as the
+-- checks let it come only where it meets no order
 abbrev pub come_under : Condition → State → Order → State
 come_under Plain s o = come s o
 come_under Ioc s o = swept s o
 come_under Fok s o = if is_fillable (sweep_of s o) then come s o else s
+come_under Boc s o = come s o
 
 -- the order of an entry, or the one that its stop becomes
 abbrev pub entered_order : ℕ → ℕ → Side → Kind → ℕ → Validity → Restriction → Order

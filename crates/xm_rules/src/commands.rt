@@ -1,6 +1,6 @@
 //! The commands of a trading day. Their numbers are raw: a refusal says which is out of range.
 ghost use Rattle.std.specs.Prelude.{◌≡◌, IsTrue};
-ghost use Rattle.xm_rules.specs.Commands.{has_prices_in_range, is_bad_combination, is_immediate, is_in_range, is_stop, member_of, order_kind, trigger_of};
+ghost use Rattle.xm_rules.specs.Commands.{has_prices_in_range, is_bad_combination, is_book_or_cancel, is_for_trading, is_in_range, is_limit, is_stop, member_of, order_kind, trigger_of};
 ghost use Rattle.xm_rules.specs.Refusals.{is_allowed, is_given_in_range};
 
 use crate::orders::{OrderKind, Restriction, Side, Validity};
@@ -49,6 +49,16 @@ impl Kind {
         }
     }
 
+    /// Whether it is a limit order, and no stop.
+    pub fn is_limit(&self) -> bool
+        ensures { result ≡ is_limit self.now }
+    {
+        match self {
+            Kind::Limit(_) => true,
+            Kind::Market | Kind::StopMarket(_) | Kind::StopLimit { .. } => false,
+        }
+    }
+
     /// The trigger of a stop, in ticks.
     pub fn trigger_of(self) -> Option<u32>
         ensures { result ≡ trigger_of self }
@@ -84,37 +94,50 @@ impl Kind {
     }
 }
 
-/// What becomes of the part of an order that isn't executed at once.
+/// What an order asks for as it comes in.
 #[derive(Clone, Copy, PartialEq, Eq, Hash, Debug)]
 pub enum Condition {
-    /// It joins the book.
+    /// Nothing: what isn't executed at once joins the book.
     Plain,
-    /// Immediate or cancel: it is deleted.
+    /// Immediate or cancel: what isn't executed at once is deleted.
     Ioc,
     /// Fill or kill: the order is executed whole or not at all.
     Fok,
+    /// Book or cancel: the order joins the book, and isn't executed at once.
+    Boc,
 }
 
 impl Condition {
-    /// Whether nothing of the order joins the book: immediate-or-cancel, or fill-or-kill.
-    pub fn is_immediate(self) -> bool
-        ensures { result ≡ is_immediate self }
+    /// Whether an order on this condition comes in only in continuous trading: each but the plain one.
+    pub fn is_for_trading(self) -> bool
+        ensures { result ≡ is_for_trading self }
     {
         match self {
             Condition::Plain => false,
-            Condition::Ioc | Condition::Fok => true,
+            Condition::Ioc | Condition::Fok | Condition::Boc => true,
         }
     }
 
-    /// Whether an entry has more than one of an immediate condition, a trigger and a restriction.
+    /// Whether an order on this condition may not be executed as it comes in.
+    pub fn is_book_or_cancel(self) -> bool
+        ensures { result ≡ is_book_or_cancel self }
+    {
+        match self {
+            Condition::Plain | Condition::Ioc | Condition::Fok => false,
+            Condition::Boc => true,
+        }
+    }
+
+    /// Whether an entry of this kind and restriction can't have the condition: of a condition, a trigger and a restriction
+    /// it has one at most, and a book-or-cancel order has a limit.
     pub fn is_bad_combination(self, kind: Kind, restriction: Restriction) -> bool
         ensures { result ≡ is_bad_combination self kind restriction }
     {
         let restricted = !restriction.is_free();
-        if self.is_immediate() {
-            restricted || kind.is_stop()
-        } else {
-            kind.is_stop() && restricted
+        match self {
+            Condition::Plain => kind.is_stop() && restricted,
+            Condition::Ioc | Condition::Fok => kind.is_stop() || restricted,
+            Condition::Boc => !kind.is_limit() || restricted,
         }
     }
 }

@@ -1,4 +1,5 @@
 //! What the definitions give on worked examples. Each function promises one by its contract.
+pub mod book_or_cancel;
 pub mod calls;
 pub mod days;
 pub mod refusals;

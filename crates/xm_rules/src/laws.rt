@@ -11,17 +11,22 @@ ghost use Rattle.xm_rules.specs.Quote.{best_limit};
 ghost use Rattle.xm_rules.specs.Refusals.{refusal_of};
 ghost use Rattle.xm_rules.specs.Settling.{is_reached, settle, settle_in};
 ghost use Rattle.xm_rules.specs.State.{State, ranges, ref1, inside_both, inside_wide};
-ghost use Rattle.xm_rules.specs.Step.{Journal, come_under, replay, is_lawful, uncrossed, new_trades};
+ghost use Rattle.xm_rules.specs.Step.{Journal, come_under, entered_order, replay, is_lawful, step, uncrossed, new_trades};
 ghost use Rattle.xm_rules.specs.Sums.{AreWithinLimits, IsBetweenMembers, bought, over_members, paid, received, sold, total_money, total_quantity};
 ghost use Rattle.xm_rules.specs.Sweep.{Sweep, filled, rest_after, sweep_trades, orders_after_sweep};
 ghost use Rattle.xm_rules.specs.declared.commands.Command.{Command};
+ghost use Rattle.xm_rules.specs.declared.commands.Command.TheVariants.{Enter};
 ghost use Rattle.xm_rules.specs.declared.commands.Condition.{Condition};
+ghost use Rattle.xm_rules.specs.declared.commands.Condition.TheVariants.{Boc};
+ghost use Rattle.xm_rules.specs.declared.commands.Kind.{Kind};
 ghost use Rattle.xm_rules.specs.declared.orders.Order.{Order};
+ghost use Rattle.xm_rules.specs.declared.orders.Restriction.{Restriction};
 ghost use Rattle.xm_rules.specs.declared.orders.Side.{Side};
 ghost use Rattle.xm_rules.specs.declared.orders.Side.TheVariants.{Buy, Sell};
 ghost use Rattle.xm_rules.specs.declared.orders.Stop.{Stop};
 ghost use Rattle.xm_rules.specs.declared.orders.Trade.{Trade};
 ghost use Rattle.xm_rules.specs.declared.orders.TradeKind.TheVariants as made;
+ghost use Rattle.xm_rules.specs.declared.orders.Validity.{Validity};
 ghost use Rattle.xm_rules.specs.declared.phases.Auction.{Auction};
 ghost use Rattle.xm_rules.specs.declared.phases.Auction.TheVariants.{Interruption};
 ghost use Rattle.xm_rules.specs.declared.phases.CallStage.{CallStage};
@@ -175,7 +180,7 @@ pub fn every_purchase_of_a_lawful_journal_is_a_sale()
         over_members j.settings.members (λ m. paid m trades) ≡ total_money trades }
 {}
 
-// ---- Five laws of the replay of every lawful journal, through calls, cascades of stops and interruptions.
+// ---- Six laws of the replay of every lawful journal, through calls, cascades of stops and interruptions.
 // Those that don't ask that it is lawful hold of any journal.
 
 /// In continuous trading no two active orders of a lawful journal meet, also right after a call, a cascade of stops or an
@@ -210,6 +215,19 @@ pub fn journals_end_calls_inside_the_ranges_of_their_stage()
 pub fn journals_hold_no_reached_stop()
     ensures held { (j : Journal) → All (λ (stop : Stop). is_reached (ref1 (replay j)) stop ≡ false) (replay j).stops }
     ensures pending { (s : State) (pending : List Stop) (more : ℕ) → settle_in (length s.stops + length pending + more) s pending ≡ settle s pending }
+{}
+
+/// A book-or-cancel order that a lawful journal takes adds no trade, also by no stop: it joins the live orders last, with all its
+/// units, and has the number of a sweep.
+pub fn book_or_cancel_orders_join_last()
+    ensures { (j : Journal) (member reference quantity : ℕ) (side : Side) (kind : Kind) (validity : Validity) (restriction : Restriction)
+        → let s = replay j in let c = Enter member reference side kind quantity validity restriction Boc in
+        is_lawful j ≡ true → refusal_of s c ≡ None
+        → step s c ≡ record s {
+          accepted = s.accepted + 1;
+          orders = s.orders ++ entered_order member reference side kind quantity validity restriction ∷ [];
+          sweeps = s.sweeps + 1;
+        } }
 {}
 
 /// In the state of a lawful journal no two live orders or held stops have one name.

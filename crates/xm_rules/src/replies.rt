@@ -5,7 +5,8 @@ use crate::phases::Phase;
 use xm_memory::OutOfMemory;
 use xm_ticks::Price;
 
-/// Why a command is refused, in the order of the checks. A refusal changes nothing.
+/// Why a command is refused, in the order of the checks, in which `WouldExecute` stands before `JournalFull`. A refusal changes
+/// nothing.
 #[derive(Clone, Copy, PartialEq, Eq, Hash, Debug)]
 pub enum Refusal {
     /// The index of the security is out of the segment.
@@ -20,10 +21,11 @@ pub enum Refusal {
     BadPrice,
     /// The order would be valid till a date before today.
     BadValidity,
-    /// An immediate-or-cancel or fill-or-kill order with a restriction or a stop, or a stop with a
-    /// restriction.
+    /// An immediate-or-cancel, fill-or-kill or book-or-cancel order with a restriction or a stop, a
+    /// book-or-cancel market order, or a stop with a restriction.
     BadCombination,
-    /// A command of the phases, or an immediate-or-cancel or fill-or-kill order, outside its phase.
+    /// A command of the phases, or an immediate-or-cancel, fill-or-kill or book-or-cancel order, outside
+    /// its phase.
     WrongPhase,
     /// The member has a live order or a held stop with this reference.
     DuplicateReference,
@@ -37,6 +39,8 @@ pub enum Refusal {
     JournalFull,
     /// A growth was refused.
     OutOfMemory(OutOfMemory),
+    /// A book-or-cancel order that an active order of the other side would meet.
+    WouldExecute,
 }
 
 impl From<OutOfMemory> for Refusal {
