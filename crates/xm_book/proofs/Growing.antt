@@ -2,7 +2,7 @@
 use Rattle.std.proofs.Common.{◌≡◌, ℕ, ◌+◌, ◌-◌, ◌<◌, ◌≤◌, Bool, true, false, ◌&&◌, List, length, get_or, count_by, Option, None, Some, refl, sym, subst, arith}
 use Rattle.std.proofs.lemmas.Bool.{and_parts}
 use Rattle.xm_book.specs.Places.{same_place}
-use Rattle.xm_book.specs.Queued.{HasKindOf, HasPlaces, HoldsLevel, AreOrdersQueued, is_limit, is_limit_in, orders_of_level}
+use Rattle.xm_book.specs.Queued.{HasKindOf, HasPlaces, HoldsLevel, AreOrdersQueued, is_limit_kind, is_limit_in, orders_of_level}
 use Rattle.xm_book.specs.Reserved.{Gains}
 use Rattle.xm_slots.specs.Slots.{SlotsView}
 use Rattle.xm_slots.specs.declared.listing.Listed.{Listed}
@@ -51,14 +51,14 @@ module _ {A : Type 0} (xs : List (Listed Order)) (entries : SlotsView Order) (li
 
   module _ (rooms : (s : Side) (r : Restriction) (k : OrderKind) (n : ℕ) → HasLevels (ladder_on r (side_of s ladders)) k n → HasLevels (ladder_on r (side_of s ladders')) k n)
       (ps : List Place) (h : HasPlaces xs ps entries ladders) (p : Place) (qs : List Place) (gain : Gains p ps qs) (kind : HasKindOf ladders' p)
-      (room : (k : OrderKind) → is_limit p.kind ≡ true → HasLevels (ladder_on p.restriction (side_of p.side ladders')) k (length ps + 1)) where
+      (room : (k : OrderKind) → is_limit_kind p.kind ≡ true → HasLevels (ladder_on p.restriction (side_of p.side ladders')) k (length ps + 1)) where
     kinds_if : (q : Place) (b : Bool) → same_place q p ≡ b → 0 < count_by (same_place q) qs → HasKindOf ladders' q
     kinds_if q true e c = subst (λ (z : Place). HasKindOf ladders' z) (sym (same_place-is q p e)) kind
     kinds_if q false e c = kinds q.side q.restriction q.kind (h.kinds_room q (omega (arith, c, kept-once (same_place q) false p ps qs gain e)))
 
     room_if : (s : Side) (r : Restriction) (k : OrderKind) (n : ℕ) (b : Bool) → is_limit_in s r p ≡ b → n < count_by (is_limit_in s r) qs → HasLevels (ladder_on r (side_of s ladders')) k (n + 1)
     room_if s r k n true e lt =
-        let parts = and_parts (same_side s p.side && same_restriction r p.restriction) (is_limit p.kind) e in
+        let parts = and_parts (same_side s p.side && same_restriction r p.restriction) (is_limit_kind p.kind) e in
         let ladder = and_parts (same_side s p.side) (same_restriction r p.restriction) parts.0 in
         let side : s ≡ p.side = side-is s p.side ladder.0 in
         let restriction : r ≡ p.restriction = restriction-is r p.restriction ladder.1 in

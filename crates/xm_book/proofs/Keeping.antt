@@ -7,7 +7,7 @@ use Rattle.xm_book.specs.Levels.{level_for}
 use Rattle.xm_slots.specs.Listing.{rises}
 use Rattle.xm_book.specs.Listing.{reduced_at}
 use Rattle.xm_book.specs.Places.{place_of, same_place}
-use Rattle.xm_book.specs.Queued.{HasPlaces, is_limit, is_limit_in}
+use Rattle.xm_book.specs.Queued.{HasPlaces, is_limit_kind, is_limit_in}
 use Rattle.xm_book.specs.Reserved.{Gains}
 use Rattle.xm_slots.specs.Slots.{SlotsView}
 use Rattle.xm_slots.specs.declared.listing.Listed.{Listed}
@@ -90,7 +90,7 @@ module _ {A : Type 0} (xs : List (Listed Order)) (ps : List Place) (entries : Sl
       room_for : (k : OrderKind) → o.kind ≡ k → HasLevels (ladder_on o.restriction (side_of o.side ladders)) k 1
       room_for Market e = tt
       room_for (Limit p) e =
-          let one = kept-once (is_limit_in o.side o.restriction) true (place_of o) qs ps gain (λ i. (side-itself o.side i && restriction-itself o.restriction i) && is_limit (e i)) in
+          let one = kept-once (is_limit_in o.side o.restriction) true (place_of o) qs ps gain (λ i. (side-itself o.side i && restriction-itself o.restriction i) && is_limit_kind (e i)) in
           subst (λ (n : ℕ). HasLevels (ladder_on o.restriction (side_of o.side ladders)) (Limit p) n) (let z : 0 + 1 ≡ 1 = refl in z)
           (h.levels_room o.side o.restriction (Limit p) 0 (omega (arith, one)))
 
@@ -101,7 +101,7 @@ module _ {A : Type 0} (xs : List (Listed Order)) (ps : List Place) (entries : Sl
       (other : (s : Side) (r : Restriction) → (same_side s o.side && same_restriction r o.restriction) ≡ false → ladder_on r (side_of s ladders') ≡ ladder_on r (side_of s ladders)) where
     -- room for a level where its side and restriction have a place
     room-left : (s : Side) (r : Restriction) (k : OrderKind) (n : ℕ) (b : Bool) (kind : OrderKind) → o.kind ≡ kind → (same_side s o.side && same_restriction r o.restriction) ≡ b
-        → count_by (is_limit_in s r) ps ≡ (if b && is_limit kind then 1 else 0) + count_by (is_limit_in s r) qs → n < count_by (is_limit_in s r) qs → HasLevels (ladder_on r (side_of s ladders')) k (n + 1)
+        → count_by (is_limit_in s r) ps ≡ (if b && is_limit_kind kind then 1 else 0) + count_by (is_limit_in s r) qs → n < count_by (is_limit_in s r) qs → HasLevels (ladder_on r (side_of s ladders')) k (n + 1)
     room-left s r k n true (Limit p) e t c lt = used s r k (n + 1) (h.levels_room s r k (n + 1) (omega (arith, c, lt)))
     room-left s r k n true Market e t c lt = kept (there o.kind e) s r k (n + 1) (h.levels_room s r k n (omega (arith, c, lt)))
       where
@@ -116,5 +116,5 @@ module _ {A : Type 0} (xs : List (Listed Order)) (ps : List Place) (entries : Sl
       entries_room = omega (arith, h.entries_room, Gains-length (place_of o) qs ps gain, length-append xs (x ∷ []));
       kinds_room = λ q c. kinds q.side q.restriction q.kind (h.kinds_room q (omega (arith, gain.counts (same_place q), count_one (same_place q) (place_of o) qs)));
       levels_room = λ s r k n lt. room-left s r k n (same_side s o.side && same_restriction r o.restriction) o.kind refl refl
-          (kept-once (is_limit_in s r) ((same_side s o.side && same_restriction r o.restriction) && is_limit o.kind) (place_of o) qs ps gain refl) lt;
+          (kept-once (is_limit_in s r) ((same_side s o.side && same_restriction r o.restriction) && is_limit_kind o.kind) (place_of o) qs ps gain refl) lt;
     }

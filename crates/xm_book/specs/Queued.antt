@@ -68,13 +68,13 @@ pub record AreOrdersQueued {A : Type 0} (xs : List (Listed Order)) (entries : Sl
   pub levels : (s : Side) (r : Restriction) (k : OrderKind) → HoldsLevel links (level_on (side_of s ladders) r k) (orders_of_level s r k xs)
   pub fits : entries.capacity ≤ key_limit links
 
-abbrev pub is_limit : OrderKind → Bool
-is_limit Market = false
-is_limit (Limit p) = true
+abbrev pub is_limit_kind : OrderKind → Bool
+is_limit_kind Market = false
+is_limit_kind (Limit p) = true
 
 -- a place that may take a level of a side and restriction
 abbrev pub is_limit_in : Side → Restriction → Place → Bool
-is_limit_in side r p = (same_side side p.side && same_restriction r p.restriction) && is_limit p.kind
+is_limit_in side r p = (same_side side p.side && same_restriction r p.restriction) && is_limit_kind p.kind
 
 -- the place's kind has room in its ladder
 abbrev pub HasKindOf : {A : Type 0} → Ladders A → Place → Type 0

@@ -1,7 +1,7 @@
 //! The level of an order.
 ghost use Rattle.std.specs.Prelude.{◌≡◌, if◌then◌else◌, ℕ, ◌+◌, ◌<◌, ◌≤◌, ◌^◌, ◌&&◌, IsSome, IsTrue, None, OnOk, Some, false};
 ghost use Rattle.xm_book.specs.Levels.{IsLevelFound, IsLevelSet, at_level, level_for, level_joined, level_left};
-ghost use Rattle.xm_book.specs.Queued.{HasKindOf, is_limit};
+ghost use Rattle.xm_book.specs.Queued.{HasKindOf, is_limit_kind};
 ghost use Rattle.xm_ladders.specs.Ladder.{HasKind, HasLevels, IsCleared, level_of};
 ghost use Rattle.xm_ladders.specs.Ladders.{ladder_on, level_on, side_of};
 ghost use Rattle.xm_ladders.specs.declared.level.Level.{Level};
@@ -161,7 +161,7 @@ pub fn reserve_level<A: Allocator + Copy>(
     levels: usize,
 ) -> Result<(), OutOfMemory>
     ensures kind { OnOk result (HasKindOf ladders.new place.now) }
-    ensures room { OnOk result ((k : OrderKind) → IsTrue (is_limit place.now.kind) → HasLevels (ladder_on place.now.restriction (side_of place.now.side ladders.new)) k levels) }
+    ensures room { OnOk result ((k : OrderKind) → IsTrue (is_limit_kind place.now.kind) → HasLevels (ladder_on place.now.restriction (side_of place.now.side ladders.new)) k levels) }
     ensures kinds_kept { (s : Side) (r : Restriction) (k : OrderKind) → HasKind (ladder_on r (side_of s ladders.old)) k → HasKind (ladder_on r (side_of s ladders.new)) k }
     ensures room_kept { (s : Side) (r : Restriction) (k : OrderKind) (n : ℕ) → HasLevels (ladder_on r (side_of s ladders.old)) k n → HasLevels (ladder_on r (side_of s ladders.new)) k n }
     ensures same { (s : Side) (r : Restriction) (k : OrderKind) → level_on (side_of s ladders.new) r k ≡ level_on (side_of s ladders.old) r k }
