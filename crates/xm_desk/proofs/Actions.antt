@@ -11,7 +11,7 @@ use Rattle.xm_desk.specs.declared.accepted.Action.TheVariants as action
 use Rattle.xm_rules.proofs.Accepted.{change-accepted, entry-accepted}
 use Rattle.xm_rules.proofs.Ranges.{range_high}
 use Rattle.xm_rules.specs.Auction.{auction_price}
-use Rattle.xm_rules.specs.Commands.{has_prices_in_range, is_immediate, is_in_range, trigger_of}
+use Rattle.xm_rules.specs.Commands.{has_prices_in_range, is_for_trading, is_in_range, trigger_of}
 use Rattle.xm_rules.specs.Orders.{is_named, with_rest}
 use Rattle.xm_rules.specs.Refusals.{has_order, has_stop, refusal_of}
 use Rattle.xm_rules.specs.Settling.{come, is_continuous}
@@ -102,7 +102,7 @@ module _ (s : State) (member reference : ℕ) (side : Side) (k : Kind) (quantity
         can = record {
           name = passes.no_order;
           rest = passes.quantity;
-          immediate = λ ioc. immediate_if (is_continuous s.phase) (ap (λ (c : Condition). is_immediate c && not (is_continuous s.phase)) (sym ioc) ∙ passes.in_phase);
+          immediate = λ ioc. immediate_if (is_continuous s.phase) (ap (λ (c : Condition). is_for_trading c && not (is_continuous s.phase)) (sym ioc) ∙ passes.in_phase);
         };
       }
   entry_if (Some trigger) e h =

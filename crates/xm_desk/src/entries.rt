@@ -33,7 +33,7 @@ impl EntryFields {
     }
 
     /// The order that is entered, or that the stop becomes. The prices are in range.
-    fn order(&self) -> Order
+    pub fn order(&self) -> Order
         requires { IsTrue (has_prices_in_range self.now.kind) }
         ensures { result ≡ order_in self.now }
     {

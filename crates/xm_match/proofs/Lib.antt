@@ -3,6 +3,7 @@ mod Covering
 mod Cuts
 mod Ending
 mod Lists
+mod Meetings
 mod NextTrade
 mod Progress
 mod Trading

@@ -7,4 +7,5 @@ mod sweeping;
 mod terms;
 
 pub use crate::filling::fillable;
+pub use crate::meeting::would_execute;
 pub use crate::sweeping::{Swept, sweep};

@@ -1,6 +1,7 @@
 //! What an incoming order meets next.
 ghost use Rattle.std.specs.Prelude.{◌≡◌, ◌≤◌};
-ghost use Rattle.xm_match.specs.Meeting.{is_outside, next_met};
+ghost use Rattle.xm_match.specs.Meeting.{is_outside, meets_any, next_met};
+ghost use Rattle.xm_rules.specs.Crossing.{would_execute};
 ghost use Rattle.xm_ticks.specs.declared.ranges.TheConstants.{MAX_WIDTH};
 
 use crate::terms::Terms;
@@ -28,6 +29,25 @@ impl Next {
             Next::Outside => true,
             _ => false,
         }
+    }
+}
+
+/// Whether an order that comes in in continuous trading would be executed: an active order of the other side meets it, inside
+/// the ranges or not. It takes no memory.
+pub fn would_execute<A: Allocator + Copy>(book: &Book<A>, order: &Order) -> bool
+    ensures { result ≡ would_execute book.now.orders order.now.side order.now.kind }
+{
+    meets_any(book, order)
+}
+
+/// Whether an incoming order meets the best order of the other side, inside the ranges or not.
+#[inline(always)]
+pub fn meets_any<A: Allocator + Copy>(book: &Book<A>, incoming: &Order) -> bool
+    ensures { result ≡ meets_any book.now.orders incoming.now }
+{
+    match book.best_kind(incoming.side.opposite(), Phase::Continuous) {
+        None => false,
+        Some(kind) => incoming.kind.meets(incoming.side, kind),
     }
 }
 

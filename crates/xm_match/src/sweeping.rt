@@ -1,14 +1,14 @@
 //! The sweep of continuous trading: an incoming order takes the orders of the other side, the best first.
 ghost use Rattle.std.specs.Prelude.{◌≡◌, ◌+◌, ◌++◌, ◌≤◌, length};
-ghost use Rattle.xm_match.specs.Meeting.{EachUsesUp, meets_any, sweep_over, trade_up_to};
+ghost use Rattle.xm_match.specs.Meeting.{EachUsesUp, sweep_over, trade_up_to};
 ghost use Rattle.xm_rules.specs.Sweep.{filled, is_interrupted, orders_after_sweep, rest_after, sweep_trades};
 ghost use Rattle.xm_ticks.specs.declared.ranges.TheConstants.{MAX_WIDTH};
 
-use crate::meeting::{Next, next_met};
+use crate::meeting::{Next, meets_any, next_met};
 use crate::terms::Terms;
 use std::alloc::Allocator;
 use xm_book::{Book, Trades};
-use xm_rules::{Order, Phase, Trade, TradeKind, Widths};
+use xm_rules::{Order, Trade, TradeKind, Widths};
 use xm_ticks::Price;
 
 /// What a sweep came to.
@@ -54,17 +54,6 @@ pub fn sweep<A: Allocator + Copy, B: Allocator>(
         filled: 0,
         rest: incoming.rest,
         interrupted: false,
-    }
-}
-
-/// Whether an incoming order meets an order of the other side, inside the ranges or not.
-#[inline(always)]
-fn meets_any<A: Allocator + Copy>(book: &Book<A>, incoming: &Order) -> bool
-    ensures { result ≡ meets_any book.now.orders incoming.now }
-{
-    match book.best_kind(incoming.side.opposite(), Phase::Continuous) {
-        None => false,
-        Some(kind) => incoming.kind.meets(incoming.side, kind),
     }
 }
 

@@ -5,7 +5,7 @@ use Rattle.std.proofs.Math.Seq.{drop-cons}
 use Rattle.std.proofs.lemmas.List.{length-append, length-set, length-take-le, take_all, take_more}
 use Rattle.std.proofs.lemmas.List.Sums.{get_or-le-sum_by, sum_by-set}
 use Rattle.xm_rules.specs.declared.replies.Refusal.{Refusal}
-use Rattle.xm_rules.specs.declared.replies.Refusal.TheVariants.{UnknownSecurity, UnknownMember, DayEnded, BadQuantity, BadPrice, BadValidity, BadCombination, WrongPhase, DuplicateReference, UnknownOrder, NotChangeable, TriggerReached, JournalFull, OutOfMemory}
+use Rattle.xm_rules.specs.declared.replies.Refusal.TheVariants.{UnknownSecurity, UnknownMember, DayEnded, BadQuantity, BadPrice, BadValidity, BadCombination, WrongPhase, DuplicateReference, UnknownOrder, NotChangeable, TriggerReached, JournalFull, OutOfMemory, WouldExecute}
 use Rattle.xm_rules.specs.declared.replies.Reply.{Reply}
 use Rattle.xm_rules.specs.declared.settings.DeskSettings.{DeskSettings}
 use Rattle.xm_segment.proofs.Lanes.{accepted-raises, known-or, quantity-raises, refused-counts}
@@ -57,10 +57,10 @@ report-push r (a ∷ as') answer = report-push (with_answer_in r a) as' answer
 
 -- each of so many answers stands at one place
 pub record Counts (n : ℕ) (r : WorkerReport) : Type 0 where
-  pub places : length r.refused ≡ 14
+  pub places : length r.refused ≡ 15
   pub counted : r.accepted + sum r.refused ≡ n
 
-pub place-within : (e : Refusal) → refusal_place e < 14
+pub place-within : (e : Refusal) → refusal_place e < 15
 place-within UnknownSecurity = omega arith
 place-within UnknownMember = omega arith
 place-within DayEnded = omega arith
@@ -75,6 +75,7 @@ place-within NotChangeable = omega arith
 place-within TriggerReached = omega arith
 place-within JournalFull = omega arith
 place-within (OutOfMemory _) = omega arith
+place-within WouldExecute = omega arith
 
 pub counts-more : (n : ℕ) (r : WorkerReport) (a : Result Reply Refusal) → Counts n r → Counts (n + 1) (with_answer_in r a)
 counts-more n r (Ok reply) c = record { places = c.places; counted = omega (arith, c.counted) }
@@ -146,6 +147,7 @@ want-told report (Err UnknownOrder) lacks none = cc
 want-told report (Err NotChangeable) lacks none = cc
 want-told report (Err TriggerReached) lacks none = cc
 want-told report (Err JournalFull) lacks none = cc
+want-told report (Err WouldExecute) lacks none = cc
 
 -- a row that is answered next
 module _ (settings : List DeskSettings) (before seat next : SeatView) (rows : List Row) (row : Row) (answer : Result Reply Refusal) (report : WorkerReport) (w : IsWorked settings before rows seat report)

@@ -1,11 +1,11 @@
 -- What a worker's report counts.
 use Rattle.std.specs.Prelude.{ℕ, ◌+◌, ◌<◌, ◌^◌, List, [], ◌∷◌, slice_index, slice_set, Option, None, Some, Result, Ok, Err}
 use Rattle.xm_rules.specs.declared.replies.Refusal.{Refusal}
-use Rattle.xm_rules.specs.declared.replies.Refusal.TheVariants.{UnknownSecurity, UnknownMember, DayEnded, BadQuantity, BadPrice, BadValidity, BadCombination, WrongPhase, DuplicateReference, UnknownOrder, NotChangeable, TriggerReached, JournalFull, OutOfMemory}
+use Rattle.xm_rules.specs.declared.replies.Refusal.TheVariants.{UnknownSecurity, UnknownMember, DayEnded, BadQuantity, BadPrice, BadValidity, BadCombination, WrongPhase, DuplicateReference, UnknownOrder, NotChangeable, TriggerReached, JournalFull, OutOfMemory, WouldExecute}
 use Rattle.xm_rules.specs.declared.replies.Reply.{Reply}
 use Rattle.xm_segment.specs.declared.working.WorkerReport.{WorkerReport}
 
--- the place of a refusal in the order of the checks
+-- the place of a refusal in a report
 abbrev pub refusal_place : Refusal → ℕ
 refusal_place UnknownSecurity = 0
 refusal_place UnknownMember = 1
@@ -21,9 +21,10 @@ refusal_place NotChangeable = 10
 refusal_place TriggerReached = 11
 refusal_place JournalFull = 12
 refusal_place (OutOfMemory _) = 13
+refusal_place WouldExecute = 14
 
 abbrev pub no_report : WorkerReport
-no_report = record { accepted = 0; refused = 0 ∷ 0 ∷ 0 ∷ 0 ∷ 0 ∷ 0 ∷ 0 ∷ 0 ∷ 0 ∷ 0 ∷ 0 ∷ 0 ∷ 0 ∷ 0 ∷ []; quantity = 0; wanting = None }
+no_report = record { accepted = 0; refused = 0 ∷ 0 ∷ 0 ∷ 0 ∷ 0 ∷ 0 ∷ 0 ∷ 0 ∷ 0 ∷ 0 ∷ 0 ∷ 0 ∷ 0 ∷ 0 ∷ 0 ∷ []; quantity = 0; wanting = None }
 
 -- a report with one more at this place
 abbrev pub raised_at : ℕ → List ℕ → List ℕ

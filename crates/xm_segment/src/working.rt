@@ -22,15 +22,15 @@ use xm_rules::{Refusal, Reply};
 pub const MAX_ROWS: usize = 1_000_000;
 
 /// How many refusals there are.
-pub const REFUSALS: usize = 14;
+pub const REFUSALS: usize = 15;
 
 /// What a worker's rows came to.
 #[derive(Clone, Copy, PartialEq, Eq, Debug)]
 pub struct WorkerReport {
     /// How many were accepted.
     pub accepted: u64,
-    /// How many were refused, by the place of the refusal in the order of the checks: that of an unknown security is 0, that
-    /// of want of memory, which is the last, 13.
+    /// How many were refused, by the place of the refusal among all, in the order in which `Refusal` has them: that of an
+    /// unknown security is 0, that of want of memory 13, and that of a book-or-cancel order that would execute 14.
     pub refused: [u64; REFUSALS],
     /// What the accepted ones traded, in units.
     pub quantity: u64,
@@ -69,7 +69,7 @@ impl WorkerReport {
     }
 }
 
-/// The place of a refusal in the order of the checks.
+/// The place of a refusal among all.
 fn place_of(refusal: &Refusal) -> usize
     ensures place { result ≡ refusal_place refusal.now }
     ensures within { result < REFUSALS }
@@ -89,6 +89,7 @@ fn place_of(refusal: &Refusal) -> usize
         Refusal::TriggerReached => 11,
         Refusal::JournalFull => 12,
         Refusal::OutOfMemory(_) => 13,
+        Refusal::WouldExecute => 14,
     }
 }
 

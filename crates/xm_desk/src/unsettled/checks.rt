@@ -11,6 +11,7 @@ use crate::entries::EntryFields;
 use crate::unsettled::Unsettled;
 use std::alloc::Allocator;
 use std::snapshot::Snapshot;
+use xm_match::would_execute;
 use xm_rules::{
     Auction, Command, Order, OrderKind, PHASE_COMMANDS_MORE, Phase, Refusal, Side,
     is_given_in_range, is_in_range,
@@ -116,16 +117,16 @@ impl<A: Allocator + Copy> Unsettled<A> {
             Some(Refusal::BadValidity)
         } else if condition.is_bad_combination(entry.kind, entry.restriction) {
             Some(Refusal::BadCombination)
-        } else if condition.is_immediate() && !self.phase.is_continuous() {
+        } else if condition.is_for_trading() && !self.phase.is_continuous() {
             Some(Refusal::WrongPhase)
         } else if !self.is_unknown_order(entry.member, entry.reference) {
             Some(Refusal::DuplicateReference)
+        } else if self.is_trigger_reached(entry.side, entry.kind.trigger_of()) {
+            Some(Refusal::TriggerReached)
+        } else if condition.is_book_or_cancel() && would_execute(&self.book, &entry.order()) {
+            Some(Refusal::WouldExecute)
         } else {
-            let trigger = entry.kind.trigger_of();
-            refusal_where(
-                self.is_trigger_reached(entry.side, trigger),
-                Refusal::TriggerReached,
-            )
+            None
         }
     }
 
@@ -260,11 +261,4 @@ fn change_of(order: &Order, quantity: u32, limit: Option<u32>) -> Action
     } else {
         Action::Replace(order.changed_order(quantity, limit))
     }
-}
-
-/// The refusal of one check that fails, or none.
-fn refusal_where(fails: bool, refusal: Refusal) -> Option<Refusal>
-    ensures { result ≡ (if fails then Some refusal else None) }
-{
-    if fails { Some(refusal) } else { None }
 }

@@ -30,7 +30,7 @@ impl<A: Allocator + Copy> Unsettled<A> {
         ensures made { Makes self.old self.new }
     {
         match condition {
-            Condition::Plain => self.come(order),
+            Condition::Plain | Condition::Boc => self.come(order),
             Condition::Ioc => self.execute_or_kill(order),
             Condition::Fok => self.fill_or_kill(order),
         }
