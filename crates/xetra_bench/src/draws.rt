@@ -56,11 +56,12 @@ impl Draws {
         }
     }
 
-    /// A condition: each of the two immediate ones in one of so many cases.
-    pub fn condition(&mut self, cases: u32) -> Condition {
+    /// A condition: each of the two immediate ones in one of so many cases, and book or cancel in so many of them.
+    pub fn condition(&mut self, cases: u32, book_or_cancel: u32) -> Condition {
         match self.below(cases) {
             0 => Condition::Ioc,
             1 => Condition::Fok,
+            case if case.wrapping_sub(2) < book_or_cancel => Condition::Boc,
             _ => Condition::Plain,
         }
     }

@@ -6,7 +6,7 @@ use crate::loads::{LoadFault, Loaded, Opening};
 use crate::records::is_interruption;
 use std::alloc::Global;
 use xm_rules::{
-    Auction, CallStage, Command, Condition, Kind, Phase, Reply, Restriction, Side, Widths,
+    Auction, CallStage, Command, Condition, Kind, Phase, Refusal, Reply, Restriction, Side, Widths,
 };
 
 /// How many members enter orders.
@@ -28,6 +28,9 @@ const COUNT_EVERY: usize = 1_000;
 
 /// The units of a lot.
 const LOT: u32 = 10;
+
+/// How many ticks behind the best limit of the other side quotes lie, at most; those at none would execute.
+const QUOTED: u32 = 9;
 
 /// The greatest distance of a limit that is drawn, in ticks.
 const FARTHEST: u32 = 1_000;
@@ -53,16 +56,19 @@ pub enum Shape {
     Crossing,
     /// Large calls, one after the other.
     Auction,
-    /// Orders of all conditions and restrictions, in continuous trading and in few calls.
+    /// Orders of all restrictions and immediate ones, in continuous trading and in few calls.
     Mixed,
+    /// Book-or-cancel orders quote both sides, and are cancelled and changed, while other orders cross the spread.
+    Quoting,
 }
 
 /// The shapes with their names.
-pub const SHAPES: [(Shape, &str); 4] = [
+pub const SHAPES: [(Shape, &str); 5] = [
     (Shape::Passive, "passive"),
     (Shape::Crossing, "crossing"),
     (Shape::Auction, "auction"),
     (Shape::Mixed, "mixed"),
+    (Shape::Quoting, "quoting"),
 ];
 
 impl Shape {
@@ -101,6 +107,15 @@ pub struct Course {
     pub uncrosses: u64,
     /// The largest number of live orders.
     pub book: u64,
+    /// Book-or-cancel orders that joined the book.
+    pub quotes: u64,
+    /// Those that were refused since they would execute.
+    pub refused: u64,
+}
+
+/// Whether nothing of an order on this condition joins the book.
+fn is_immediate(condition: Condition) -> bool {
+    matches!(condition, Condition::Ioc | Condition::Fok)
 }
 
 impl Course {
@@ -112,11 +127,13 @@ impl Course {
                 condition,
                 ..
             } => {
-                let is_immediate = condition.is_immediate();
+                let is_immediate = is_immediate(*condition);
                 let is_killed = is_immediate && reply.quantity < u64::from(*quantity);
                 self.trading = self.trading.wrapping_add(u64::from(reply.trades > 0));
                 self.immediate = self.immediate.wrapping_add(u64::from(is_immediate));
                 self.killed = self.killed.wrapping_add(u64::from(is_killed));
+                let is_quote = condition.is_book_or_cancel();
+                self.quotes = self.quotes.wrapping_add(u64::from(is_quote));
             }
             Command::Uncross => self.uncrosses = self.uncrosses.wrapping_add(1),
             _ => {}
@@ -170,6 +187,8 @@ impl Flow {
                 killed: 0,
                 uncrosses: 0,
                 book: 0,
+                quotes: 0,
+                refused: 0,
             },
             is_whole: true,
         }
@@ -218,8 +237,12 @@ impl Flow {
     /// Gives the desk a command, and keeps it: a refusal is part of the load.
     fn give(&mut self, loaded: &mut Loaded, command: Command) {
         let was_in_call = loaded.is_in_call();
-        if let Ok(reply) = loaded.apply(&command) {
-            self.course.add(&command, &reply);
+        match loaded.apply(&command) {
+            Ok(reply) => self.course.add(&command, &reply),
+            Err(Refusal::WouldExecute) => {
+                self.course.refused = self.course.refused.wrapping_add(1);
+            }
+            Err(_) => {}
         }
         let is_interrupted = !was_in_call && is_interruption(loaded.phase());
         self.course.interruptions = self
@@ -273,6 +296,7 @@ impl Flow {
             Shape::Passive => self.passive(loaded),
             Shape::Crossing => self.crossing(loaded),
             Shape::Auction | Shape::Mixed => self.mixed(loaded),
+            Shape::Quoting => self.quoting(loaded),
         }
     }
 
@@ -282,7 +306,7 @@ impl Flow {
                 let lots = self.draws.from(1, 10);
                 self.cross(loaded, 0, lots, Condition::Plain)
             }
-            2..=11 => self.change(loaded),
+            2..=11 => self.change(loaded, None),
             12..=49 => self.cancel(loaded),
             50..=61 if self.names.len() >= BOOK => self.cancel(loaded),
             _ => {
@@ -326,10 +350,28 @@ impl Flow {
         }
     }
 
+    /// Quotes lie behind the best limit of the other side; an order of that side that is changed to such a limit may trade.
+    fn quoting(&mut self, loaded: &Loaded) -> Command {
+        let side = self.draws.side();
+        let ticks = self.draws.below(QUOTED + 1);
+        let limit = worse(side, loaded.touch(side.opposite()), ticks);
+        let lots = self.draws.from(1, 20);
+        match self.draws.below(100) {
+            0..=9 => self.cross(loaded, 3, lots, Condition::Plain),
+            10..=29 => self.cancel(loaded),
+            30..=39 => self.change(loaded, Some(limit)),
+            40..=61 if self.names.len() >= BOOK => self.cancel(loaded),
+            _ => {
+                let kind = Kind::Limit(limit);
+                self.enter(side, kind, lots, Restriction::Free, Condition::Boc)
+            }
+        }
+    }
+
     /// A command in a call: orders of both sides lie around the last price.
     fn call(&mut self, loaded: &Loaded) -> Command {
         match self.draws.below(100) {
-            0..=3 => self.change(loaded),
+            0..=3 => self.change(loaded, None),
             4..=19 => self.cancel(loaded),
             20..=44 if self.names.len() >= CALL_BOOK => self.cancel(loaded),
             _ => self.enter_in_call(loaded.last_price()),
@@ -374,7 +416,7 @@ impl Flow {
     /// An order of so many lots that crosses the spread, by up to so many ticks.
     fn cross(&mut self, loaded: &Loaded, deep: u32, lots: u32, condition: Condition) -> Command {
         let side = self.draws.side();
-        let kind = if !condition.is_immediate() && self.draws.is_one_in(7) {
+        let kind = if !is_immediate(condition) && self.draws.is_one_in(7) {
             Kind::Market
         } else {
             let other = side.opposite();
@@ -417,8 +459,8 @@ impl Flow {
         }
     }
 
-    /// A change of the quantity, which is less in most cases.
-    fn change(&mut self, loaded: &Loaded) -> Command {
+    /// A change of the quantity, which is less in most cases, and of the limit where one is given.
+    fn change(&mut self, loaded: &Loaded, limit: Option<u32>) -> Command {
         match self.live(loaded) {
             Some(place) if place < self.names.len() => {
                 let (member, reference) = self.names[place];
@@ -427,7 +469,7 @@ impl Flow {
                     member,
                     reference,
                     quantity,
-                    limit: None,
+                    limit,
                 }
             }
             _ => self.rest(loaded, 6, Restriction::Free),

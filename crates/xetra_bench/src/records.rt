@@ -149,7 +149,8 @@ fn place_of(refusal: Refusal) -> u64 {
         Refusal::NotChangeable => 10,
         Refusal::TriggerReached => 11,
         Refusal::JournalFull => 12,
-        _ => 13,
+        Refusal::OutOfMemory(_) => 13,
+        Refusal::WouldExecute => 14,
     }
 }
 

@@ -16,7 +16,7 @@ pub const MEASURED: u32 = 300_000;
 const RUNS: u32 = 5;
 
 const HEAD: &str =
-    "shape                         commands      accepted        trades       trading interruptions     immediate        killed         calls          book";
+    "shape                         commands      accepted        trades       trading interruptions     immediate        killed         calls          book        quotes       refused";
 
 /// Prints what the days of each shape did.
 pub fn count<R: AllocGlobal + Print + Clock>(rt: &R) -> Result<(), LoadFault> {
@@ -84,6 +84,7 @@ fn tell_course<R: Print>(rt: &R, flow: &Flow, name: &str) -> Result<(), LoadFaul
         course.killed,
     );
     let (uncrosses, book) = (course.uncrosses, course.book);
+    let (quotes, refused) = (course.quotes, course.refused);
     tell_figures(
         rt,
         name,
@@ -97,6 +98,8 @@ fn tell_course<R: Print>(rt: &R, flow: &Flow, name: &str) -> Result<(), LoadFaul
             killed,
             uncrosses,
             book,
+            quotes,
+            refused,
         ],
     )
 }

@@ -10,6 +10,9 @@ use xm_rules::{Command, Kind, MAX_NUMBER, Restriction, Side, Validity, Widths};
 /// After how many days what they did is told.
 const DAYS: [u32; 2] = [100, 1_000];
 
+/// The days with their names, and in how many of twelve cases an order is book or cancel.
+const LOADS: [(&str, u32); 2] = [("all commands", 0), ("all, book or cancel", 4)];
+
 const HEAD: &str =
     "shape                             days      accepted       refused interruptions stops came in  cut cascades        trades   orders left    stops left           sum";
 
@@ -29,6 +32,8 @@ const BAD: u32 = 40;
 #[derive(Drop)]
 struct Days {
     draws: Draws,
+    /// In how many of the cases of a condition an order is book or cancel.
+    book_or_cancel: u32,
     record: Record,
     /// How many days were run.
     run: u32,
@@ -40,10 +45,23 @@ struct Days {
     cut: u64,
 }
 
-/// Prints what the days did.
+/// Prints what the days of each load did.
 pub fn count<R: AllocGlobal + Print>(rt: &R) -> Result<(), LoadFault> {
+    tell_text(rt, HEAD)?;
+    for (name, book_or_cancel) in &LOADS {
+        count_days(rt, name, *book_or_cancel)?;
+    }
+    Ok(())
+}
+
+fn count_days<R: AllocGlobal + Print>(
+    rt: &R,
+    name: &str,
+    book_or_cancel: u32,
+) -> Result<(), LoadFault> {
     let mut days = Days {
         draws: Draws::new(SEED),
+        book_or_cancel,
         record: Record {
             sum: 0,
             accepted: 0,
@@ -59,10 +77,9 @@ pub fn count<R: AllocGlobal + Print>(rt: &R) -> Result<(), LoadFault> {
         reached: 0,
         cut: 0,
     };
-    tell_text(rt, HEAD)?;
     for wanted in &DAYS {
         run_to(rt, &mut days, *wanted)?;
-        tell(rt, &days)?;
+        tell(rt, &days, name)?;
     }
     Ok(())
 }
@@ -81,14 +98,14 @@ fn run_to<R: AllocGlobal>(rt: &R, days: &mut Days, wanted: u32) -> Result<(), Lo
     }
 }
 
-fn tell<R: Print>(rt: &R, days: &Days) -> Result<(), LoadFault> {
+fn tell<R: Print>(rt: &R, days: &Days, name: &str) -> Result<(), LoadFault> {
     let record = &days.record;
     let (accepted, refused) = (record.accepted, record.refused);
     let (interruptions, reached, cut) = (record.interruptions, days.reached, days.cut);
     let (trades, orders, stops) = (record.trades, record.orders, record.stops);
     tell_figures(
         rt,
-        "all commands",
+        name,
         &[
             u64::from(days.run),
             accepted,
@@ -245,7 +262,7 @@ impl Days {
             quantity: self.number(1, 6),
             validity: self.validity(),
             restriction: self.restriction(),
-            condition: self.draws.condition(12),
+            condition: self.draws.condition(12, self.book_or_cancel),
         }
     }
 
@@ -275,7 +292,7 @@ impl Days {
                 0 => Restriction::AuctionsOnly,
                 _ => Restriction::Free,
             },
-            condition: self.draws.condition(BAD),
+            condition: self.draws.condition(BAD, self.book_or_cancel),
         }
     }
 

@@ -48,6 +48,20 @@ macro_rules! enter {
     };
 }
 
+/// The entry of a book-or-cancel order for the day.
+macro_rules! boc {
+    ($side:ident, $member:expr, $reference:expr, $limit:expr, $quantity:expr) => {
+        enter!(
+            $side,
+            $member,
+            $reference,
+            Kind::Limit($limit),
+            $quantity,
+            Boc
+        )
+    };
+}
+
 /// The entry of a stop for the day, of this kind.
 macro_rules! stop {
     ($side:ident, $member:expr, $reference:expr, $kind:expr, $quantity:expr) => {

@@ -81,6 +81,9 @@ const STOP_LIMIT: Command = stop!(
 
 const BUY_STOP: Command = stop!(Buy, 0, 3, Kind::StopMarket(900_000), 1);
 
+/// A book-or-cancel order at a price far from all others.
+const BOOK_OR_CANCEL: Command = boc!(Sell, 1, 9, 700_000, 1);
+
 /// The next command of the day.
 macro_rules! next {
     ($before:ident, $commands:expr) => {
@@ -91,7 +94,7 @@ macro_rules! next {
 /// Where room was made ahead, commands ask for no more than their orders' places; where a sell and the journal have their room, a
 /// cascade of any length asks for nothing. A list first asks for room for its whole answer, and grows as it goes where it can't
 /// have that.
-const CALLS: [Counted<(Before, Call)>; 48] = [
+const CALLS: [Counted<(Before, Call)>; 49] = [
     ((Before::Commands(1), Call::OpenDesks(1)), 2, 0),
     ((Before::Commands(1), Call::OpenDesks(8)), 12, 0),
     ((Before::Commands(1), Call::Open), 1, 0),
@@ -131,6 +134,7 @@ const CALLS: [Counted<(Before, Call)>; 48] = [
     (next!(Ahead, 14), 0, 0),
     (next!(Ahead, 15), 0, 0),
     (next!(Ahead, 16), 0, 0),
+    ((Before::Commands(12), Call::Apply(BOOK_OR_CANCEL)), 2, 0),
     ((Before::Commands(17), Call::Orders), 1, 1),
     ((Before::Commands(11), Call::Orders), 1, 1),
     ((Before::Stops(8), Call::Stops), 2, 1),

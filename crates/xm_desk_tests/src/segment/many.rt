@@ -16,6 +16,9 @@ const WORKERS: usize = 64;
 /// Where a report counts the orders that are refused since the journal is full.
 const JOURNAL_FULL: usize = 12;
 
+/// Where it counts the book-or-cancel orders that would execute.
+const WOULD_EXECUTE: usize = 14;
+
 /// Which orders come.
 #[derive(Clone, Copy)]
 enum Orders {
@@ -23,6 +26,8 @@ enum Orders {
     Bids,
     /// Workers with even numbers buy what the others sell, at 1000.
     Crossing,
+    /// Each worker first sells at 1010, and then buys there, book or cancel.
+    BookOrCancel,
 }
 
 impl Orders {
@@ -32,6 +37,8 @@ impl Orders {
             Orders::Bids => buy!(worker, reference, 990, 1),
             Orders::Crossing if worker % 2 == 0 => buy!(worker, reference, 1000, 1),
             Orders::Crossing => sell!(worker, reference, 1000, 1),
+            Orders::BookOrCancel if reference == 0 => boc!(Sell, worker, reference, 1010, 1),
+            Orders::BookOrCancel => boc!(Buy, worker, reference, 1010, 1),
         }
     }
 }
@@ -49,8 +56,10 @@ struct Load {
     before: &'static [Command],
     /// The phase command after them, with its version.
     after: (Command, u64),
-    /// How many orders are accepted, and how many are refused since the journal is full.
+    /// How many orders are accepted, and how many are refused.
     counts: (u64, u64),
+    /// Where the reports count those that are refused.
+    place: usize,
     left: Left,
 }
 
@@ -63,10 +72,11 @@ const ONE_EACH: Load = Load {
     before: &[],
     after: (Command::StartOpening, 65),
     counts: (64, 0),
+    place: JOURNAL_FULL,
     left: (0, 0, 1000, 1000, 64, 0),
 };
 
-const LOADS: [Load; 4] = [
+const LOADS: [Load; 5] = [
     Load {
         workers: 2,
         after: (Command::StartOpening, 3),
@@ -91,6 +101,16 @@ const LOADS: [Load; 4] = [
         after: (Command::StartIntraday, 6403),
         counts: (6400, 0),
         left: (3200, 3_200_000, 1000, 1000, 0, 0),
+        ..ONE_EACH
+    },
+    Load {
+        orders: Orders::BookOrCancel,
+        each: 100,
+        limit: 10_000,
+        before: &[Command::StartOpening, Command::Uncross],
+        after: (Command::StartIntraday, 67),
+        counts: (64, 6336),
+        place: WOULD_EXECUTE,
         ..ONE_EACH
     },
 ];
@@ -192,15 +212,15 @@ fn found<R: Abort>(rt: &R, journal: &[Command], orders: Orders) -> [u32; WORKERS
 
 /// The workers' reports have what their journal has, and add up to what is expected of a load.
 fn add_up<R: Abort>(rt: &R, load: &Load, reports: &[WorkerReport], found: &[u32; WORKERS]) {
-    let (mut accepted, mut full, mut quantity) = (0u64, 0u64, 0u64);
+    let (mut accepted, mut refused, mut quantity) = (0u64, 0u64, 0u64);
     for (worker, report) in reports.iter().enumerate() {
         let own = found.get(worker).expect(rt, "a worker");
         assert!(rt; report.accepted == u64::from(*own));
         accepted = accepted.wrapping_add(report.accepted);
-        full = full.wrapping_add(report.refused[JOURNAL_FULL]);
+        refused = refused.wrapping_add(*report.refused.get(load.place).expect(rt, "a place"));
         quantity = quantity.wrapping_add(report.quantity);
     }
-    assert!(rt; (accepted, full) == load.counts);
+    assert!(rt; (accepted, refused) == load.counts);
     assert!(rt; quantity == load.left.0);
 }
 

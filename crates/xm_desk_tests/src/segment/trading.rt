@@ -10,6 +10,8 @@ const INTRADAY: Phase = Phase::Call(Auction::Intraday, CallStage::Ordinary);
 
 const INTRADAY_INTERRUPTED: Phase = Phase::Call(Auction::Intraday, CallStage::Interrupted);
 
+const CLOSING: Phase = Phase::Call(Auction::Closing, CallStage::Ordinary);
+
 const INTERRUPTED: Phase = Phase::Call(Auction::Interruption, CallStage::Interrupted);
 
 /// A command of a worker on the first security that is accepted: its version, the number of its trades with their units and
@@ -190,8 +192,8 @@ macro_rules! entry {
     };
 }
 
-/// Each refusal, in a call whose journal takes four commands of members.
-const REFUSALS: [Given; 19] = [
+/// Each refusal, in a call whose journal takes four commands of members, and those of book-or-cancel orders in trading after it.
+const REFUSALS: [Given; 25] = [
     accepted!(0, Command::StartOpening, 1, 0, 0, 0, OPENING),
     accepted!(0, buy!(0, 1, 990, 10), 2, 0, 0, 0, OPENING),
     accepted!(
@@ -237,6 +239,17 @@ const REFUSALS: [Given; 19] = [
         entry!(Kind::Limit(1000), 5, Validity::Day, Free, Ioc),
         WrongPhase
     ),
+    refused!(
+        0,
+        entry!(Kind::Market, 5, Validity::TillDate(20260104), Free, Boc),
+        BadValidity
+    ),
+    refused!(
+        0,
+        entry!(Kind::Market, 5, Validity::Day, Free, Boc),
+        BadCombination
+    ),
+    refused!(0, boc!(Sell, 0, 1, 990, 5), WrongPhase),
     refused!(0, Command::StartClosing, WrongPhase),
     refused!(0, buy!(0, 3, 1000, 1), DuplicateReference),
     refused!(0, change!(0, 7, 0, None), UnknownOrder),
@@ -249,6 +262,9 @@ const REFUSALS: [Given; 19] = [
     ),
     refused!(0, buy!(0, 9, 990, 1), JournalFull),
     accepted!(0, Command::Uncross, 5, 0, 0, 0, Phase::Continuous),
+    refused!(0, boc!(Sell, 0, 1, 990, 5), DuplicateReference),
+    refused!(0, boc!(Sell, 0, 3, 990, 5), DuplicateReference),
+    refused!(0, boc!(Sell, 0, 9, 990, 5), WouldExecute),
 ];
 
 /// One that rests before the opening.
@@ -259,7 +275,7 @@ macro_rules! early {
 }
 
 /// A journal that takes eight commands of members is full before the opening, and phase commands are accepted.
-const FULL: [Given; 12] = [
+const FULL: [Given; 14] = [
     early!(buy!(0, 1, 990, 1), 1),
     early!(buy!(0, 2, 990, 1), 2),
     early!(buy!(0, 3, 990, 1), 3),
@@ -272,22 +288,47 @@ const FULL: [Given; 12] = [
     refused!(0, buy!(0, 9, 990, 0), BadQuantity),
     accepted!(0, Command::StartOpening, 9, 0, 0, 0, OPENING),
     rested!(0, Command::Uncross, 10),
+    refused!(0, boc!(Sell, 0, 9, 990, 1), WouldExecute),
+    refused!(0, boc!(Sell, 0, 9, 991, 1), JournalFull),
 ];
 
-const DAY_ENDED: [Given; 6] = [
+/// A day through each phase, in which book-or-cancel orders come in continuous trading alone: one is refused, and one is changed
+/// and trades then.
+const EACH_PHASE: [Given; 27] = [
+    refused!(0, boc!(Buy, 0, 1, 990, 5), WrongPhase),
     accepted!(0, Command::StartOpening, 1, 0, 0, 0, OPENING),
+    refused!(0, boc!(Buy, 0, 1, 990, 5), WrongPhase),
     rested!(0, Command::Uncross, 2),
+    rested!(0, sell!(1, 1, 1010, 10), 3),
+    refused!(0, boc!(Buy, 0, 1, 1010, 5), WouldExecute),
+    rested!(0, boc!(Buy, 0, 1, 1000, 5), 4),
     accepted!(
         0,
-        Command::StartClosing,
-        3,
-        0,
-        0,
-        0,
-        Phase::Call(Auction::Closing, CallStage::Ordinary)
+        change!(0, 1, 5, Some(1010)),
+        5,
+        1,
+        5,
+        5050,
+        Phase::Continuous
     ),
-    accepted!(0, Command::Uncross, 4, 0, 0, 0, Phase::PostTrading),
-    accepted!(0, Command::EndDay, 5, 0, 0, 0, Phase::Ended),
+    accepted!(0, Command::StartIntraday, 6, 0, 0, 0, INTRADAY),
+    refused!(0, boc!(Buy, 0, 2, 990, 5), WrongPhase),
+    rested!(0, Command::Uncross, 7),
+    rested!(0, sell!(1, 2, 1040, 5), 8),
+    accepted!(0, buy!(0, 2, 1040, 10), 9, 1, 5, 5050, INTERRUPTED),
+    refused!(0, boc!(Buy, 0, 3, 990, 5), WrongPhase),
+    accepted!(0, Command::Uncross, 10, 1, 5, 5200, Phase::Continuous),
+    rested!(0, boc!(Buy, 0, 3, 1040, 5), 11),
+    rested!(0, boc!(Sell, 1, 3, 1041, 5), 12),
+    refused!(0, boc!(Sell, 1, 4, 1040, 5), WouldExecute),
+    rested!(0, cancel!(0, 3), 13),
+    rested!(0, boc!(Sell, 1, 4, 1040, 5), 14),
+    accepted!(0, Command::StartClosing, 15, 0, 0, 0, CLOSING),
+    refused!(0, boc!(Buy, 0, 4, 990, 5), WrongPhase),
+    accepted!(0, Command::Uncross, 16, 0, 0, 0, Phase::PostTrading),
+    refused!(0, boc!(Buy, 0, 4, 990, 5), WrongPhase),
+    accepted!(0, Command::EndDay, 17, 0, 0, 0, Phase::Ended),
+    refused!(0, boc!(Buy, 0, 4, 990, 5), DayEnded),
     refused!(0, buy!(0, 1, 0, 0), DayEnded),
 ];
 
@@ -308,9 +349,10 @@ fn refusals_through_locks(rt: HostRuntime) {
     };
     run(&rt, &full, &FULL);
     let ended = Case {
-        shown: (5, Phase::Ended, None, None, 1000, 1000, 0),
-        left: &[FRESH],
+        limit: 100,
+        shown: (17, Phase::Ended, None, None, 1040, 1040, 15),
+        left: &[(15, 15_300, 1040, 1040, 0, 0)],
         ..case
     };
-    run(&rt, &ended, &DAY_ENDED);
+    run(&rt, &ended, &EACH_PHASE);
 }
