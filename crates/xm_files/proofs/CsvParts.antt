@@ -1,5 +1,5 @@
 -- Parts of the records that CSV reads.
-use Rattle.std.proofs.Common.{◌≡◌, ◌≢◌, ℕ, ◌+◌, ◌==◌, Bool, true, false, if◌then◌else◌, List, [], ◌∷◌, length, Option, Some, None, Result, Ok, Err, IfSome, IsSome, OnOk, refl, ap, sym, subst, ◌∙◌, arith}
+use Rattle.std.proofs.Common.{◌≡◌, ℕ, ◌+◌, ◌==◌, Bool, true, false, if◌then◌else◌, List, [], ◌∷◌, length, Option, Some, None, Result, Ok, Err, IfSome, IsSome, refl, ap, sym, subst, ◌∙◌, arith}
 use Rattle.std.proofs.lemmas.Bool.Decides.{nat_tests}
 use Rattle.xm_files.proofs.CsvFields.{same-number}
 use Rattle.xm_files.specs.Batches.{rows_from}
@@ -7,6 +7,7 @@ use Rattle.xm_files.specs.Names.{NameLists}
 use Rattle.xm_files.specs.Orders.{rows_after, with_record}
 use Rattle.xm_files.specs.Unread.{CsvLeft, csv_left, with_ahead}
 use Rattle.xm_files.specs.declared.file_faults.FileFault.{FileFault}
+use Rattle.xm_files.specs.declared.order_format.OrderFormat.{OrderFormat}
 use Rattle.xm_segment.specs.declared.config.SegmentConfig.{SegmentConfig}
 use Rattle.xm_segment.specs.declared.rows.Row.{Row}
 
@@ -19,30 +20,24 @@ pub same-fields : (ahead : Option (List (List ℕ))) (fields row : List (List �
 same-fields ahead fields row e h = subst (λ (o : Option (List (List ℕ))). IfSome o (λ other. row ≡ other)) e h
 
 -- what was read goes on with the record that waits
-pub csv-next : (names : NameLists) (config : SegmentConfig) (all : Result (List Row) FileFault) (old new : CsvLeft) (rows : List Row) (fields : List (List ℕ)) → all ≡ rows_from names config (csv_left old) rows
-    → with_ahead new.ahead new.behind ≡ with_ahead old.ahead old.behind → new.line ≡ old.line → new.ahead ≡ Some fields → all ≡ rows_after names config new.line rows (fields ∷ new.behind)
-csv-next names config all old new rows fields read same line ahead =
+pub csv-next : (names : NameLists) (config : SegmentConfig) (format : OrderFormat) (all : Result (List Row) FileFault) (old new : CsvLeft) (rows : List Row) (fields : List (List ℕ)) → all ≡ rows_from names config (csv_left (Some format) old) rows
+    → with_ahead new.ahead new.behind ≡ with_ahead old.ahead old.behind → new.line ≡ old.line → new.ahead ≡ Some fields → all ≡ rows_after names config format new.line rows (fields ∷ new.behind)
+csv-next names config format all old new rows fields read same line ahead =
     read
-    ∙ ap (λ (k : ℕ). rows_after names config k rows (with_ahead old.ahead old.behind)) (sym line)
-    ∙ ap (rows_after names config new.line rows) (sym same ∙ ap (λ (o : Option (List (List ℕ))). with_ahead o new.behind) ahead)
+    ∙ ap (λ (k : ℕ). rows_after names config format k rows (with_ahead old.ahead old.behind)) (sym line)
+    ∙ ap (rows_after names config format new.line rows) (sym same ∙ ap (λ (o : Option (List (List ℕ))). with_ahead o new.behind) ahead)
 
-pub csv-fault : (names : NameLists) (config : SegmentConfig) (all : Result (List Row) FileFault) (line : ℕ) (rows : List Row) (fields : List (List ℕ)) (more : List (List (List ℕ))) (fault : FileFault)
-    → all ≡ rows_after names config line rows (fields ∷ more) → with_record names config line rows fields ≡ Err fault → all ≡ Err fault
-csv-fault names config all line rows fields more fault read bad = read ∙ rw bad refl
+pub csv-fault : (names : NameLists) (config : SegmentConfig) (format : OrderFormat) (all : Result (List Row) FileFault) (line : ℕ) (rows : List Row) (fields : List (List ℕ)) (more : List (List (List ℕ))) (fault : FileFault)
+    → all ≡ rows_after names config format line rows (fields ∷ more) → with_record names config format line rows fields ≡ Err fault → all ≡ Err fault
+csv-fault names config format all line rows fields more fault read bad = read ∙ rw bad refl
 
-pub csv-more : (names : NameLists) (config : SegmentConfig) (all : Result (List Row) FileFault) (csv taken : CsvLeft) (rows sum : List Row) (fields : List (List ℕ)) → all ≡ rows_after names config csv.line rows (fields ∷ csv.behind)
-    → with_record names config csv.line rows fields ≡ Ok sum → taken ≡ record { ahead = None; behind = csv.behind; line = csv.line + 1 } → all ≡ rows_from names config (csv_left taken) sum
-csv-more names config all csv taken rows sum fields read good took = read ∙ rw (good, took) refl
+pub csv-more : (names : NameLists) (config : SegmentConfig) (format : OrderFormat) (all : Result (List Row) FileFault) (csv taken : CsvLeft) (rows sum : List Row) (fields : List (List ℕ)) → all ≡ rows_after names config format csv.line rows (fields ∷ csv.behind)
+    → with_record names config format csv.line rows fields ≡ Ok sum → taken ≡ record { ahead = None; behind = csv.behind; line = csv.line + 1 } → all ≡ rows_from names config (csv_left (Some format) taken) sum
+csv-more names config format all csv taken rows sum fields read good took = read ∙ rw (good, took) refl
 
--- no record is left, and the header was read
-pub csv-ended : (names : NameLists) (config : SegmentConfig) (csv : CsvLeft) (rows : List Row) → with_ahead csv.ahead csv.behind ≡ [] → csv.line ≢ 1 → rows_from names config (csv_left csv) rows ≡ Ok rows
-csv-ended names config csv rows none later =
-    let other : (csv.line == 1) ≡ false = grind (arith, nat_tests) in
-    ap (rows_after names config csv.line rows) none ∙ rw other refl
-
-pub where-ok : {A : Type 0} (P Q : Type 0) (r : Result A FileFault) → OnOk r P → (P → Q) → OnOk r Q
-where-ok P Q (Ok x) p f = f p
-where-ok P Q (Err e) p f = tt
+-- no record is left
+pub csv-ended : (names : NameLists) (config : SegmentConfig) (format : OrderFormat) (csv : CsvLeft) (rows : List Row) → with_ahead csv.ahead csv.behind ≡ [] → rows_from names config (csv_left (Some format) csv) rows ≡ Ok rows
+csv-ended names config format csv rows none = ap (rows_after names config format csv.line rows) none
 
 pub given-test : (n : ℕ) (fields : List (List ℕ)) (test : Bool) → length fields ≡ n → (if length fields == n then test else false) ≡ test
 given-test n fields test e = rw (e, same-number n) refl

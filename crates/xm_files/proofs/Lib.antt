@@ -13,11 +13,16 @@ mod PlainFields
 mod Marked
 mod CsvFields
 mod LineRecords
+mod Headed
 mod Progress
 pub mod PassedErrors
+pub mod WholeFiles
 pub mod Shares
 mod Timetables
 mod OneRound
 mod RowKinds
 mod PartsRead
 mod CsvParts
+mod Advances
+mod TextsOf
+mod WideRecords

@@ -1,20 +1,20 @@
 -- How a part of an order file goes on, and where it ends.
-use Rattle.std.proofs.Common.{◌≡◌, ℕ, ◌+◌, ◌<◌, ◌≤◌, ◌==◌, Bool, true, false, not, ◌&&◌, if◌then◌else◌, nat_lt, List, [], ◌∷◌, ◌++◌, length, Option, Some, None, Result, Ok, Err, IfSome, append_assoc, refl, sym, ap, subst, ◌∙◌, arith}
+use Rattle.std.proofs.Common.{◌≡◌, ℕ, ◌+◌, ◌<◌, ◌==◌, Bool, true, false, not, ◌&&◌, if◌then◌else◌, nat_lt, List, [], ◌∷◌, ◌++◌, length, Option, Some, None, Result, Ok, Err, IfSome, append_assoc, refl, sym, ap, subst, ◌∙◌, arith}
 use Rattle.std.proofs.lemmas.Bool.Decides.{nat_tests}
 use Rattle.std.proofs.lemmas.List.{append-nil, append_cancel_left, length-append}
 use Rattle.xm_files.proofs.RowKinds.{AreOfWord, record-rows}
 use Rattle.xm_files.proofs.OneRound.{few-rounds, joined-member, joined-phases, rounds-apart}
-use Rattle.xm_files.proofs.Progress.{header-record, other-record, row-record}
+use Rattle.xm_files.proofs.Progress.{other-record, row-record}
 use Rattle.xm_files.specs.Batches.{RowsLeft, RowsRead, rows_from, rows_so_far}
 use Rattle.xm_files.specs.FileFaults.{fault_at, result_then}
 use Rattle.xm_files.specs.Names.{NameLists}
 use Rattle.xm_files.specs.Orders.{max_rows, rows_after, with_record, with_rows}
 use Rattle.xm_files.specs.Parts.{IsFull, IsRound, ends_before, is_whole_part, is_so_far}
-use Rattle.xm_files.specs.Rows.{columns_of, command_in, is_header, names_members_command, rows_of_record}
+use Rattle.xm_files.specs.Rows.{columns_of, command_in, names_members_command, rows_of_record}
 use Rattle.xm_files.specs.Timetable.{ends_round, ends_with_phase, is_of_member, is_one_round, rounds_from}
-use Rattle.xm_files.specs.declared.file_faults.FileCause.TheVariants.{BadHeader, Syntax, TooManyRows}
+use Rattle.xm_files.specs.declared.file_faults.FileCause.TheVariants.{Syntax, TooManyRows}
 use Rattle.xm_files.specs.declared.file_faults.FileFault.{FileFault}
-use Rattle.xm_files.specs.declared.order_format.OrderFormat.TheVariants.{First}
+use Rattle.xm_files.specs.declared.order_format.OrderFormat.{OrderFormat}
 use Rattle.xm_files.specs.declared.part.Part.{Part}
 use Rattle.xm_files.specs.declared.part.Part.TheVariants.{Rows, Round}
 use Rattle.xm_segment.specs.declared.config.SegmentConfig.{SegmentConfig}
@@ -36,38 +36,24 @@ pub rows-added : (line : ℕ) (rows sum : List Row) (o : Option (List Row)) → 
 rows-added line rows sum None h = cc
 rows-added line rows sum (Some more) h = (more, refl, rows-if (nat_lt max_rows (length rows + length more)) line rows more sum h)
 
-header-if : (t : Bool) (rows sum : List Row) → (if t then Ok rows else Err (fault_at 1 BadHeader)) ≡ Ok sum → sum ≡ rows
-header-if true rows sum h = cc
-header-if false rows sum h = cc
-
 fields-if : (t : Bool) (line : ℕ) (rows sum : List Row) (o : Option (List Row)) → (if t then Err (fault_at line Syntax) else with_rows line rows o) ≡ Ok sum → Extends rows sum
 fields-if true line rows sum o h = cc
 fields-if false line rows sum o h = let added = rows-added line rows sum o h in (added.0, added.2)
 
-record-if : (t : Bool) (names : NameLists) (config : SegmentConfig) (line : ℕ) (rows sum : List Row) (fields : List (List ℕ))
-    → (if t then (if is_header First fields then Ok rows else Err (fault_at 1 BadHeader)) else (if not (length fields == length (columns_of First)) then Err (fault_at line Syntax) else with_rows line rows (rows_of_record First names config line fields))) ≡ Ok sum
-    → Extends rows sum
-record-if true names config line rows sum fields h = let same = header-if (is_header First fields) rows sum h in ([], same ∙ sym (append-nil rows))
-record-if false names config line rows sum fields h = fields-if (not (length fields == length (columns_of First))) line rows sum (rows_of_record First names config line fields) h
+record-extends : (names : NameLists) (config : SegmentConfig) (format : OrderFormat) (line : ℕ) (rows sum : List Row) (fields : List (List ℕ)) → with_record names config format line rows fields ≡ Ok sum → Extends rows sum
+record-extends names config format line rows sum fields h = fields-if (not (length fields == length (columns_of format))) line rows sum (rows_of_record format names config line fields) h
 
-record-extends : (names : NameLists) (config : SegmentConfig) (line : ℕ) (rows sum : List Row) (fields : List (List ℕ)) → with_record names config line rows fields ≡ Ok sum → Extends rows sum
-record-extends names config line rows sum fields h = record-if (line == 1) names config line rows sum fields h
-
-none-if : (t : Bool) (rows sum : List Row) → (if t then Err (fault_at 1 BadHeader) else Ok rows) ≡ Ok sum → sum ≡ rows
-none-if true rows sum h = cc
-none-if false rows sum h = cc
-
-next-extends : (names : NameLists) (config : SegmentConfig) (line : ℕ) (rows sum : List Row) (r : Result (List Row) FileFault) (more : List (List (List ℕ)))
-    → ((next : List Row) → r ≡ Ok next → Extends rows next) → ((next : List Row) → rows_after names config line next more ≡ Ok sum → Extends next sum)
-    → result_then r (λ next. rows_after names config line next more) ≡ Ok sum → Extends rows sum
-next-extends names config line rows sum (Err fault) more first later h = cc
-next-extends names config line rows sum (Ok next) more first later h = extends-more rows next sum (first next refl) (later next h)
+next-extends : (names : NameLists) (config : SegmentConfig) (format : OrderFormat) (line : ℕ) (rows sum : List Row) (r : Result (List Row) FileFault) (more : List (List (List ℕ)))
+    → ((next : List Row) → r ≡ Ok next → Extends rows next) → ((next : List Row) → rows_after names config format line next more ≡ Ok sum → Extends next sum)
+    → result_then r (λ next. rows_after names config format line next more) ≡ Ok sum → Extends rows sum
+next-extends names config format line rows sum (Err fault) more first later h = cc
+next-extends names config format line rows sum (Ok next) more first later h = extends-more rows next sum (first next refl) (later next h)
 
 -- the rows of records come after those before them
-after-extends : (names : NameLists) (config : SegmentConfig) (line : ℕ) (rows sum : List Row) (records : List (List (List ℕ))) → rows_after names config line rows records ≡ Ok sum → Extends rows sum
-after-extends names config line rows sum [] h = let same = none-if (line == 1) rows sum h in ([], same ∙ sym (append-nil rows))
-after-extends names config line rows sum (fields ∷ more) h =
-    next-extends names config (line + 1) rows sum (with_record names config line rows fields) more (λ next. record-extends names config line rows next fields) (λ next. after-extends names config (line + 1) next sum more) h
+after-extends : (names : NameLists) (config : SegmentConfig) (format : OrderFormat) (line : ℕ) (rows sum : List Row) (records : List (List (List ℕ))) → rows_after names config format line rows records ≡ Ok sum → Extends rows sum
+after-extends names config format line rows sum [] h = let same : sum ≡ rows = cc in ([], same ∙ sym (append-nil rows))
+after-extends names config format line rows sum (fields ∷ more) h =
+    next-extends names config format (line + 1) rows sum (with_record names config format line rows fields) more (λ next. record-extends names config format line rows next fields) (λ next. after-extends names config format (line + 1) next sum more) h
 
 -- the rows that may come after those that were read end the round
 abbrev pub EndsRound : NameLists → SegmentConfig → RowsLeft → RowsRead → Type 0
@@ -93,29 +79,29 @@ member-first rows sofar more tail row e ends of =
     let first : more ≡ row ∷ tail = append_cancel_left sofar more (row ∷ tail) (e ∙ append_assoc sofar (row ∷ []) tail) in
     ap (ends_round rows) first ∙ rw (ends, of) refl
 
-ends-by : (names : NameLists) (config : SegmentConfig) (line : ℕ) (rows sofar more : List Row) (o : Option (List Row)) (records : List (List (List ℕ))) → ends_with_phase rows ≡ true → IfSome o (AreOfWord true)
-    → result_then (with_rows line sofar o) (λ next. rows_after names config (line + 1) next records) ≡ Ok (sofar ++ more) → ends_round rows more ≡ true
-ends-by names config line rows sofar more None records ends of h = cc
-ends-by names config line rows sofar more (Some added) records ends of h = ends-if (nat_lt max_rows (length sofar + length added)) h
+ends-by : (names : NameLists) (config : SegmentConfig) (format : OrderFormat) (line : ℕ) (rows sofar more : List Row) (o : Option (List Row)) (records : List (List (List ℕ))) → ends_with_phase rows ≡ true → IfSome o (AreOfWord true)
+    → result_then (with_rows line sofar o) (λ next. rows_after names config format (line + 1) next records) ≡ Ok (sofar ++ more) → ends_round rows more ≡ true
+ends-by names config format line rows sofar more None records ends of h = cc
+ends-by names config format line rows sofar more (Some added) records ends of h = ends-if (nat_lt max_rows (length sofar + length added)) h
   where
-    ends-if : (t : Bool) → result_then (if t then Err (fault_at line TooManyRows) else Ok (sofar ++ added)) (λ next. rows_after names config (line + 1) next records) ≡ Ok (sofar ++ more) → ends_round rows more ≡ true
+    ends-if : (t : Bool) → result_then (if t then Err (fault_at line TooManyRows) else Ok (sofar ++ added)) (λ next. rows_after names config format (line + 1) next records) ≡ Ok (sofar ++ more) → ends_round rows more ≡ true
     ends-if true h = cc
     ends-if false h =
-        let after = after-extends names config (line + 1) (sofar ++ added) (sofar ++ more) records h in
+        let after = after-extends names config format (line + 1) (sofar ++ added) (sofar ++ more) records h in
         member-first rows sofar more after.0 of.0 (after.1 ∙ ap (λ (a : List Row). (sofar ++ a) ++ after.0) of.1) ends of.2
 
 both : (a b : Bool) → (a && b) ≡ true → (a ≡ true) × (b ≡ true)
 both true b h = (refl, h)
 both false b h = cc
 
-ends-at : (names : NameLists) (config : SegmentConfig) (file : RowsLeft) (batch : RowsRead) (fields : List (List ℕ)) (records : List (List (List ℕ))) → 2 ≤ file.line → length fields ≡ 12
-    → rows_from names config file (rows_so_far batch) ≡ rows_after names config file.line (rows_so_far batch) (fields ∷ records)
-    → ends_before Round batch.rows (command_in First fields) ≡ true → EndsRound names config file batch
-ends-at names config file batch fields records later twelve same ends more gives =
-    let tests = both (ends_with_phase batch.rows) (names_members_command (command_in First fields)) ends in
-    let rows = subst (λ (t : Bool). IfSome (rows_of_record First names config file.line fields) (AreOfWord t)) tests.1 (record-rows First names config file.line fields) in
-    let next = ap (λ (r : Result (List Row) FileFault). result_then r (λ sum. rows_after names config (file.line + 1) sum records)) (row-record names config file.line (rows_so_far batch) fields later twelve) in
-    ends-by names config file.line batch.rows (rows_so_far batch) more (rows_of_record First names config file.line fields) records tests.0 rows (sym next ∙ sym same ∙ gives)
+ends-at : (names : NameLists) (config : SegmentConfig) (format : OrderFormat) (file : RowsLeft) (batch : RowsRead) (fields : List (List ℕ)) (records : List (List (List ℕ))) → length fields ≡ length (columns_of format)
+    → rows_from names config file (rows_so_far batch) ≡ rows_after names config format file.line (rows_so_far batch) (fields ∷ records)
+    → ends_before Round batch.rows (command_in format fields) ≡ true → EndsRound names config file batch
+ends-at names config format file batch fields records count same ends more gives =
+    let tests = both (ends_with_phase batch.rows) (names_members_command (command_in format fields)) ends in
+    let rows = subst (λ (t : Bool). IfSome (rows_of_record format names config file.line fields) (AreOfWord t)) tests.1 (record-rows format names config file.line fields) in
+    let next = ap (λ (r : Result (List Row) FileFault). result_then r (λ sum. rows_after names config format (file.line + 1) sum records)) (row-record names config format file.line (rows_so_far batch) fields count) in
+    ends-by names config format file.line batch.rows (rows_so_far batch) more (rows_of_record format names config file.line fields) records tests.0 rows (sym next ∙ sym same ∙ gives)
 
 -- the rows of a record that doesn't end a part go on it
 keeps-by : (rows more : List Row) (t u : Bool) → (u && t) ≡ false → ends_with_phase rows ≡ u → AreOfWord t more → is_one_round rows ≡ true → is_one_round (rows ++ more) ≡ true
@@ -123,50 +109,32 @@ keeps-by rows more false u goes ends of one = joined-phases rows more one of
 keeps-by rows more true true goes ends of one = cc
 keeps-by rows more true false goes ends of one = ap (λ (a : List Row). is_one_round (rows ++ a)) of.1 ∙ joined-member rows of.0 one ends of.2
 
-keeps : (part : Part) (names : NameLists) (config : SegmentConfig) (line : ℕ) (fields : List (List ℕ)) (rows more : List Row) → rows_of_record First names config line fields ≡ Some more → ends_before part rows (command_in First fields) ≡ false → is_so_far part rows ≡ true
+keeps : (part : Part) (names : NameLists) (config : SegmentConfig) (format : OrderFormat) (line : ℕ) (fields : List (List ℕ)) (rows more : List Row) → rows_of_record format names config line fields ≡ Some more → ends_before part rows (command_in format fields) ≡ false → is_so_far part rows ≡ true
     → is_so_far part (rows ++ more) ≡ true
-keeps (Rows most) names config line fields rows more gives goes one = refl
-keeps Round names config line fields rows more gives goes one =
-    let text = command_in First fields in
-    keeps-by rows more (names_members_command text) (ends_with_phase rows) goes refl (subst (λ (o : Option (List Row)). IfSome o (AreOfWord (names_members_command text))) gives (record-rows First names config line fields)) one
+keeps (Rows most) names config format line fields rows more gives goes one = refl
+keeps Round names config format line fields rows more gives goes one =
+    let text = command_in format fields in
+    keeps-by rows more (names_members_command text) (ends_with_phase rows) goes refl (subst (λ (o : Option (List Row)). IfSome o (AreOfWord (names_members_command text))) gives (record-rows format names config line fields)) one
 
-pub so-far-rows : (part : Part) (names : NameLists) (config : SegmentConfig) (line : ℕ) (fields : List (List ℕ)) (old new : RowsRead) → new.earlier ≡ old.earlier
-    → with_rows line (rows_so_far old) (rows_of_record First names config line fields) ≡ Ok (rows_so_far new) → ends_before part old.rows (command_in First fields) ≡ false → is_so_far part old.rows ≡ true → is_so_far part new.rows ≡ true
-so-far-rows part names config line fields old new before good goes one =
-    let added = rows-added line (rows_so_far old) (rows_so_far new) (rows_of_record First names config line fields) good in
+pub so-far-rows : (part : Part) (names : NameLists) (config : SegmentConfig) (format : OrderFormat) (line : ℕ) (fields : List (List ℕ)) (old new : RowsRead) → new.earlier ≡ old.earlier
+    → with_rows line (rows_so_far old) (rows_of_record format names config line fields) ≡ Ok (rows_so_far new) → ends_before part old.rows (command_in format fields) ≡ false → is_so_far part old.rows ≡ true → is_so_far part new.rows ≡ true
+so-far-rows part names config format line fields old new before good goes one =
+    let added = rows-added line (rows_so_far old) (rows_so_far new) (rows_of_record format names config line fields) good in
     let rows : new.rows ≡ old.rows ++ added.0 =
     append_cancel_left old.earlier new.rows (old.rows ++ added.0) (ap (λ (a : List Row). a ++ new.rows) (sym before) ∙ added.2 ∙ append_assoc old.earlier old.rows added.0) in
-    ap (is_so_far part) rows ∙ keeps part names config line fields old.rows added.0 added.1 goes one
+    ap (is_so_far part) rows ∙ keeps part names config format line fields old.rows added.0 added.1 goes one
 
 -- the same of a record that CSV read
-other-if : (t : Bool) (ends : Bool) → t ≡ true → (if t then ends else false) ≡ false → ends ≡ false
-other-if true ends twelve goes = goes
-other-if false ends twelve goes = cc
+record-if : (part : Part) (names : NameLists) (config : SegmentConfig) (format : OrderFormat) (line : ℕ) (fields : List (List ℕ)) (old new : RowsRead) (t : Bool) → (length fields == length (columns_of format)) ≡ t → new.earlier ≡ old.earlier
+    → with_record names config format line (rows_so_far old) fields ≡ Ok (rows_so_far new) → (if t then ends_before part old.rows (command_in format fields) else false) ≡ false → is_so_far part old.rows ≡ true → is_so_far part new.rows ≡ true
+record-if part names config format line fields old new true test before good goes one =
+    let count : length fields ≡ length (columns_of format) = grind (arith, nat_tests) in
+    so-far-rows part names config format line fields old new before (sym (row-record names config format line (rows_so_far old) fields count) ∙ good) goes one
+record-if part names config format line fields old new false test before good goes one = let bad = other-record names config format line (rows_so_far old) fields test in cc
 
-later-record : (part : Part) (names : NameLists) (config : SegmentConfig) (line : ℕ) (fields : List (List ℕ)) (old new : RowsRead) (t : Bool) → (length fields == 12) ≡ t → 2 ≤ line → new.earlier ≡ old.earlier
-    → with_record names config line (rows_so_far old) fields ≡ Ok (rows_so_far new) → (if t then ends_before part old.rows (command_in First fields) else false) ≡ false → is_so_far part old.rows ≡ true → is_so_far part new.rows ≡ true
-later-record part names config line fields old new true count later before good goes one =
-    let twelve : length fields ≡ 12 = grind (arith, nat_tests) in
-    so-far-rows part names config line fields old new before (sym (row-record names config line (rows_so_far old) fields later twelve) ∙ good) goes one
-later-record part names config line fields old new false count later before good goes one = let bad = other-record names config line (rows_so_far old) fields later count in cc
-
-first-record : (part : Part) (names : NameLists) (config : SegmentConfig) (line : ℕ) (fields : List (List ℕ)) (old new : RowsRead) → line ≡ 1 → new.earlier ≡ old.earlier
-    → with_record names config line (rows_so_far old) fields ≡ Ok (rows_so_far new) → is_so_far part old.rows ≡ true → is_so_far part new.rows ≡ true
-first-record part names config line fields old new first before good one =
-    let same : rows_so_far new ≡ rows_so_far old = header-if (is_header First fields) (rows_so_far old) (rows_so_far new) (sym (header-record names config line (rows_so_far old) fields first) ∙ good) in
-    let rows : new.rows ≡ old.rows = append_cancel_left old.earlier new.rows old.rows (ap (λ (a : List Row). a ++ new.rows) (sym before) ∙ same) in
-    ap (is_so_far part) rows ∙ one
-
-record-by : (part : Part) (names : NameLists) (config : SegmentConfig) (line : ℕ) (fields : List (List ℕ)) (old new : RowsRead) (t : Bool) → (line == 1) ≡ t → 1 ≤ line → new.earlier ≡ old.earlier
-    → with_record names config line (rows_so_far old) fields ≡ Ok (rows_so_far new) → (if length fields == 12 then ends_before part old.rows (command_in First fields) else false) ≡ false → is_so_far part old.rows ≡ true → is_so_far part new.rows ≡ true
-record-by part names config line fields old new true is begun before good goes one = first-record part names config line fields old new (grind (arith, nat_tests)) before good one
-record-by part names config line fields old new false is begun before good goes one =
-    let later : 2 ≤ line = grind (arith, nat_tests) in
-    later-record part names config line fields old new (length fields == 12) refl later before good goes one
-
-pub so-far-record : (part : Part) (names : NameLists) (config : SegmentConfig) (line : ℕ) (fields : List (List ℕ)) (old new : RowsRead) → 1 ≤ line → new.earlier ≡ old.earlier
-    → with_record names config line (rows_so_far old) fields ≡ Ok (rows_so_far new) → (if length fields == 12 then ends_before part old.rows (command_in First fields) else false) ≡ false → is_so_far part old.rows ≡ true → is_so_far part new.rows ≡ true
-so-far-record part names config line fields old new = record-by part names config line fields old new (line == 1) refl
+pub so-far-record : (part : Part) (names : NameLists) (config : SegmentConfig) (format : OrderFormat) (line : ℕ) (fields : List (List ℕ)) (old new : RowsRead) → new.earlier ≡ old.earlier → with_record names config format line (rows_so_far old) fields ≡ Ok (rows_so_far new)
+    → (if length fields == length (columns_of format) then ends_before part old.rows (command_in format fields) else false) ≡ false → is_so_far part old.rows ≡ true → is_so_far part new.rows ≡ true
+so-far-record part names config format line fields old new = record-if part names config format line fields old new (length fields == length (columns_of format)) refl
 
 -- a part at its end is full
 pub full-part : (part : Part) (rows : List Row) → is_whole_part part (length rows) ≡ true → IsFull part rows
@@ -182,11 +150,11 @@ ended-part (Rows most) rows text ends = cc
 ended-part Round rows text ends = let some = some-rows rows (names_members_command text) ends in (some, some)
 
 -- a round is at its end where rows are so far and a record ends it
-pub round-before : (names : NameLists) (config : SegmentConfig) (part : Part) (file : RowsLeft) (batch : RowsRead) (fields : List (List ℕ)) (records : List (List (List ℕ))) → 2 ≤ file.line → length fields ≡ 12
-    → rows_from names config file (rows_so_far batch) ≡ rows_after names config file.line (rows_so_far batch) (fields ∷ records)
-    → ends_before part batch.rows (command_in First fields) ≡ true → is_so_far part batch.rows ≡ true → part ≡ Round → IsRound names config file batch
-round-before names config part file batch fields records later twelve same ends one round =
-    is-round names config file batch (rw round at one) (ends-at names config file batch fields records later twelve same (rw round at ends))
+pub round-before : (names : NameLists) (config : SegmentConfig) (format : OrderFormat) (part : Part) (file : RowsLeft) (batch : RowsRead) (fields : List (List ℕ)) (records : List (List (List ℕ))) → length fields ≡ length (columns_of format)
+    → rows_from names config file (rows_so_far batch) ≡ rows_after names config format file.line (rows_so_far batch) (fields ∷ records)
+    → ends_before part batch.rows (command_in format fields) ≡ true → is_so_far part batch.rows ≡ true → part ≡ Round → IsRound names config file batch
+round-before names config format part file batch fields records count same ends one round =
+    is-round names config file batch (rw round at one) (ends-at names config format file batch fields records count same (rw round at ends))
 
 -- where no more comes
 pub round-ended : (names : NameLists) (config : SegmentConfig) (part : Part) (file : RowsLeft) (batch : RowsRead) → rows_from names config file (rows_so_far batch) ≡ Ok (rows_so_far batch) → is_so_far part batch.rows ≡ true → part ≡ Round → IsRound names config file batch

@@ -13,7 +13,7 @@ use Rattle.xm_rules.specs.declared.orders.Restriction.{Restriction}
 use Rattle.xm_rules.specs.declared.orders.Side.{Side}
 use Rattle.xm_rules.specs.declared.orders.Validity.{Validity}
 use Rattle.xm_files.specs.Names.{NameLists}
-use Rattle.xm_files.specs.Rows.{are_empty, by_column, cancel_all_blank, cancel_blank, change_blank, change_command, columns_of, command_in, condition_of, entry_with, field, given_limit, has_word, is_members_word, kind_in_record, member_row, name_index, names_members_command, order_command, phase_blank, phase_entry, restriction_of, rows_of_entry, rows_of_record, side_named, tick_of, validity_of, whole_of, word_of}
+use Rattle.xm_files.specs.Rows.{are_empty, by_column, cancel_all_blank, cancel_blank, change_blank, change_command, columns_of, command_in, condition_in, entry_with, field, given_limit, has_short_text, has_word, is_members_word, kind_in_record, member_row, name_index, names_members_command, order_command, phase_blank, phase_entry, restriction_of, rows_of_entry, rows_of_record, side_named, tick_of, validity_of, whole_of, word_of}
 use Rattle.xm_files.specs.declared.columns.Column.TheVariants as column
 use Rattle.xm_files.specs.Steps.{◌>>=◌}
 use Rattle.xm_files.specs.Timetable.{is_of_member}
@@ -72,10 +72,10 @@ order-by member (Some r) (Some s) (Some k) (Some q) (Some v) None condition = tt
 order-by member (Some r) (Some s) (Some k) (Some q) (Some v) (Some t) None = tt
 order-by member (Some r) (Some s) (Some k) (Some q) (Some v) (Some t) (Some c) = refl
 
-members-order : (tick member : ℕ) (fields : List (List ℕ)) → IfSome (order_command tick member fields) IsMembers
-members-order tick member fields =
+members-order : (format : OrderFormat) (tick member : ℕ) (fields : List (List ℕ)) → IfSome (order_command format tick member fields) IsMembers
+members-order format tick member fields =
     order-by member (whole_of (field column.Reference fields)) (side_named (field column.Side fields)) (kind_in_record tick fields) (whole_of (field column.Quantity fields)) (validity_of (field column.Validity fields)) (restriction_of (field column.Restriction fields))
-    (condition_of (field column.Condition fields))
+    (condition_in format (field column.Condition fields))
 
 change-by : (member : ℕ) (reference quantity : Option ℕ) (limit : Option (Option ℕ)) → IfSome (reference >>= (λ r. quantity >>= (λ q. limit >>= (λ l. Some (command.Change member r q l))))) IsMembers
 change-by member None quantity limit = tt
@@ -102,30 +102,30 @@ abbrev IsOfWord : Bool → RecordEntry → Type 0
 IsOfWord true entry = IsMembersRow entry
 IsOfWord false entry = ArePhaseRows entry
 
-entry-of : (w : Word) (names : NameLists) (securities : List SecurityConfig) (fields : List (List ℕ)) → IfSome (entry_with (Some w) names securities fields) (IsOfWord (is_members_word w))
-entry-of word.Enter names securities fields = members-row names fields (λ m s. order_command (tick_of securities s) m fields) (λ m s. members-order (tick_of securities s) m fields)
-entry-of word.Change names securities fields =
+entry-of : (format : OrderFormat) (w : Word) (names : NameLists) (securities : List SecurityConfig) (fields : List (List ℕ)) → IfSome (entry_with format (Some w) names securities fields) (IsOfWord (is_members_word w))
+entry-of format word.Enter names securities fields = members-row names fields (λ m s. order_command format (tick_of securities s) m fields) (λ m s. members-order format (tick_of securities s) m fields)
+entry-of format word.Change names securities fields =
     where-true IsMembersRow (are_empty change_blank fields) (member_row names fields (λ m s. change_command (tick_of securities s) m fields))
     (members-row names fields (λ m s. change_command (tick_of securities s) m fields) (λ m s. members-change (tick_of securities s) m fields))
-entry-of word.Cancel names securities fields =
+entry-of format word.Cancel names securities fields =
     where-true IsMembersRow (are_empty cancel_blank fields) (member_row names fields (λ m s. option_map (command.Cancel m) (whole_of (field column.Reference fields))))
     (members-row names fields (λ m s. option_map (command.Cancel m) (whole_of (field column.Reference fields))) (λ m s. mapped IsMembers (whole_of (field column.Reference fields)) (command.Cancel m) (λ reference. refl)))
-entry-of word.CancelAll names securities fields =
+entry-of format word.CancelAll names securities fields =
     where-true IsMembersRow (are_empty cancel_all_blank fields) (member_row names fields (λ m s. Some (command.CancelAll m))) (members-row names fields (λ m s. Some (command.CancelAll m)) (λ m s. refl))
-entry-of word.Open names securities fields = phase-rows command.StartOpening names fields refl
-entry-of word.Intraday names securities fields = phase-rows command.StartIntraday names fields refl
-entry-of word.Close names securities fields = phase-rows command.StartClosing names fields refl
-entry-of word.Uncross names securities fields = phase-rows command.Uncross names fields refl
-entry-of word.End names securities fields = phase-rows command.EndDay names fields refl
+entry-of format word.Open names securities fields = phase-rows command.StartOpening names fields refl
+entry-of format word.Intraday names securities fields = phase-rows command.StartIntraday names fields refl
+entry-of format word.Close names securities fields = phase-rows command.StartClosing names fields refl
+entry-of format word.Uncross names securities fields = phase-rows command.Uncross names fields refl
+entry-of format word.End names securities fields = phase-rows command.EndDay names fields refl
 
 -- a text that names no word of the format gives nothing
 entry-by : (format : OrderFormat) (o : Option Word) (names : NameLists) (securities : List SecurityConfig) (fields : List (List ℕ))
-    → IfSome (entry_with (o >>= (λ kind. if has_word format kind then Some kind else None)) names securities fields) (IsOfWord (option_map_or is_members_word o false))
+    → IfSome (entry_with format (o >>= (λ kind. if has_word format kind then Some kind else None)) names securities fields) (IsOfWord (option_map_or is_members_word o false))
 entry-by format None names securities fields = tt
 entry-by format (Some w) names securities fields = entry-if (has_word format w)
   where
-    entry-if : (t : Bool) → IfSome (entry_with (if t then Some w else None) names securities fields) (IsOfWord (is_members_word w))
-    entry-if true = entry-of w names securities fields
+    entry-if : (t : Bool) → IfSome (entry_with format (if t then Some w else None) names securities fields) (IsOfWord (is_members_word w))
+    entry-if true = entry-of format w names securities fields
     entry-if false = tt
 
 -- the rows of an entry
@@ -149,4 +149,6 @@ rows-if t line count (Some entry) h = rows-of t line count entry h
 
 pub record-rows : (format : OrderFormat) (names : NameLists) (config : SegmentConfig) (line : ℕ) (fields : List (List ℕ)) → IfSome (rows_of_record format names config line fields) (AreOfWord (names_members_command (command_in format fields)))
 record-rows format names config line fields =
-    rows-if (names_members_command (command_in format fields)) line (length names.securities) _ (entry-by format (word_of (command_in format fields)) names config.securities (by_column (columns_of format) fields))
+    let texts = by_column (columns_of format) fields in
+    let is = names_members_command (command_in format fields) in
+    rows-if is line (length names.securities) _ (where-true (IsOfWord is) (has_short_text texts) _ (entry-by format (word_of (command_in format fields)) names config.securities texts))

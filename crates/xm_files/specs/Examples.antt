@@ -1,5 +1,5 @@
 -- The records and rows of the worked examples.
-use Rattle.std.specs.Prelude.{codes, ℕ, List, [], ◌∷◌}
+use Rattle.std.specs.Prelude.{codes, ℕ, List, [], ◌∷◌, ◌++◌}
 use Rattle.xm_files.specs.Names.{NameLists}
 use Rattle.xm_rules.specs.declared.commands.Command.{Command}
 use Rattle.xm_rules.specs.declared.commands.Command.TheVariants.{Cancel, CancelAll, Enter, StartClosing, StartOpening, Uncross}
@@ -26,6 +26,14 @@ abbrev pub every_title : List (List ℕ)
 every_title =
     codes "command" ∷ codes "member" ∷ codes "reference" ∷ codes "security" ∷ codes "side" ∷ codes "kind" ∷ codes "limit" ∷ codes "trigger" ∷ codes "quantity"
     ∷ codes "validity" ∷ codes "restriction" ∷ codes "condition" ∷ []
+
+-- a record of the first format with this text behind it, which makes one of the second
+abbrev pub record_with_text : List (List ℕ) → List ℕ → List (List ℕ)
+record_with_text fields text = fields ++ text ∷ []
+
+-- the titles of the second format
+abbrev pub second_titles : List (List ℕ)
+second_titles = record_with_text every_title (codes "text")
 
 -- the second member enters a sell of thirty units, under reference 7, in this security, of this kind, limit and trigger
 abbrev pub order_record : List ℕ → List ℕ → List ℕ → List ℕ → List (List ℕ)

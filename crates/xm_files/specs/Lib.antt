@@ -6,6 +6,7 @@ pub mod Names
 pub mod Orders
 pub mod Parts
 pub mod Plain
+pub mod RecordTexts
 pub mod Rows
 pub mod Segment
 pub mod Steps

@@ -1,10 +1,11 @@
 -- What an order file gives: its rows, or its first fault.
-use Rattle.std.specs.Prelude.{ℕ, ◌+◌, not, if◌then◌else◌, nat_lt, ◌==◌, List, [], ◌∷◌, ◌++◌, length, Option, Some, None, Result, Ok, Err}
+use Rattle.std.specs.Prelude.{◌≡◌, ℕ, ◌+◌, not, if◌then◌else◌, nat_lt, ◌==◌, List, [], ◌∷◌, ◌++◌, length, Option, Some, None, Result, Ok, Err}
 use Rattle.csv.specs.Reading.{default_config, records, strip_bom}
 use Rattle.xm_files.specs.FileFaults.{fault_at, max_bytes, result_then}
 use Rattle.xm_files.specs.Names.{NameLists}
 use Rattle.xm_files.specs.Rows.{columns_of, is_header, rows_of_record}
-use Rattle.xm_files.specs.declared.order_format.OrderFormat.TheVariants.{First}
+use Rattle.xm_files.specs.declared.order_format.OrderFormat.{OrderFormat}
+use Rattle.xm_files.specs.declared.order_format.OrderFormat.TheVariants.{First, Second}
 use Rattle.xm_segment.specs.declared.config.SegmentConfig.{SegmentConfig}
 use Rattle.xm_files.specs.declared.file_faults.FileCause.TheVariants.{TooLong, Syntax, BadHeader, BadField, TooManyRows}
 use Rattle.xm_files.specs.declared.file_faults.FileFault.{FileFault}
@@ -18,27 +19,56 @@ max_rows = 1000000
 abbrev pub max_lines : ℕ
 max_lines = 16777218
 
+-- the records of a text: CSV with the usual marks, a byte order mark before it dropped
+abbrev pub records_in : List ℕ → List (List (List ℕ))
+records_in text = records default_config (strip_bom text)
+
 -- these rows and those of one more record, which has this number
 abbrev pub with_rows : ℕ → List Row → Option (List Row) → Result (List Row) FileFault
 with_rows line rows None = Err (fault_at line BadField)
 with_rows line rows (Some more) = if nat_lt max_rows (length rows + length more) then Err (fault_at line TooManyRows) else Ok (rows ++ more)
 
--- the same of a record's fields; the first record is the header, which gives no row and says how many fields each has
-abbrev pub with_record : NameLists → SegmentConfig → ℕ → List Row → List (List ℕ) → Result (List Row) FileFault
-with_record names config line rows fields =
-    if line == 1 then (if is_header First fields then Ok rows else Err (fault_at 1 BadHeader))
-    else (if not (length fields == length (columns_of First)) then Err (fault_at line Syntax) else with_rows line rows (rows_of_record First names config line fields))
+-- the format that has this header
+abbrev pub format_of : List (List ℕ) → Option OrderFormat
+format_of fields = if is_header First fields then Some First else (if is_header Second fields then Some Second else None)
 
--- these rows and those of the records, of which the first has this number, or the first fault
-abbrev pub rows_after : NameLists → SegmentConfig → ℕ → List Row → List (List (List ℕ)) → Result (List Row) FileFault
-rows_after names config line rows [] = if line == 1 then Err (fault_at 1 BadHeader) else Ok rows
-rows_after names config line rows (fields ∷ more) = result_then (with_record names config line rows fields) (λ sum. rows_after names config (line + 1) sum more)
+-- the records of a file begin with the header of a format, and these come behind it
+pub record IsHeaded (file : List (List (List ℕ))) (format : OrderFormat) (more : List (List (List ℕ))) : Type 0 where
+  pub header : List (List ℕ)
+  pub says : format_of header ≡ Some format
+  pub first : file ≡ header ∷ more
 
--- the rows of all records
-abbrev pub rows_of_records : NameLists → SegmentConfig → List (List (List ℕ)) → Result (List Row) FileFault
-rows_of_records names config records = rows_after names config 1 [] records
+-- the rows that a record of a format adds to these by its fields, which are as many as the format has columns
+abbrev pub with_record : NameLists → SegmentConfig → OrderFormat → ℕ → List Row → List (List ℕ) → Result (List Row) FileFault
+with_record names config format line rows fields =
+    if not (length fields == length (columns_of format)) then Err (fault_at line Syntax) else with_rows line rows (rows_of_record format names config line fields)
 
--- what the bytes of an order file give: CSV with the usual marks, a byte order mark before it dropped
+-- these rows and those of the records of a format, of which the first has this number, or the first fault
+abbrev pub rows_after : NameLists → SegmentConfig → OrderFormat → ℕ → List Row → List (List (List ℕ)) → Result (List Row) FileFault
+rows_after names config format line rows [] = Ok rows
+rows_after names config format line rows (fields ∷ more) =
+    result_then (with_record names config format line rows fields) (λ sum. rows_after names config format (line + 1) sum more)
+
+-- the same of the records behind a header, which says their format
+abbrev pub rows_under : NameLists → SegmentConfig → Option OrderFormat → List Row → List (List (List ℕ)) → Result (List Row) FileFault
+rows_under names config None rows records = Err (fault_at 1 BadHeader)
+rows_under names config (Some format) rows records = rows_after names config format 2 rows records
+
+-- the same of all records of a file, of which the first is the header
+abbrev pub rows_of_records : NameLists → SegmentConfig → List Row → List (List (List ℕ)) → Result (List Row) FileFault
+rows_of_records names config rows [] = Err (fault_at 1 BadHeader)
+rows_of_records names config rows (header ∷ records) = rows_under names config (format_of header) rows records
+
+-- whatever the names and the settings, a file with these records has this fault
+abbrev pub NoHeader : List (List (List ℕ)) → FileFault → Type 0
+NoHeader file fault = (names : NameLists) (config : SegmentConfig) (rows : List Row) → rows_of_records names config rows file ≡ Err fault
+
+-- the rows of the records that are left of a file, of which the first has this number; their format isn't known where that is the header
+abbrev pub rows_behind : NameLists → SegmentConfig → Option OrderFormat → ℕ → List Row → List (List (List ℕ)) → Result (List Row) FileFault
+rows_behind names config None line rows records = rows_of_records names config rows records
+rows_behind names config (Some format) line rows records = rows_after names config format line rows records
+
+-- what the bytes of an order file give
 abbrev pub orders_of : NameLists → SegmentConfig → List ℕ → Result (List Row) FileFault
 orders_of names config bytes =
-    if nat_lt max_bytes (length bytes) then Err (fault_at 0 TooLong) else rows_of_records names config (records default_config (strip_bom bytes))
+    if nat_lt max_bytes (length bytes) then Err (fault_at 0 TooLong) else rows_of_records names config [] (records_in bytes)

@@ -2,11 +2,11 @@
 use Rattle.std.specs.Prelude.{◌≡◌, ℕ, ◌+◌, ◌-◌, ◌<◌, ◌≤◌, ◌==◌, Bool, true, false, ◌||◌, not, List, [], ◌∷◌, ◌++◌, Some, drop, get_or, length}
 use Rattle.std.specs.Int.{bit_at}
 use Rattle.std.specs.List.{list_all}
-use Rattle.csv.specs.Machine.{next_record}
-use Rattle.csv.specs.Reading.{default_config, strip_bom}
+use Rattle.csv.specs.Machine.{Read, next_record}
+use Rattle.csv.specs.Reading.{default_config}
 use Rattle.csv.specs.declared.parser.State.TheVariants as state
-use Rattle.xm_files.specs.Rows.{is_header}
-use Rattle.xm_files.specs.declared.order_format.OrderFormat.TheVariants.{First}
+use Rattle.xm_files.specs.Rows.{columns_of}
+use Rattle.xm_files.specs.declared.order_format.OrderFormat.{OrderFormat}
 
 -- a line feed, a carriage return, a quote or a comma
 abbrev pub is_mark : ℕ → Bool
@@ -54,6 +54,6 @@ pub record IsMarked (text : List ℕ) (at block bits : ℕ) : Type 0 where
 abbrev pub ReadsLine : List ℕ → List (List ℕ) → List ℕ → Type 0
 ReadsLine text fields more = next_record default_config state.StartRecord [] [] text ≡ Some (fields, state.StartRecord, more)
 
--- the text begins with the line of the header and has nothing before it, and goes on so behind it
-abbrev pub IsBehindHeader : List ℕ → List ℕ → Type 0
-IsBehindHeader text more = (header : List (List ℕ)) × (is_header First header ≡ true) × (strip_bom text ≡ text) × ReadsLine text header more
+-- CSV reads a record first that has more fields than any format has columns
+abbrev pub BeginsWide : List ℕ → Type 0
+BeginsWide text = (read : Read) × (next_record default_config state.StartRecord [] [] text ≡ Some read) × ((format : OrderFormat) → length (columns_of format) < length read.0)

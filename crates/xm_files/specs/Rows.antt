@@ -1,12 +1,12 @@
 -- The rows of one record of an order file.
-use Rattle.std.specs.Prelude.{ℕ, Bool, true, false, ◌&&◌, ◌||◌, if◌then◌else◌, nat_le, ◌==◌, List, [], ◌∷◌, length, map, Option, Some, None, option_map, get_or, slice_get, take, Result, Ok, Err, codes}
+use Rattle.std.specs.Prelude.{ℕ, Bool, true, false, ◌&&◌, ◌||◌, if◌then◌else◌, nat_le, ◌==◌, List, [], ◌∷◌, ◌++◌, length, map, Option, Some, None, option_map, get_or, slice_get, take, Result, Ok, Err, codes}
 use Rattle.std.specs.List.{list_all, list_any, position_or_len, range_with_len}
 use Rattle.std.specs.Option.{option_map_or}
 use Rattle.std.specs.Str.{bytes_eq}
 use Rattle.xm_rules.specs.declared.commands.Command.{Command}
 use Rattle.xm_rules.specs.declared.commands.Command.TheVariants as command
 use Rattle.xm_rules.specs.declared.commands.Condition.{Condition}
-use Rattle.xm_rules.specs.declared.commands.Condition.TheVariants.{Plain, Ioc, Fok}
+use Rattle.xm_rules.specs.declared.commands.Condition.TheVariants.{Plain, Ioc, Fok, Boc}
 use Rattle.xm_rules.specs.declared.commands.Kind.{Kind}
 use Rattle.xm_rules.specs.declared.commands.Kind.TheVariants as kind
 use Rattle.xm_rules.specs.declared.orders.Restriction.{Restriction}
@@ -28,14 +28,19 @@ use Rattle.xm_files.specs.declared.entries.RecordEntry.{RecordEntry}
 use Rattle.xm_files.specs.declared.entries.RecordEntry.TheVariants.{One, Each}
 use Rattle.xm_files.specs.declared.entries.Word.{Word}
 use Rattle.xm_files.specs.declared.entries.Word.TheVariants as word
+use Rattle.xm_files.specs.declared.fields.TheConstants.{MAX_TEXT}
 use Rattle.xm_files.specs.declared.order_format.OrderFormat.{OrderFormat}
-use Rattle.xm_files.specs.declared.order_format.OrderFormat.TheVariants.{First}
+use Rattle.xm_files.specs.declared.order_format.OrderFormat.TheVariants.{First, Second}
 use Rattle.xm_files.specs.declared.records.Fields.{Fields}
 use Rattle.xm_segment.specs.declared.rows.Row.{Row}
 
+-- the columns of the first format
+abbrev pub first_columns : List Column
+first_columns = column.Command ∷ column.Member ∷ column.Reference ∷ column.Security ∷ column.Side ∷ column.Kind ∷ column.Limit ∷ column.Trigger ∷ column.Quantity ∷ column.Validity ∷ column.Restriction ∷ column.Condition ∷ []
+
 -- every column that a format may have
 abbrev pub every_column : List Column
-every_column = column.Command ∷ column.Member ∷ column.Reference ∷ column.Security ∷ column.Side ∷ column.Kind ∷ column.Limit ∷ column.Trigger ∷ column.Quantity ∷ column.Validity ∷ column.Restriction ∷ column.Condition ∷ []
+every_column = first_columns ++ column.Text ∷ []
 
 -- where a column stands among all
 abbrev pub column_index : Column → ℕ
@@ -51,6 +56,7 @@ column_index column.Quantity = 8
 column_index column.Validity = 9
 column_index column.Restriction = 10
 column_index column.Condition = 11
+column_index column.Text = 12
 
 -- what the header says of a column
 abbrev pub title_of : Column → List ℕ
@@ -66,14 +72,21 @@ title_of column.Quantity = codes "quantity"
 title_of column.Validity = codes "validity"
 title_of column.Restriction = codes "restriction"
 title_of column.Condition = codes "condition"
+title_of column.Text = codes "text"
 
 -- the columns of a format, in their order
 abbrev pub columns_of : OrderFormat → List Column
-columns_of First = every_column
+columns_of First = first_columns
+columns_of Second = every_column
+
+-- every command word
+abbrev pub every_word : List Word
+every_word = word.Enter ∷ word.Change ∷ word.Cancel ∷ word.CancelAll ∷ word.Open ∷ word.Intraday ∷ word.Close ∷ word.Uncross ∷ word.End ∷ []
 
 -- the kinds of commands of a format, by their words
 abbrev pub kinds_of : OrderFormat → List Word
-kinds_of First = word.Enter ∷ word.Change ∷ word.Cancel ∷ word.CancelAll ∷ word.Open ∷ word.Intraday ∷ word.Close ∷ word.Uncross ∷ word.End ∷ []
+kinds_of First = every_word
+kinds_of Second = every_word
 
 -- where a command word stands among all
 abbrev pub word_index : Word → ℕ
@@ -183,18 +196,34 @@ abbrev pub condition_of : List ℕ → Option Condition
 condition_of text =
     if (length text == 0) || bytes_eq text (codes "plain") then Some Plain
     else (if bytes_eq text (codes "ioc") then Some Ioc
-    else (if bytes_eq text (codes "fok") then Some Fok else None))
+    else (if bytes_eq text (codes "fok") then Some Fok
+    else (if bytes_eq text (codes "boc") then Some Boc else None)))
+
+-- orders of a format may have this condition
+abbrev pub has_condition : OrderFormat → Condition → Bool
+has_condition First Plain = true
+has_condition First Ioc = true
+has_condition First Fok = true
+has_condition First Boc = false
+has_condition Second Plain = true
+has_condition Second Ioc = true
+has_condition Second Fok = true
+has_condition Second Boc = true
+
+-- the condition that a text names, if orders of a format may have it
+abbrev pub condition_in : OrderFormat → List ℕ → Option Condition
+condition_in format text = condition_of text >>= (λ condition. if has_condition format condition then Some condition else None)
 
 -- the order that a member enters in a security with this tick
-abbrev pub order_command : ℕ → ℕ → List (List ℕ) → Option Command
-order_command tick member fields =
+abbrev pub order_command : OrderFormat → ℕ → ℕ → List (List ℕ) → Option Command
+order_command format tick member fields =
     whole_of (field column.Reference fields) >>= (λ reference.
     side_named (field column.Side fields) >>= (λ side.
     kind_in_record tick fields >>= (λ kind.
     whole_of (field column.Quantity fields) >>= (λ quantity.
     validity_of (field column.Validity fields) >>= (λ validity.
     restriction_of (field column.Restriction fields) >>= (λ restriction.
-    condition_of (field column.Condition fields) >>= (λ condition.
+    condition_in format (field column.Condition fields) >>= (λ condition.
     Some (command.Enter member reference side kind quantity validity restriction condition))))))))
 
 -- a member's row, whose command the member's and the security's index make
@@ -205,8 +234,8 @@ member_row names fields make =
     make member security >>= (λ made.
     Some (One security made))))
 
-abbrev pub enter_entry : NameLists → List SecurityConfig → List (List ℕ) → Option RecordEntry
-enter_entry names securities fields = member_row names fields (λ member security. order_command (tick_of securities security) member fields)
+abbrev pub enter_entry : OrderFormat → NameLists → List SecurityConfig → List (List ℕ) → Option RecordEntry
+enter_entry format names securities fields = member_row names fields (λ member security. order_command format (tick_of securities security) member fields)
 
 -- the limit that a change gives, where it gives one
 abbrev pub given_limit : ℕ → List ℕ → Option (Option ℕ)
@@ -268,18 +297,18 @@ word_of text =
     else (if bytes_eq text (codes "uncross") then Some word.Uncross
     else (if bytes_eq text (codes "end") then Some word.End else None))))))))
 
--- what a record with this command word says, if each of its fields is lawful
-abbrev pub entry_with : Option Word → NameLists → List SecurityConfig → List (List ℕ) → Option RecordEntry
-entry_with None names securities fields = None
-entry_with (Some word.Enter) names securities fields = enter_entry names securities fields
-entry_with (Some word.Change) names securities fields = change_entry names securities fields
-entry_with (Some word.Cancel) names securities fields = cancel_entry names fields
-entry_with (Some word.CancelAll) names securities fields = cancel_all_entry names fields
-entry_with (Some word.Open) names securities fields = phase_entry command.StartOpening names fields
-entry_with (Some word.Intraday) names securities fields = phase_entry command.StartIntraday names fields
-entry_with (Some word.Close) names securities fields = phase_entry command.StartClosing names fields
-entry_with (Some word.Uncross) names securities fields = phase_entry command.Uncross names fields
-entry_with (Some word.End) names securities fields = phase_entry command.EndDay names fields
+-- what a record of a format with this command word says, if each of its fields is lawful
+abbrev pub entry_with : OrderFormat → Option Word → NameLists → List SecurityConfig → List (List ℕ) → Option RecordEntry
+entry_with format None names securities fields = None
+entry_with format (Some word.Enter) names securities fields = enter_entry format names securities fields
+entry_with format (Some word.Change) names securities fields = change_entry names securities fields
+entry_with format (Some word.Cancel) names securities fields = cancel_entry names fields
+entry_with format (Some word.CancelAll) names securities fields = cancel_all_entry names fields
+entry_with format (Some word.Open) names securities fields = phase_entry command.StartOpening names fields
+entry_with format (Some word.Intraday) names securities fields = phase_entry command.StartIntraday names fields
+entry_with format (Some word.Close) names securities fields = phase_entry command.StartClosing names fields
+entry_with format (Some word.Uncross) names securities fields = phase_entry command.Uncross names fields
+entry_with format (Some word.End) names securities fields = phase_entry command.EndDay names fields
 
 -- the command word of a record of a format
 abbrev pub command_in : OrderFormat → List (List ℕ) → List ℕ
@@ -305,8 +334,13 @@ has_word format word = list_any (λ other. word_index other == word_index word) 
 abbrev pub kind_in : OrderFormat → List ℕ → Option Word
 kind_in format text = word_of text >>= (λ kind. if has_word format kind then Some kind else None)
 
+-- the free text of a record, which says nothing, has 64 bytes at most, of whatever kind
+abbrev pub has_short_text : List (List ℕ) → Bool
+has_short_text fields = nat_le (length (field column.Text fields)) MAX_TEXT
+
 abbrev pub record_entry : OrderFormat → NameLists → List SecurityConfig → List (List ℕ) → Option RecordEntry
-record_entry format names securities fields = entry_with (kind_in format (field column.Command fields)) names securities fields
+record_entry format names securities fields =
+    if has_short_text fields then entry_with format (kind_in format (field column.Command fields)) names securities fields else None
 
 -- the rows of an entry that stands in this line, in a segment of so many securities: one, or one per security in index order
 abbrev pub rows_of_entry : ℕ → ℕ → RecordEntry → List Row

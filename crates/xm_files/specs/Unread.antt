@@ -1,5 +1,5 @@
 -- The records of a text that CSV has yet to read.
-use Rattle.std.specs.Prelude.{◌≡◌, ℕ, ◌+◌, false, List, [], ◌∷◌, length, Option, Some, None}
+use Rattle.std.specs.Prelude.{◌≡◌, ℕ, ◌+◌, ◌-◌, ◌≤◌, false, List, [], ◌∷◌, drop, length, Option, Some, None}
 use Rattle.std.specs.Option.{option_map_or}
 use Rattle.std.specs.Borrow.{Bor}
 use Rattle.csv.specs.Machine.{ends_at_end}
@@ -9,8 +9,10 @@ use Rattle.csv.specs.declared.reader.Reader.{Reader}
 use Rattle.csv.specs.declared.reader.Trim.TheVariants as trim
 use Rattle.csv.specs.declared.record.ByteRecord.{ByteRecord}
 use Rattle.xm_files.specs.Batches.{RowsLeft}
+use Rattle.xm_files.specs.Orders.{records_in}
 use Rattle.xm_files.specs.declared.csv_records.Standing.{Standing}
 use Rattle.xm_files.specs.declared.csv_records.Standing.TheVariants.{Ahead, Ended, Failed}
+use Rattle.xm_files.specs.declared.order_format.OrderFormat.{OrderFormat}
 
 -- the record that waits, the records behind it, and the number of the first of all
 pub record CsvLeft : Type 0 where
@@ -56,11 +58,16 @@ ReadsOn Ended reader = Unit
 ReadsOn (Failed _) reader = Unit
 ReadsOn _ reader = IsBetween reader
 
--- what CSV has yet to read, without the difference
-abbrev pub csv_left : CsvLeft → RowsLeft
-csv_left c = record { records = with_ahead c.ahead c.behind; line = c.line }
+-- what CSV has yet to read of a file, without the difference
+abbrev pub csv_left : Option OrderFormat → CsvLeft → RowsLeft
+csv_left format c = record { format = format; records = with_ahead c.ahead c.behind; line = c.line }
 
 -- what CSV has yet to read, where it reads, and else what a text has
 abbrev pub left_of_either : Option CsvLeft → RowsLeft → RowsLeft
 left_of_either None text = text
-left_of_either (Some c) text = csv_left c
+left_of_either (Some c) text = csv_left text.format c
+
+-- CSV has yet to read the records of a text from some number on
+pub record IsWithin (text : List ℕ) (c : CsvLeft) : Type 0 where
+  pub begun : 1 ≤ c.line
+  pub left : with_ahead c.ahead c.behind ≡ drop (c.line - 1) (records_in text)

@@ -17,11 +17,12 @@ pub(crate) enum Column {
     Validity,
     Restriction,
     Condition,
+    Text,
 }
 
 impl Column {
-    /// Every column.
-    pub(crate) const ALL: [Column; 12] = [
+    /// The columns of the first format.
+    pub(crate) const FIRST: [Column; 12] = [
         Column::Command,
         Column::Member,
         Column::Reference,
@@ -34,6 +35,23 @@ impl Column {
         Column::Validity,
         Column::Restriction,
         Column::Condition,
+    ];
+
+    /// Every column.
+    pub(crate) const ALL: [Column; 13] = [
+        Column::Command,
+        Column::Member,
+        Column::Reference,
+        Column::Security,
+        Column::Side,
+        Column::Kind,
+        Column::Limit,
+        Column::Trigger,
+        Column::Quantity,
+        Column::Validity,
+        Column::Restriction,
+        Column::Condition,
+        Column::Text,
     ];
 
     /// Where the column stands among all.
@@ -54,6 +72,7 @@ impl Column {
             Column::Validity => 9,
             Column::Restriction => 10,
             Column::Condition => 11,
+            Column::Text => 12,
         }
     }
 
@@ -74,6 +93,7 @@ impl Column {
             Column::Validity => "validity",
             Column::Restriction => "restriction",
             Column::Condition => "condition",
+            Column::Text => "text",
         }
     }
 }

@@ -1,5 +1,5 @@
 //! The records of a text, one at a time, as CSV reads them.
-ghost use Rattle.std.specs.Prelude.{◌≡◌, ◌+◌, ◌≤◌, [], true, false, length, None, IsSome, IfSome, Ok, OnOk};
+ghost use Rattle.std.specs.Prelude.{◌≡◌, ◌+◌, ◌-◌, ◌≤◌, [], true, false, drop, length, None, IsSome, IfSome, Ok, OnOk};
 ghost use Rattle.csv.specs.Reading.{default_config, records, strip_bom};
 ghost use Rattle.csv.specs.Records.{fields_of};
 ghost use Rattle.xm_files.specs.Unread.{with_ahead};
@@ -96,6 +96,27 @@ impl<'a> CsvRecords<'a> {
                 self.standing = Standing::Failed(wanting);
                 Err(wanting)
             }
+        }
+    }
+
+    /// Takes the records before the one with this number. Whether there is one, which then waits.
+    pub(crate) fn advance(&mut self, line: u32) -> Result<bool, OutOfMemory>
+        requires { self.old.line ≤ line }
+        ensures left { OnOk result (with_ahead self.new.ahead self.new.behind ≡ drop (self.new.line - self.old.line) (with_ahead self.old.ahead self.old.behind)) }
+        ensures onward { OnOk result ((self.old.line ≤ self.new.line) × (self.new.line ≤ line)) }
+        ensures waits { result ≡ Ok true → (self.new.line ≡ line) × IsSome self.new.ahead }
+        ensures ended { result ≡ Ok false → with_ahead self.new.ahead self.new.behind ≡ [] }
+    {
+        'records: loop {
+            match self.look_ahead() {
+                Ok(true) => {}
+                Ok(false) => return Ok(false),
+                Err(wanting) => return Err(wanting),
+            }
+            if self.line == line {
+                return Ok(true);
+            }
+            self.take();
         }
     }
 

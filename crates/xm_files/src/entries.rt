@@ -1,13 +1,14 @@
 //! What one record of the order file says.
 ghost use Rattle.std.specs.Prelude.{◌≡◌};
 ghost use Rattle.xm_files.specs.declared.columns.Column.TheVariants as column;
-ghost use Rattle.xm_files.specs.Rows.{cancel_all_entry, cancel_entry, change_command, change_entry, enter_entry, record_entry, field, given_limit, limit_in, market_in, name_index, names_members_command, kind_in_record, order_command, phase_entry, stop_limit_in, stop_market_in, texts_of, tick_of, word_of};
+ghost use Rattle.xm_files.specs.Rows.{cancel_all_entry, cancel_entry, change_command, change_entry, condition_in, enter_entry, record_entry, field, given_limit, limit_in, market_in, name_index, names_members_command, kind_in_record, order_command, phase_entry, stop_limit_in, stop_market_in, texts_of, tick_of, word_of};
 
 use crate::columns::Column;
-use crate::fields::{condition, is_word, price, restriction, side, validity, whole};
+use crate::fields::{MAX_TEXT, condition, is_word, price, restriction, side, validity, whole};
 use crate::names::SegmentNames;
+use crate::order_format::OrderFormat;
 use crate::records::Fields;
-use xm_rules::{Command, Kind};
+use xm_rules::{Command, Condition, Kind};
 use xm_segment::{SecurityConfig, SegmentConfig};
 use xm_ticks::TickSize;
 
@@ -65,6 +66,9 @@ pub(crate) fn parse_entry(
 ) -> Option<RecordEntry>
     ensures { result ≡ record_entry fields.now.format names.now config.now.securities (texts_of fields.now) }
 {
+    if fields.text(Column::Text).len() > MAX_TEXT {
+        return None;
+    }
     let word = parse_word(fields.text(Column::Command))?;
     if !fields.format().has_word(word) {
         return None;
@@ -139,7 +143,7 @@ fn enter(
     names: &SegmentNames,
     securities: &[SecurityConfig],
 ) -> Option<RecordEntry>
-    ensures { result ≡ enter_entry names.now securities.now (texts_of fields.now) }
+    ensures { result ≡ enter_entry fields.now.format names.now securities.now (texts_of fields.now) }
 {
     let member = member(fields, names)?;
     let security = security(fields, names)?;
@@ -159,7 +163,7 @@ fn tick(securities: &[SecurityConfig], security: u32) -> TickSize
 
 /// The order that a member enters in a security with this tick.
 fn order(fields: &Fields, member: u32, tick: TickSize) -> Option<Command>
-    ensures { result ≡ order_command tick member (texts_of fields.now) }
+    ensures { result ≡ order_command fields.now.format tick member (texts_of fields.now) }
 {
     let reference = whole(fields.text(Column::Reference))?;
     let side = side(fields.text(Column::Side))?;
@@ -167,7 +171,7 @@ fn order(fields: &Fields, member: u32, tick: TickSize) -> Option<Command>
     let quantity = whole(fields.text(Column::Quantity))?;
     let validity = validity(fields.text(Column::Validity))?;
     let restriction = restriction(fields.text(Column::Restriction))?;
-    let condition = condition(fields.text(Column::Condition))?;
+    let condition = condition_in(fields.format(), fields.text(Column::Condition))?;
     Some(Command::Enter {
         member,
         reference,
@@ -178,6 +182,18 @@ fn order(fields: &Fields, member: u32, tick: TickSize) -> Option<Command>
         restriction,
         condition,
     })
+}
+
+/// The condition that a text names, if orders of a format may have it.
+fn condition_in(format: OrderFormat, text: &[u8]) -> Option<Condition>
+    ensures { result ≡ condition_in format text.now }
+{
+    let condition = condition(text)?;
+    if format.has_condition(condition) {
+        Some(condition)
+    } else {
+        None
+    }
 }
 
 /// The kind of an order or a stop with its prices.

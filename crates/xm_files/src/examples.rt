@@ -1,14 +1,15 @@
 //! What the definitions give on worked examples. Each function promises one by its contract.
 ghost use Rattle.std.specs.Prelude.{◌≡◌, codes, map, [], ◌∷◌, Some, None, Ok, Err, true, false};
-ghost use Rattle.xm_files.specs.Examples.{change_record, entered_row, every_title, order_record, phase_record, record_names, record_settings, round_rows, row_of};
-ghost use Rattle.xm_files.specs.Orders.{with_record};
-ghost use Rattle.xm_files.specs.Rows.{by_column, columns_of, condition_of, field, is_header, kind_in, name_index, names_members_command, restriction_of, rows_of_record, side_named, title_of, validity_of, whole_of};
+ghost use Rattle.std.specs.List.{range_with_len};
+ghost use Rattle.xm_files.specs.Examples.{change_record, entered_row, every_title, order_record, phase_record, record_names, record_settings, round_rows, row_of, second_titles, record_with_text};
+ghost use Rattle.xm_files.specs.Orders.{format_of, rows_of_records, with_record};
+ghost use Rattle.xm_files.specs.Rows.{by_column, columns_of, condition_in, field, is_header, kind_in, name_index, names_members_command, restriction_of, rows_of_record, side_named, title_of, validity_of, whole_of};
 ghost use Rattle.xm_files.specs.Segment.{are_distinct, is_name};
 ghost use Rattle.xm_files.specs.Timetable.{ends_round, is_one_round, rounds_of, share_of};
 ghost use Rattle.xm_files.specs.declared.file_faults.FileCause.TheVariants.{BadField, BadHeader, Syntax};
 ghost use Rattle.xm_files.specs.declared.columns.Column.TheVariants as column;
 ghost use Rattle.xm_files.specs.declared.entries.Word.TheVariants as word;
-ghost use Rattle.xm_files.specs.declared.order_format.OrderFormat.TheVariants.{First};
+ghost use Rattle.xm_files.specs.declared.order_format.OrderFormat.TheVariants.{First, Second};
 ghost use Rattle.xm_rules.specs.declared.commands.Command.TheVariants.{Cancel, CancelAll, Change, EndDay, StartClosing, StartIntraday, StartOpening, Uncross};
 ghost use Rattle.xm_rules.specs.declared.commands.Condition.TheVariants.{Fok, Ioc, Plain};
 ghost use Rattle.xm_rules.specs.declared.commands.Kind.TheVariants.{Limit, Market, StopLimit, StopMarket};
@@ -19,14 +20,25 @@ ghost use Rattle.xm_rules.specs.declared.orders.Validity.TheVariants.{Day, TillC
 /// The titles of the columns, and the header that they make.
 pub fn titles()
     ensures titles { map title_of (columns_of First) ≡ every_title }
+    ensures second { map title_of (columns_of Second) ≡ second_titles }
     ensures header { is_header First every_title ≡ true }
     ensures short { is_header First (codes "command" ∷ []) ≡ false }
     ensures long { is_header First (codes "command" ∷ every_title) ≡ false }
 {}
 
+/// The format of a file is that of its header. Another record is none.
+pub fn formats()
+    ensures first { format_of every_title ≡ Some First }
+    ensures second { format_of second_titles ≡ Some Second }
+    ensures short { format_of (codes "command" ∷ []) ≡ None }
+    ensures other { format_of (record_with_text every_title (codes "note")) ≡ None }
+    ensures long { format_of (record_with_text second_titles (codes "text")) ≡ None }
+{}
+
 /// Fields are found by the columns of their format, in whichever order they stand. A column that isn't one of them has an empty field.
 pub fn fields_by_column()
-    ensures first { by_column (columns_of First) every_title ≡ every_title }
+    ensures first { by_column (columns_of First) every_title ≡ record_with_text every_title [] }
+    ensures second { by_column (columns_of Second) second_titles ≡ second_titles }
     ensures turned { field column.Command (by_column (column.Member ∷ column.Command ∷ []) (codes "AAA" ∷ codes "open" ∷ [])) ≡ codes "open" }
     ensures other { field column.Member (by_column (column.Member ∷ column.Command ∷ []) (codes "AAA" ∷ codes "open" ∷ [])) ≡ codes "AAA" }
     ensures absent { field column.Security (by_column (column.Member ∷ column.Command ∷ []) (codes "AAA" ∷ codes "open" ∷ [])) ≡ [] }
@@ -36,6 +48,7 @@ pub fn fields_by_column()
 pub fn command_words()
     ensures members { map (kind_in First) (codes "enter" ∷ codes "change" ∷ codes "cancel" ∷ codes "cancel-all" ∷ []) ≡ Some word.Enter ∷ Some word.Change ∷ Some word.Cancel ∷ Some word.CancelAll ∷ [] }
     ensures phases { map (kind_in First) (codes "open" ∷ codes "intraday" ∷ codes "close" ∷ codes "uncross" ∷ codes "end" ∷ []) ≡ Some word.Open ∷ Some word.Intraday ∷ Some word.Close ∷ Some word.Uncross ∷ Some word.End ∷ [] }
+    ensures second { map (kind_in Second) (codes "enter" ∷ codes "end" ∷ []) ≡ Some word.Enter ∷ Some word.End ∷ [] }
     ensures none { map (kind_in First) (codes "" ∷ codes "Enter" ∷ codes "quote" ∷ []) ≡ None ∷ None ∷ None ∷ [] }
 {}
 
@@ -44,7 +57,8 @@ pub fn words()
     ensures sides { map side_named (codes "buy" ∷ codes "sell" ∷ codes "Buy" ∷ codes "" ∷ []) ≡ Some Buy ∷ Some Sell ∷ None ∷ None ∷ [] }
     ensures restrictions { map restriction_of (codes "" ∷ codes "free" ∷ codes "opening" ∷ codes "auctions" ∷ codes "closing" ∷ codes "open" ∷ [])
         ≡ Some Free ∷ Some Free ∷ Some OpeningOnly ∷ Some AuctionsOnly ∷ Some ClosingOnly ∷ None ∷ [] }
-    ensures conditions { map condition_of (codes "" ∷ codes "plain" ∷ codes "ioc" ∷ codes "fok" ∷ codes "gtc" ∷ []) ≡ Some Plain ∷ Some Plain ∷ Some Ioc ∷ Some Fok ∷ None ∷ [] }
+    ensures conditions { map (condition_in First) (codes "" ∷ codes "plain" ∷ codes "ioc" ∷ codes "fok" ∷ codes "gtc" ∷ []) ≡ Some Plain ∷ Some Plain ∷ Some Ioc ∷ Some Fok ∷ None ∷ [] }
+    ensures second { map (condition_in Second) (codes "" ∷ codes "plain" ∷ codes "ioc" ∷ codes "fok" ∷ codes "gtc" ∷ []) ≡ Some Plain ∷ Some Plain ∷ Some Ioc ∷ Some Fok ∷ None ∷ [] }
 {}
 
 /// Validities: a date has eight digits.
@@ -114,13 +128,30 @@ pub fn phases()
     ensures word { rows_of_record First record_names record_settings 2 (phase_record (codes "begin") (codes "*")) ≡ None }
 {}
 
-/// The first record is the header, and each other one has as many fields; a fault has the number of its record.
+/// A record of the second format says what it says without its text, which has at most 64 bytes, of whatever kind.
+pub fn texts()
+    ensures none { rows_of_record Second record_names record_settings 2 (record_with_text (phase_record (codes "close") (codes "XYZ")) []) ≡ Some (row_of 0 StartClosing ∷ []) }
+    ensures some { rows_of_record Second record_names record_settings 2 (record_with_text (change_record (codes "cancel") (codes "7") (codes "") (codes "")) (codes "a, b")) ≡ Some (row_of 0 (Cancel 1 7) ∷ []) }
+    ensures most { rows_of_record Second record_names record_settings 2 (record_with_text (phase_record (codes "close") (codes "XYZ")) (range_with_len 190 64)) ≡ Some (row_of 0 StartClosing ∷ []) }
+    ensures more { rows_of_record Second record_names record_settings 2 (record_with_text (phase_record (codes "close") (codes "XYZ")) (range_with_len 190 65)) ≡ None }
+{}
+
+/// A record has as many fields as its format has columns; a fault has the number of its record.
 pub fn numbers_of_records()
-    ensures header { with_record record_names record_settings 1 [] every_title ≡ Ok [] }
-    ensures no_header { with_record record_names record_settings 1 [] (phase_record (codes "open") (codes "*")) ≡ Err (record { line = 1; cause = BadHeader }) }
-    ensures more { with_record record_names record_settings 3 (row_of 0 Uncross ∷ []) (phase_record (codes "close") (codes "XYZ")) ≡ Ok (row_of 0 Uncross ∷ record (row_of 0 StartClosing) { line = 3 } ∷ []) }
-    ensures short { with_record record_names record_settings 3 [] (codes "open" ∷ []) ≡ Err (record { line = 3; cause = Syntax }) }
-    ensures bad { with_record record_names record_settings 4 [] (phase_record (codes "begin") (codes "*")) ≡ Err (record { line = 4; cause = BadField }) }
+    ensures more { with_record record_names record_settings First 3 (row_of 0 Uncross ∷ []) (phase_record (codes "close") (codes "XYZ")) ≡ Ok (row_of 0 Uncross ∷ record (row_of 0 StartClosing) { line = 3 } ∷ []) }
+    ensures short { with_record record_names record_settings First 3 [] (codes "open" ∷ []) ≡ Err (record { line = 3; cause = Syntax }) }
+    ensures bad { with_record record_names record_settings First 4 [] (phase_record (codes "begin") (codes "*")) ≡ Err (record { line = 4; cause = BadField }) }
+    ensures long { with_record record_names record_settings First 3 [] (record_with_text (phase_record (codes "open") (codes "*")) []) ≡ Err (record { line = 3; cause = Syntax }) }
+    ensures no_text { with_record record_names record_settings Second 3 [] (phase_record (codes "open") (codes "*")) ≡ Err (record { line = 3; cause = Syntax }) }
+{}
+
+/// The first record of a file is the header of a format, and the others are of that format.
+pub fn headers()
+    ensures none { rows_of_records record_names record_settings [] [] ≡ Err (record { line = 1; cause = BadHeader }) }
+    ensures no_header { rows_of_records record_names record_settings [] (phase_record (codes "open") (codes "*") ∷ []) ≡ Err (record { line = 1; cause = BadHeader }) }
+    ensures header { rows_of_records record_names record_settings [] (every_title ∷ []) ≡ Ok [] }
+    ensures first { rows_of_records record_names record_settings [] (every_title ∷ phase_record (codes "close") (codes "XYZ") ∷ []) ≡ Ok (row_of 0 StartClosing ∷ []) }
+    ensures second { rows_of_records record_names record_settings [] (second_titles ∷ record_with_text (phase_record (codes "close") (codes "XYZ")) [] ∷ []) ≡ Ok (row_of 0 StartClosing ∷ []) }
 {}
 
 /// Rounds of members' rows and the phase rows after them, and what each of two workers works of them.

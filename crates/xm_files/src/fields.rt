@@ -7,6 +7,9 @@ ghost use Rattle.xm_files.specs.Rows.{condition_of, date_of, raw_price, restrict
 use xm_rules::{Condition, Restriction, Side, Validity};
 use xm_ticks::{PriceFault, TickSize, read_number, read_price};
 
+/// The most bytes of the free text of a record.
+pub(crate) const MAX_TEXT: usize = 64;
+
 /// Whether a field is this word.
 pub(crate) fn is_word(text: &[u8], word: &str) -> bool
     ensures { result ≡ bytes_eq text.now word.now }
@@ -98,6 +101,8 @@ pub(crate) fn condition(text: &[u8]) -> Option<Condition>
         Some(Condition::Ioc)
     } else if is_word(text, "fok") {
         Some(Condition::Fok)
+    } else if is_word(text, "boc") {
+        Some(Condition::Boc)
     } else {
         None
     }

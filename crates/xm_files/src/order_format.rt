@@ -1,17 +1,20 @@
 //! The formats of order files: the columns of each, and its kinds of commands.
 ghost use Rattle.std.specs.Prelude.{◌≡◌};
-ghost use Rattle.xm_files.specs.Rows.{columns_of, has_word, kinds_of, column_place};
+ghost use Rattle.xm_files.specs.Rows.{columns_of, has_condition, has_word, kinds_of, column_place};
 
 use crate::columns::Column;
 use crate::entries::Word;
+use xm_rules::Condition;
 
 /// The most columns that a format has.
-pub(crate) const MOST_COLUMNS: usize = 12;
+pub(crate) const MOST_COLUMNS: usize = 13;
 
 /// A format of order files. It says which columns a record has, in which order, and which commands records give.
 #[derive(Clone, Copy, PartialEq, Eq, Debug)]
 pub(crate) enum OrderFormat {
     First,
+    /// With a free text behind the columns of the first.
+    Second,
 }
 
 impl OrderFormat {
@@ -21,7 +24,8 @@ impl OrderFormat {
         ensures { result.now ≡ columns_of self }
     {
         match self {
-            OrderFormat::First => &Column::ALL,
+            OrderFormat::First => &Column::FIRST,
+            OrderFormat::Second => &Column::ALL,
         }
     }
 
@@ -31,7 +35,7 @@ impl OrderFormat {
         ensures { result ≡ column_place (columns_of self) column }
     {
         match self {
-            OrderFormat::First => column.index(),
+            OrderFormat::First | OrderFormat::Second => column.index(),
         }
     }
 
@@ -41,7 +45,7 @@ impl OrderFormat {
         ensures { result.now ≡ kinds_of self }
     {
         match self {
-            OrderFormat::First => &Word::ALL,
+            OrderFormat::First | OrderFormat::Second => &Word::ALL,
         }
     }
 
@@ -51,5 +55,21 @@ impl OrderFormat {
         ensures { result ≡ has_word self word }
     {
         self.kinds().iter().any(|other| *other == word)
+    }
+
+    /// Whether orders may have this condition.
+    #[inline(always)]
+    pub(crate) fn has_condition(self, condition: Condition) -> bool
+        ensures { result ≡ has_condition self condition }
+    {
+        match self {
+            OrderFormat::First => match condition {
+                Condition::Plain | Condition::Ioc | Condition::Fok => true,
+                Condition::Boc => false,
+            },
+            OrderFormat::Second => match condition {
+                Condition::Plain | Condition::Ioc | Condition::Fok | Condition::Boc => true,
+            },
+        }
     }
 }

@@ -1,29 +1,29 @@
 //! The order file.
-ghost use Rattle.std.specs.Prelude.{ℕ, ◌≡◌, ◌≢◌, ◌==◌, ◌+◌, ◌<◌, ◌≤◌, ◌∷◌, ◌++◌, List, [], length, map, true, false, OnOk, OnErr, IfOk, IfErr, IfSome, Ok, Err, if◌then◌else◌};
+ghost use Rattle.std.specs.Prelude.{ℕ, ◌≡◌, ◌≢◌, ◌==◌, ◌+◌, ◌<◌, ◌≤◌, ◌∷◌, ◌++◌, List, [], length, map, true, false, OnOk, OnErr, IfOk, IfErr, IfSome, None, Some, Ok, Err, if◌then◌else◌};
 ghost use Rattle.std.specs.Bool.{OnTrue, OnFalse};
-ghost use Rattle.std.specs.List.{list_all, range_with_len};
-ghost use Rattle.csv.specs.Reading.{default_config, records, strip_bom};
+ghost use Rattle.std.specs.List.{range_with_len};
 ghost use Rattle.csv.specs.Records.{fields_of};
-ghost use Rattle.xm_files.specs.Batches.{BeginsLines, rows_from, rows_so_far, text_left};
+ghost use Rattle.xm_files.specs.Batches.{rows_from, rows_so_far, text_left};
 ghost use Rattle.xm_files.specs.FileFaults.{is_from_outside};
 ghost use Rattle.xm_files.specs.Names.{NameLists};
-ghost use Rattle.xm_files.specs.Orders.{orders_of, rows_after, rows_of_records, with_record, with_rows};
+ghost use Rattle.xm_files.specs.Orders.{IsHeaded, NoHeader, orders_of, records_in, rows_after, with_record, with_rows};
 ghost use Rattle.xm_files.specs.Parts.{IsFull, IsRound, ends_before, is_so_far};
-ghost use Rattle.xm_files.specs.Plain.{IsBehind, IsBehindHeader, rest_of};
-ghost use Rattle.xm_files.specs.Rows.{columns_of, command_in, is_header, record_of, rows_of_entry, rows_of_record};
+ghost use Rattle.xm_files.specs.Plain.{IsBehind, rest_of};
+ghost use Rattle.xm_files.specs.Rows.{columns_of, command_in, record_of, rows_of_entry, rows_of_record};
 ghost use Rattle.xm_files.specs.Unread.{csv_left};
-ghost use Rattle.xm_files.specs.declared.order_format.OrderFormat.TheVariants.{First};
 
 use crate::batch::Batch;
 use crate::bytes::{MAX_BYTES, read_whole};
 use crate::csv_records::CsvRecords;
 use crate::entries::{RecordEntry, parse_entry};
 use crate::file_faults::{FileCause, FileFault};
+use crate::headers::{csv_behind_header, header_line};
 use crate::marks::Marks;
 use crate::names::SegmentNames;
 use crate::order_format::OrderFormat;
 use crate::part::Part;
 use crate::records::Fields;
+use crate::wide::begin_wide;
 use csv::ByteRecord;
 use std::alloc::Global;
 use std::io::Read;
@@ -31,9 +31,6 @@ use std::marker::Model;
 use xm_memory::OutOfMemory;
 use xm_rules::Command;
 use xm_segment::{Row, SegmentConfig};
-
-/// The first byte of a byte order mark.
-const BYTE_ORDER_MARK: u8 = 0xEF;
 
 /// The most rows that an order file may stand for.
 pub const MAX_ROWS: usize = 1_000_000;
@@ -84,7 +81,9 @@ pub struct RowReader<'a> {
     left: &'a [u8],
     // The number of the next record, the header being 1.
     line: u32,
-    // From the first record on that is no line without quotes: what CSV reads, in place of the two.
+    // The format of the records, once the header is read.
+    format: Option<OrderFormat>,
+    // From the first record on that is no line without quotes: what CSV reads, in place of the text and the number.
     csv: Option<CsvRecords<'a>>,
 }
 
@@ -93,13 +92,14 @@ impl Drop for RowReader<'_> {
         let RowReader {
             left: _left,
             line: _line,
+            format: _format,
             csv: _csv,
         } = self;
     }
 }
 
 impl<'a> Model for RowReader<'a> {
-    ghost use Rattle.std.specs.Prelude.{◌≡◌, ◌+◌, ◌≤◌, length};
+    ghost use Rattle.std.specs.Prelude.{◌≡◌, ◌+◌, ◌≤◌, length, None};
     ghost use Rattle.xm_files.specs.Batches.{RowsLeft, text_left};
     ghost use Rattle.xm_files.specs.FileFaults.{max_bytes};
     ghost use Rattle.xm_files.specs.Orders.{max_lines};
@@ -107,13 +107,13 @@ impl<'a> Model for RowReader<'a> {
 
     ghost Value = { RowsLeft };
 
-    ghost view = { λ r. left_of_either r.csv (text_left r.left.now r.line) };
+    ghost view = { λ r. left_of_either r.csv (text_left r.left.now r.format r.line) };
 
     ghost invariant = { λ r. record {
       begun : 1 ≤ r.line;
-      whole : r.line ≡ 1 → length r.left.now ≤ max_bytes;
+      unread : r.format ≡ None → (r.csv ≡ None) × (r.line ≡ 1) × (length r.left.now ≤ max_bytes);
       short : r.line + length r.left.now ≤ max_lines;
-      within : (left_of_either r.csv (text_left r.left.now r.line)).line ≤ max_lines;
+      within : (left_of_either r.csv (text_left r.left.now r.format r.line)).line ≤ max_lines;
     } };
 }
 
@@ -121,11 +121,12 @@ impl<'a> RowReader<'a> {
     /// An order file of which nothing is read yet.
     pub fn of(text: &'a [u8]) -> RowReader<'a>
         requires { length text.now ≤ MAX_BYTES }
-        ensures { result ≡ text_left text.now 1 }
+        ensures { result ≡ text_left text.now None 1 }
     {
         RowReader {
             left: text,
             line: 1,
+            format: None,
             csv: None,
         }
     }
@@ -156,40 +157,88 @@ impl<'a> RowReader<'a> {
         ensures memory { IfErr result (λ fault. OnTrue (is_from_outside fault.cause) (fault.line ≡ 0)) }
     {
         batch.begin();
+        let format = match self.begin(alloc) {
+            Ok(format) => format,
+            Err(fault) => return Err(fault),
+        };
         if let Some(csv) = &mut self.csv {
-            let more = add_records(batch, csv, part, names, config)?;
+            let more = add_records(batch, csv, format, part, names, config)?;
             let _ = batch.total(); // What every batch keeps is known of one whose rows are counted.
             return Ok(more);
         }
-        let left = add_lines(batch, self.left, self.line, part, names, config)?;
+        let left = add_lines(batch, self.left, format, self.line, part, names, config)?;
         if left.is_at_end {
             self.left = left.text;
             self.line = left.line;
             let _ = batch.total(); // What every batch keeps is known of one whose rows are counted.
             return Ok(true);
         }
-        let more = self.begin_csv(alloc, batch, &left, part, names, config)?;
+        let more = self.begin_csv(alloc, batch, format, &left, part, names, config)?;
         let _ = batch.total(); // What every batch keeps is known of one whose rows are counted.
         Ok(more)
     }
 
-    /// Reads a part on that lines begin, where CSV reads from here on. It stands by itself, since what CSV reads with is large,
-    /// and most files have no use for it.
+    /// The format of the records. The header, which says it, is read where it wasn't yet.
+    fn begin(&mut self, alloc: Global) -> Result<OrderFormat, FileFault>
+        ensures format { IfOk result (λ format. self.new.format ≡ Some format) }
+        ensures read { OnOk result ((names : NameLists) (config : SegmentConfig) (rows : List Row) → rows_from names config self.old rows ≡ rows_from names config self.new rows) }
+        ensures onward { self.old.line ≤ self.new.line }
+        ensures bounded { self.new.line ≤ MAX_LINES }
+        ensures err { IfErr result (λ fault. fault.cause ≢ FileCause.OutOfMemory tt → (names : NameLists) (config : SegmentConfig) (rows : List Row) → rows_from names config self.old rows ≡ Err fault) }
+        ensures memory { IfErr result (λ fault. OnTrue (is_from_outside fault.cause) (fault.line ≡ 0)) }
+    {
+        match self.format {
+            Some(format) => Ok(format),
+            None => self.read_header(alloc),
+        }
+    }
+
+    /// Reads the header, which says the format of the records.
+    #[inline(never)]
+    fn read_header(&mut self, alloc: Global) -> Result<OrderFormat, FileFault>
+        requires { self.old.format ≡ None }
+        ensures format { IfOk result (λ format. self.new.format ≡ Some format) }
+        ensures headed { IfOk result (λ format. IsHeaded self.old.records format self.new.records) }
+        ensures line { OnOk result (self.new.line ≡ 2) }
+        ensures first { self.old.line ≡ 1 }
+        ensures err { IfErr result (λ fault. fault.cause ≢ FileCause.OutOfMemory tt → NoHeader self.old.records fault) }
+        ensures kept { OnErr result (self.new ≡ self.old) }
+        ensures memory { IfErr result (λ fault. OnTrue (is_from_outside fault.cause) (fault.line ≡ 0)) }
+    {
+        if let Some((format, left)) = header_line(self.left) {
+            self.left = left;
+            self.line = 2;
+            self.format = Some(format);
+            return Ok(format);
+        }
+        match csv_behind_header(alloc, self.left) {
+            Ok((format, csv)) => {
+                self.csv = Some(csv);
+                self.format = Some(format);
+                Ok(format)
+            }
+            Err(fault) => Err(fault),
+        }
+    }
+
+    /// Reads a part on that lines begin, where CSV reads from here on, unless its first record is seen to have too many fields. It
+    /// stands by itself, since what CSV reads with is large, and most files have no use for it.
     #[inline(never)]
     fn begin_csv(
         &mut self,
         alloc: Global,
         batch: &mut Batch,
+        format: OrderFormat,
         left: &LinesLeft<'a>,
         part: Part,
         names: &SegmentNames,
         config: &SegmentConfig,
     ) -> Result<bool, FileFault>
+        requires format { self.old.format ≡ Some format }
         requires begun { 1 ≤ left.now.line }
         requires short { left.now.line + length left.now.text.now ≤ MAX_LINES }
         requires so_far { is_so_far part batch.old.rows ≡ true }
-        requires header { 0 < length batch.old.rows → 2 ≤ left.now.line }
-        ensures read { OnOk result (rows_from names.now config.now (text_left left.now.text.now left.now.line) (rows_so_far batch.old) ≡ rows_from names.now config.now self.new (rows_so_far batch.new)) }
+        ensures read { OnOk result (rows_from names.now config.now (text_left left.now.text.now (Some format) left.now.line) (rows_so_far batch.old) ≡ rows_from names.now config.now self.new (rows_so_far batch.new)) }
         ensures ended { result ≡ Ok false → rows_from names.now config.now self.new (rows_so_far batch.new) ≡ Ok (rows_so_far batch.new) }
         ensures earlier { OnOk result (batch.new.earlier ≡ batch.old.earlier) }
         ensures full { result ≡ Ok true → IsFull part batch.new.rows }
@@ -197,12 +246,15 @@ impl<'a> RowReader<'a> {
         ensures within { OnOk result (self.new.line ≤ MAX_LINES) }
         ensures onward { OnOk result (left.now.line ≤ self.new.line) }
         ensures further { result ≡ Ok true → length batch.old.rows ≡ 0 → left.now.line < self.new.line }
-        ensures err { IfErr result (λ fault. fault.cause ≢ FileCause.OutOfMemory tt → rows_from names.now config.now (text_left left.now.text.now left.now.line) (rows_so_far batch.old) ≡ Err fault) }
+        ensures err { IfErr result (λ fault. fault.cause ≢ FileCause.OutOfMemory tt → rows_from names.now config.now (text_left left.now.text.now (Some format) left.now.line) (rows_so_far batch.old) ≡ Err fault) }
         ensures kept { OnErr result (self.new ≡ self.old) }
         ensures memory { IfErr result (λ fault. OnTrue (is_from_outside fault.cause) (fault.line ≡ 0)) }
     {
+        if wide_record(left.text).is_some() {
+            return Err(fault_at(left.line, FileCause::Syntax));
+        }
         let mut csv = CsvRecords::of(alloc, left.text, left.line);
-        match add_records(batch, &mut csv, part, names, config) {
+        match add_records(batch, &mut csv, format, part, names, config) {
             Ok(more) => {
                 self.csv = Some(csv);
                 Ok(more)
@@ -217,33 +269,33 @@ impl<'a> RowReader<'a> {
 fn add_records(
     batch: &mut Batch,
     csv: &mut CsvRecords,
+    format: OrderFormat,
     part: Part,
     names: &SegmentNames,
     config: &SegmentConfig,
 ) -> Result<bool, FileFault>
-    requires begun { is_so_far part batch.old.rows ≡ true }
-    requires header { 0 < length batch.old.rows → 2 ≤ csv.old.line }
-    ensures read { OnOk result (rows_from names.now config.now (csv_left csv.old) (rows_so_far batch.old) ≡ rows_from names.now config.now (csv_left csv.new) (rows_so_far batch.new)) }
-    ensures ended { result ≡ Ok false → rows_from names.now config.now (csv_left csv.new) (rows_so_far batch.new) ≡ Ok (rows_so_far batch.new) }
+    requires { is_so_far part batch.old.rows ≡ true }
+    ensures read { OnOk result (rows_from names.now config.now (csv_left (Some format) csv.old) (rows_so_far batch.old) ≡ rows_from names.now config.now (csv_left (Some format) csv.new) (rows_so_far batch.new)) }
+    ensures ended { result ≡ Ok false → rows_from names.now config.now (csv_left (Some format) csv.new) (rows_so_far batch.new) ≡ Ok (rows_so_far batch.new) }
     ensures earlier { OnOk result (batch.new.earlier ≡ batch.old.earlier) }
     ensures full { result ≡ Ok true → IsFull part batch.new.rows }
-    ensures round { part ≡ Part.Round → OnOk result (IsRound names.now config.now (csv_left csv.new) batch.new) }
+    ensures round { part ≡ Part.Round → OnOk result (IsRound names.now config.now (csv_left (Some format) csv.new) batch.new) }
     ensures onward { csv.old.line ≤ csv.new.line }
     ensures further { result ≡ Ok true → length batch.old.rows ≡ 0 → csv.old.line < csv.new.line }
     ensures within { csv.new.line ≤ MAX_LINES }
-    ensures err { IfErr result (λ fault. fault.cause ≢ FileCause.OutOfMemory tt → rows_from names.now config.now (csv_left csv.old) (rows_so_far batch.old) ≡ Err fault) }
+    ensures err { IfErr result (λ fault. fault.cause ≢ FileCause.OutOfMemory tt → rows_from names.now config.now (csv_left (Some format) csv.old) (rows_so_far batch.old) ≡ Err fault) }
     ensures memory { IfErr result (λ fault. OnTrue (is_from_outside fault.cause) (fault.line ≡ 0)) }
 {
     'records: loop {
         match csv.look_ahead() {
             Ok(true) => {}
-            Ok(false) => return end_of(csv.line()),
+            Ok(false) => return Ok(false),
             Err(wanting) => return Err(FileFault::from(wanting)),
         }
-        if ends_before(part, batch, csv.row()) {
+        if ends_before(part, batch, format, csv.row()) {
             return Ok(true);
         }
-        match add_fields(batch, csv.line(), csv.row(), names, config) {
+        match add_fields(batch, format, csv.line(), csv.row(), names, config) {
             Ok(()) => {}
             Err(fault) => return Err(fault),
         }
@@ -254,24 +306,11 @@ fn add_records(
     }
 }
 
-/// The answer where no record has this number: without any the file lacks the header.
-fn end_of(line: u32) -> Result<bool, FileFault>
-    ensures ok { OnOk result (line ≢ 1) }
-    ensures ended { result ≢ Ok true }
-    ensures err { IfErr result (λ fault. (line ≡ 1) × (fault ≡ record { line = 1; cause = FileCause.BadHeader })) }
-{
-    if line == 1 {
-        Err(fault_at(1, FileCause::BadHeader))
-    } else {
-        Ok(false)
-    }
-}
-
 /// Whether a part whose rows are those of a batch ends before a record that CSV read.
-fn ends_before(part: Part, batch: &Batch, row: &ByteRecord) -> bool
-    ensures { result ≡ (if length (fields_of row.now) == length (columns_of First) then ends_before part batch.now.rows (command_in First (fields_of row.now)) else false) }
+fn ends_before(part: Part, batch: &Batch, format: OrderFormat, row: &ByteRecord) -> bool
+    ensures { result ≡ (if length (fields_of row.now) == length (columns_of format) then ends_before part batch.now.rows (command_in format (fields_of row.now)) else false) }
 {
-    match Fields::of(OrderFormat::First, row) {
+    match Fields::of(format, row) {
         Some(fields) => part.ends_before(batch, &fields),
         None => false,
     }
@@ -287,39 +326,41 @@ struct LinesLeft<'a> {
     is_at_end: bool,
 }
 
-/// Adds the rows of the lines that a text begins with, of which the first has this number, up to the end of a part that a
-/// batch begins, and as long as none has a quote or a carriage return, and each has as many fields as columns.
+/// Adds the rows of the lines behind the line feed that a text begins with, of which the first has this number, up to the end
+/// of a part that a batch begins, and as long as none has a quote or a carriage return, and each has as many fields as the
+/// format has columns.
 #[inline(always)]
 fn add_lines<'a>(
     batch: &mut Batch,
     text: &'a [u8],
+    format: OrderFormat,
     first: u32,
     part: Part,
     names: &SegmentNames,
     config: &SegmentConfig,
 ) -> Result<LinesLeft<'a>, FileFault>
     requires begun { 1 ≤ first }
-    requires whole { first ≡ 1 → length text.now ≤ MAX_BYTES }
     requires short { first + length text.now ≤ MAX_LINES }
     requires empty { batch.old.rows ≡ [] }
-    ensures ok { IfOk result (λ left. rows_from names.now config.now (text_left text.now first) (rows_so_far batch.old) ≡ rows_from names.now config.now (text_left left.text.now left.line) (rows_so_far batch.new)) }
+    ensures ok { IfOk result (λ left. rows_from names.now config.now (text_left text.now (Some format) first) (rows_so_far batch.old) ≡ rows_from names.now config.now (text_left left.text.now (Some format) left.line) (rows_so_far batch.new)) }
     ensures earlier { OnOk result (batch.new.earlier ≡ batch.old.earlier) }
     ensures lines { IfOk result (λ left. (first ≤ left.line) × (left.line + length left.text.now ≤ MAX_LINES)) }
     ensures begun { OnOk result (is_so_far part batch.new.rows ≡ true) }
     ensures further { IfOk result (λ left. 0 < length batch.new.rows → first < left.line) }
     ensures full { IfOk result (λ left. left.is_at_end ≡ true → IsFull part batch.new.rows × (first < left.line)) }
-    ensures round { part ≡ Part.Round → IfOk result (λ left. left.is_at_end ≡ true → IsRound names.now config.now (text_left left.text.now left.line) batch.new) }
-    ensures err { IfErr result (λ fault. fault.cause ≢ FileCause.OutOfMemory tt → rows_from names.now config.now (text_left text.now first) (rows_so_far batch.old) ≡ Err fault) }
+    ensures round { part ≡ Part.Round → IfOk result (λ left. left.is_at_end ≡ true → IsRound names.now config.now (text_left left.text.now (Some format) left.line) batch.new) }
+    ensures err { IfErr result (λ fault. fault.cause ≢ FileCause.OutOfMemory tt → rows_from names.now config.now (text_left text.now (Some format) first) (rows_so_far batch.old) ≡ Err fault) }
     ensures memory { IfErr result (λ fault. OnTrue (is_from_outside fault.cause) (fault.line ≡ 0)) }
 {
-    let Some((mut marks, mut line)) = begin_lines(text, first) else {
+    let Some(mut marks) = behind_line_feed(text) else {
         return Ok(LinesLeft {
             text,
             line: first,
             is_at_end: false,
         });
     };
-    let mut fields = Fields::empty(OrderFormat::First);
+    let mut line = first;
+    let mut fields = Fields::empty(format);
     'lines: loop {
         let left = marks.left();
         let Some(()) = fields.read_line(&mut marks) else {
@@ -351,20 +392,6 @@ fn add_lines<'a>(
     }
 }
 
-/// A text behind the line feed before its first record, which has this number, or behind the header's line, and the number
-/// of the record there.
-fn begin_lines(text: &[u8], first: u32) -> Option<(Marks<'_>, u32)>
-    requires { 1 ≤ first }
-    ensures begun { IfSome result (λ p. BeginsLines text.now first (rest_of p.0) p.1) }
-    ensures behind { IfSome result (λ p. IsBehind 10 p.0) }
-{
-    if first == 1 {
-        Some((behind_header(text)?, 2))
-    } else {
-        Some((behind_line_feed(text)?, first))
-    }
-}
-
 /// A text behind the line feed that it begins with.
 fn behind_line_feed(text: &[u8]) -> Option<Marks<'_>>
     ensures fed { IfSome result (λ marks. text.now ≡ 10 ∷ rest_of marks) }
@@ -378,19 +405,12 @@ fn behind_line_feed(text: &[u8]) -> Option<Marks<'_>>
     }
 }
 
-/// A text behind the header's line, where it begins with the header and nothing before it.
-fn behind_header(text: &[u8]) -> Option<Marks<'_>>
-    ensures header { IfSome result (λ marks. IsBehindHeader text.now (rest_of marks)) }
-    ensures behind { IfSome result (IsBehind 10) }
+/// Sees that the record behind the line feed that a text begins with has more fields than any format has columns.
+fn wide_record(text: &[u8]) -> Option<()>
+    ensures { IfSome result (λ _. (names : NameLists) (config : SegmentConfig) (format : OrderFormat) (line : ℕ) (rows : List Row) → rows_after names config format line rows (records_in text.now) ≡ Err (record { line = line; cause = FileCause.Syntax })) }
 {
-    let mut marks = Marks::of(text)?;
-    let mut fields = Fields::empty(OrderFormat::First);
-    fields.read_line(&mut marks)?;
-    if text[0] != BYTE_ORDER_MARK && fields.is_header() {
-        Some(marks)
-    } else {
-        None
-    }
+    begin_wide(&mut behind_line_feed(text)?)?;
+    Some(())
 }
 
 /// A fault of the record with this number.
@@ -400,50 +420,27 @@ fn fault_at(line: u32, cause: FileCause) -> FileFault
     FileFault { line, cause }
 }
 
-/// Adds the rows of the record with this number that CSV read. The first is the header.
+/// Adds the rows of the record of a format with this number that CSV read.
 fn add_fields(
     batch: &mut Batch,
+    format: OrderFormat,
     line: u32,
     row: &ByteRecord,
     names: &SegmentNames,
     config: &SegmentConfig,
 ) -> Result<(), FileFault>
-    requires line { 1 ≤ line }
-    ensures ok { OnOk result (with_record names.now config.now line (rows_so_far batch.old) (fields_of row.now) ≡ Ok (rows_so_far batch.new)) }
+    ensures ok { OnOk result (with_record names.now config.now format line (rows_so_far batch.old) (fields_of row.now) ≡ Ok (rows_so_far batch.new)) }
     ensures earlier { OnOk result (batch.new.earlier ≡ batch.old.earlier) }
-    ensures err { IfErr result (λ fault. fault.cause ≢ FileCause.OutOfMemory tt → with_record names.now config.now line (rows_so_far batch.old) (fields_of row.now) ≡ Err fault) }
+    ensures err { IfErr result (λ fault. fault.cause ≢ FileCause.OutOfMemory tt → with_record names.now config.now format line (rows_so_far batch.old) (fields_of row.now) ≡ Err fault) }
     ensures memory { IfErr result (λ fault. OnTrue (is_from_outside fault.cause) (fault.line ≡ 0)) }
 {
-    match Fields::of(OrderFormat::First, row) {
-        Some(fields) => {
-            if line == 1 {
-                check_header(&fields)
-            } else {
-                add_record(batch, line, &fields, names, config)
-            }
-        }
-        None => {
-            if line == 1 {
-                Err(fault_at(1, FileCause::BadHeader))
-            } else {
-                Err(fault_at(line, FileCause::Syntax))
-            }
-        }
+    match Fields::of(format, row) {
+        Some(fields) => add_record(batch, line, &fields, names, config),
+        None => Err(fault_at(line, FileCause::Syntax)),
     }
 }
 
-/// Sees that the fields of the first record are the header.
-fn check_header(fields: &Fields) -> Result<(), FileFault>
-    ensures { result ≡ (if is_header fields.now.format (record_of fields.now) then Ok tt else Err (record { line = 1; cause = FileCause.BadHeader })) }
-{
-    if fields.is_header() {
-        Ok(())
-    } else {
-        Err(fault_at(1, FileCause::BadHeader))
-    }
-}
-
-/// Adds the rows of a record with this number that isn't the header.
+/// Adds the rows of a record with this number.
 fn add_record(
     batch: &mut Batch,
     line: u32,

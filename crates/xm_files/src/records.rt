@@ -57,7 +57,23 @@ impl<'a> Fields<'a> {
         ensures count { IfSome result (λ _. length (record_of self.new) ≡ length (columns_of self.old.format)) }
         ensures behind { IfSome result (λ _. IsBehind 10 line.new) }
     {
-        let last = self.format.columns().len() - 1;
+        match self.format {
+            OrderFormat::First => self.read_fields(OrderFormat::First, line),
+            OrderFormat::Second => self.read_fields(OrderFormat::Second, line),
+        }
+    }
+
+    /// The same where the format is known, for which it is written out, so that no field asks for it.
+    #[inline(always)]
+    fn read_fields(&mut self, format: OrderFormat, line: &mut Marks<'a>) -> Option<()>
+        requires { self.old.format ≡ format }
+        ensures text { line.new.text ≡ line.old.text }
+        ensures format { self.new.format ≡ format }
+        ensures line { IfSome result (λ _. ReadsLine (rest_of line.old) (record_of self.new) (rest_of line.new)) }
+        ensures count { IfSome result (λ _. length (record_of self.new) ≡ length (columns_of format)) }
+        ensures behind { IfSome result (λ _. IsBehind 10 line.new) }
+    {
+        let last = format.columns().len() - 1;
         self.texts[0] = line.field(b',')?;
         for place in 1..last {
             self.texts[place] = line.field(b',')?;
@@ -113,7 +129,7 @@ fn has_titles(fields: &Fields, columns: &[Column]) -> bool
 }
 
 /// The field of a record of CSV at a place, which it has.
-fn text_at(row: &ByteRecord, place: usize) -> &[u8]
+pub(crate) fn text_at(row: &ByteRecord, place: usize) -> &[u8]
     ensures { result.now ≡ get_or (fields_of row.now) place [] }
 {
     match row.get(place) {

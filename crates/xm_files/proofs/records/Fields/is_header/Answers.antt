@@ -7,5 +7,5 @@ pub returns : goal.returns
 unfolding texts_of
 returns c =
     let self = c.args.self.now in
-    let twelve : length self.texts ≡ 12 = search rules in
-    titled self.format self.texts c.has_titles.result twelve (rw c.columns.ensures at c.has_titles.ensures)
+    let thirteen : length self.texts ≡ 13 = search rules in
+    titled self.format self.texts c.has_titles.result thirteen (rw c.columns.ensures at c.has_titles.ensures)

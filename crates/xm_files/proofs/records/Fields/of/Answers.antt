@@ -2,7 +2,7 @@ use Rattle.std.proofs.Common.{◌≡◌, ◌∙◌, ℕ, List, length, take, map
 use Rattle.std.proofs.lemmas.List.{length-set, take_all}
 use Rattle.csv.specs.Records.{fields_of}
 use Rattle.xm_files.proofs.CsvFields.{given}
-use Rattle.xm_files.proofs.Formats.{at-most-twelve, one-more-field, text_of}
+use Rattle.xm_files.proofs.Formats.{at-most-thirteen, one-more-field, text_of}
 use Rattle.xm_files.specs.Rows.{columns_of, record_of}
 use Rattle.xm_files.specs.declared.columns.Column.{Column}
 use Rattle.xm_files.proofs.records.Fields.of.Goals as goal
@@ -27,7 +27,7 @@ loop-place-preserved c =
     let at = c.loop-place in
     let read = at.invariant in
     let fields = fields_of c.args.row.now in
-    let few = at-most-twelve c.args.format in
+    let few = at-most-thirteen c.args.format in
     let count = ap (λ (columns : List Column). length columns) c.columns-count.ensures in
     let size = read.size in
     let whole : length fields ≡ length c.columns-count.result.now = sym c.len.ensures ∙ c.if-len-count.false in

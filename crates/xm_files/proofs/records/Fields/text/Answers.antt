@@ -13,5 +13,5 @@ pub returns-else-place-columns : goal.returns-else-place-columns
 unfolding texts_of
 returns-else-place-columns c =
     let past : length (columns_of c.args.self.now.format) ≤ c.place-place.result = search rules in
-    let twelve : length c.args.self.now.texts ≡ 12 = search rules in
-    none-at c.args.self.now.format c.args.self.now.texts c.args.column c.place-place.result c.place-place.ensures past twelve
+    let thirteen : length c.args.self.now.texts ≡ 13 = search rules in
+    none-at c.args.self.now.format c.args.self.now.texts c.args.column c.place-place.result c.place-place.ensures past thirteen

@@ -1,12 +1,12 @@
-use Rattle.std.proofs.Common.{◌≡◌, ◌-◌, ◌∙◌, List, length, refl, sym, ap, arith, rules}
+use Rattle.std.proofs.Common.{◌≡◌, ◌-◌, ◌∙◌, List, length, sym, ap, arith, rules}
 use Rattle.std.proofs.Math.ListN.{set}
 use Rattle.std.proofs.lemmas.List.{length-set}
-use Rattle.xm_files.proofs.Formats.{at-least-two, at-most-twelve, line-begun, line-ended, line-more, record-length}
+use Rattle.xm_files.proofs.Formats.{at-least-two, at-most-thirteen, line-begun, line-ended, line-more, record-length}
 use Rattle.xm_files.specs.Plain.{rest_of}
 use Rattle.xm_files.specs.Rows.{columns_of}
 use Rattle.xm_files.specs.declared.columns.Column.{Column}
 use Rattle.xm_files.specs.declared.order_format.OrderFormat.{OrderFormat}
-use Rattle.xm_files.proofs.records.Fields.read_line.Goals as goal
+use Rattle.xm_files.proofs.records.Fields.read_fields.Goals as goal
 
 pub returns-clause-line : goal.returns-clause-line
 returns-clause-line c =
@@ -28,12 +28,12 @@ returns-clause-count c =
 
 pub loop-place-init : goal.loop-place-init
 loop-place-init c =
-    let twelve : length c.args.self.now.texts ≡ 12 = search rules in
+    let thirteen : length c.args.self.now.texts ≡ 13 = search rules in
     record {
       text = c.in_ok-self.ensures.text;
-      format = refl;
-      size = length-set c.args.self.now.texts 0 c.in_ok-self.field-0 ∙ twelve;
-      read = line-begun c.args.self.now.texts c.in_ok-self.field-0 (rest_of c.args.line.now) (rest_of c.field.new.self) twelve c.in_ok-self.ensures.field;
+      format = c.requires;
+      size = length-set c.args.self.now.texts 0 c.in_ok-self.field-0 ∙ thirteen;
+      read = line-begun c.args.self.now.texts c.in_ok-self.field-0 (rest_of c.args.line.now) (rest_of c.field.new.self) thirteen c.in_ok-self.ensures.field;
     }
 
 pub loop-place-preserved : goal.loop-place-preserved
@@ -41,7 +41,7 @@ loop-place-preserved c =
     let at = c.loop-place in
     let field = c.in_ok-self-2.field-0 in
     let size = at.invariant.size in
-    let few = at-most-twelve c.args.self.now.format in
+    let few = at-most-thirteen c.args.format in
     let count = ap (λ (columns : List Column). length columns) c.columns.ensures in
     record {
       text = c.in_ok-self-2.ensures.text ∙ at.invariant.text;
