@@ -16,7 +16,7 @@ use Rattle.xm_day.specs.Workers.{HasWorked, HaveTaken, HaveWorked, WorkerView, a
 use Rattle.xm_files.specs.Timetable.{is_of_member, share_of}
 use Rattle.xm_day.specs.declared.standing.Standing.{Standing}
 use Rattle.xm_rules.specs.declared.replies.Refusal.{Refusal}
-use Rattle.xm_rules.specs.declared.replies.Refusal.TheVariants.{UnknownSecurity, UnknownMember, DayEnded, BadQuantity, BadPrice, BadValidity, BadCombination, WrongPhase, DuplicateReference, UnknownOrder, NotChangeable, TriggerReached, JournalFull, OutOfMemory}
+use Rattle.xm_rules.specs.declared.replies.Refusal.TheVariants.{UnknownSecurity, UnknownMember, DayEnded, BadQuantity, BadPrice, BadValidity, BadCombination, WrongPhase, DuplicateReference, UnknownOrder, NotChangeable, TriggerReached, JournalFull, OutOfMemory, WouldExecute}
 use Rattle.xm_rules.specs.declared.replies.Reply.{Reply}
 use Rattle.xm_rules.specs.declared.settings.DeskSettings.{DeskSettings}
 use Rattle.xm_segment.specs.Reports.{no_report, report_from, report_of, with_answer_in}
@@ -49,6 +49,7 @@ want-told report (Err UnknownOrder) lacks none = cc
 want-told report (Err NotChangeable) lacks none = cc
 want-told report (Err TriggerReached) lacks none = cc
 want-told report (Err JournalFull) lacks none = cc
+want-told report (Err WouldExecute) lacks none = cc
 
 -- memory wasn't wanting for an answer
 abbrev pub keeps : Result Reply Refusal → Bool

@@ -30,27 +30,19 @@ OrdersEnd-of_writing days config names rows orders old new (Orders fault) read s
 OrdersEnd-of_writing days config names rows orders old new (Open fault) read sound is failed = absurd is
 
 -- want of memory is told as such
-pub if_memory : (asked : AskedTexts) (names : NameLists) (config : SegmentConfig) (rows : List Row) (result : Result OpenDay DayFault) → IsErrAnd result (λ fault. fault ≡ OutOfMemory tt) → segment_fault config ≡ None
-    → (AsksNothing asked → LacksMemoryAt (opening_day config) rows) → HasTaken asked names config rows result
-if_memory asked names config rows (Ok d) is sound lacks = absurd is
-if_memory asked names config rows (Err fault) is sound lacks = subst (λ (f : DayFault). HasTaken asked names config rows (Err f)) (sym is) (sound, lacks)
+pub if_memory : (asked : AskedTexts) (names : NameLists) (orders : List ℕ) (config : SegmentConfig) (rows : List Row) (result : Result OpenDay DayFault) → IsErrAnd result (λ fault. fault ≡ OutOfMemory tt) → segment_fault config ≡ None
+    → (AsksNothing asked → LacksMemoryAt (opening_day config) rows) → HasTaken asked names orders config rows result
+if_memory asked names orders config rows (Ok d) is sound lacks = absurd is
+if_memory asked names orders config rows (Err fault) is sound lacks = subst (λ (f : DayFault). HasTaken asked names orders config rows (Err f)) (sym is) (sound, lacks)
 
 -- the desks that took the rows in their order are those of their one day
-pub taken-ends : (asked : AskedTexts) (names : NameLists) (config : SegmentConfig) (rows : List Row) (result : Result OpenDay DayFault) → HasTaken asked names config rows result → DesksEnd InFileOrder config rows result
-taken-ends asked names config rows (Ok d) has = (has.sound, has.each, has.day_is)
-taken-ends asked names config rows (Err (Open fault)) has = has
-taken-ends asked names config rows (Err (OutOfMemory _)) has = has.0
-taken-ends asked names config rows (Err WriteFailed) has = absurd has
-taken-ends asked names config rows (Err (Segment fault)) has = absurd has
-taken-ends asked names config rows (Err (Orders fault)) has = absurd has
-
--- what the bytes of an order file give
-pub orders-read : (names : NameLists) (config : SegmentConfig) (file : Option (List ℕ)) (read : List ℕ) (rows : Result (List Row) FileFault) → IfSome file (λ bytes. read ≡ bytes) → length read ≤ 16777216
-    → rows_from names config (text_left read 1) [] ≡ rows → IfSome file (λ bytes. orders_of names config bytes ≡ rows)
-orders-read names config None read rows is short gives = tt
-orders-read names config (Some bytes) read rows is short gives =
-    let within : nat_lt 16777216 (length read) ≡ false = le-ltb 16777216 (length read) short in
-    subst (λ (bs : List ℕ). orders_of names config bs ≡ rows) is (rw within gives)
+pub taken-ends : (asked : AskedTexts) (names : NameLists) (orders : List ℕ) (config : SegmentConfig) (rows : List Row) (result : Result OpenDay DayFault) → HasTaken asked names orders config rows result → DesksEnd InFileOrder config rows result
+taken-ends asked names orders config rows (Ok d) has = (has.sound, has.each, has.day_is)
+taken-ends asked names orders config rows (Err (Open fault)) has = has
+taken-ends asked names orders config rows (Err (OutOfMemory _)) has = has.0
+taken-ends asked names orders config rows (Err WriteFailed) has = absurd has
+taken-ends asked names orders config rows (Err (Segment fault)) has = absurd has
+taken-ends asked names orders config rows (Err (Orders fault)) has = absurd has
 
 -- a segment file was read, and its segment checked
 pub CheckEnds-read : (segment old new : Option (List ℕ)) (config : SegmentConfig) (names : NameLists) (result : Result (Unit {0}) DayFault) → IsSegmentOf segment config names → OpeningEnds config old new result

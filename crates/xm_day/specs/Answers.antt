@@ -75,22 +75,22 @@ pub record TellsNothing (told : Told) : Type 0 where
   pub answers : told.answers ≡ None
   pub depth : told.depth ≡ None
 
--- desks have taken these rows in their order: their day is that of the rows, and so are the texts that are asked for
-pub record TookRows (asked : AskedTexts) (names : NameLists) (config : SegmentConfig) (rows : List Row) (d : OpenDay) : Type 0 where
+-- desks have taken these rows of an order file of these bytes in their order: their day is that of the rows, and so are the texts that are asked for
+pub record TookRows (asked : AskedTexts) (names : NameLists) (orders : List ℕ) (config : SegmentConfig) (rows : List Row) (d : OpenDay) : Type 0 where
   pub sound : segment_fault config ≡ None
   pub each : length d.desks.items ≡ length config.securities
   pub day_is : day_of d.desks.items d.report.accepted d.report.refused ≡ day config rows
   pub all : d.report.accepted + d.report.refused ≡ length rows
-  pub answers_are : d.told.answers ≡ where_asked asked.answers (answers_text names config rows)
+  pub answers_are : d.told.answers ≡ where_asked asked.answers (answers_text names config orders rows)
   pub depth_is : d.told.depth ≡ where_asked asked.depth (feed_of names config rows)
 
 -- the desks have taken these rows, unless the segment can't be opened or memory is wanting, where nothing is asked for at one
 -- of them
-abbrev pub HasTaken : AskedTexts → NameLists → SegmentConfig → List Row → Result OpenDay DayFault → Type 0
-HasTaken asked names config rows (Ok d) = TookRows asked names config rows d
-HasTaken asked names config rows (Err (Open fault)) = IsOpenFault config fault
-HasTaken asked names config rows (Err (OutOfMemory _)) = (segment_fault config ≡ None) × (AsksNothing asked → LacksMemoryAt (opening_day config) rows)
-HasTaken asked names config rows (Err fault) = ⊥
+abbrev pub HasTaken : AskedTexts → NameLists → List ℕ → SegmentConfig → List Row → Result OpenDay DayFault → Type 0
+HasTaken asked names orders config rows (Ok d) = TookRows asked names orders config rows d
+HasTaken asked names orders config rows (Err (Open fault)) = IsOpenFault config fault
+HasTaken asked names orders config rows (Err (OutOfMemory _)) = (segment_fault config ≡ None) × (AsksNothing asked → LacksMemoryAt (opening_day config) rows)
+HasTaken asked names orders config rows (Err fault) = ⊥
 
 -- the desks are those of a day that the rows may have, unless the segment can't be opened or memory is wanting
 abbrev pub DesksEnd : (SegmentConfig → List Row → Day → Type 0) → SegmentConfig → List Row → Result OpenDay DayFault → Type 0
@@ -126,13 +126,15 @@ DayEnds days segment orders old new result =
     (config : SegmentConfig) × (names : NameLists) × IsSegmentOf segment config names × OrdersEnd days config names orders old new result
 
 -- the text that is told of the rows of an order file
-pub record IsTextOfRows (text_of : NameLists → SegmentConfig → List Row → List ℕ) (orders : Option (List ℕ)) (config : SegmentConfig) (names : NameLists) (text : List ℕ) : Type 0 where
+pub record IsTextOfRows (text_of : NameLists → SegmentConfig → List ℕ → List Row → List ℕ) (orders : Option (List ℕ)) (config : SegmentConfig) (names : NameLists) (text : List ℕ) : Type 0 where
+  pub bytes : List ℕ
+  pub are_bytes : IfSome orders (λ known. bytes ≡ known)
   pub rows : List Row
-  pub are_rows : AreRowsOf orders config names rows
-  pub text_is : text ≡ text_of names config rows
+  pub are_rows : orders_of names config bytes ≡ Ok rows
+  pub text_is : text ≡ text_of names config bytes rows
 
 -- the same of a segment file and an order file
-pub record IsTextOfFiles (text_of : NameLists → SegmentConfig → List Row → List ℕ) (segment orders : Option (List ℕ)) (text : List ℕ) : Type 0 where
+pub record IsTextOfFiles (text_of : NameLists → SegmentConfig → List ℕ → List Row → List ℕ) (segment orders : Option (List ℕ)) (text : List ℕ) : Type 0 where
   pub config : SegmentConfig
   pub names : NameLists
   pub is_segment : IsSegmentOf segment config names

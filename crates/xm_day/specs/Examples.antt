@@ -79,18 +79,18 @@ cascade_text =
 abbrev pub cascade_answers : List ℕ
 cascade_answers =
     answers_header
-    ++ codes "2,XYZ,accepted,1,opening-call,0,0,0,0.0000,,,,,,10.0000,10.0000,,\n"
-    ++ codes "3,XYZ,accepted,2,continuous,0,0,0,0.0000,,,,,,10.0000,10.0000,,\n"
-    ++ codes "4,XYZ,accepted,3,continuous,0,0,0,0.0000,10,10.0000,10,,,10.0000,10.0000,,\n"
-    ++ codes "5,XYZ,accepted,4,continuous,0,0,0,0.0000,20,10.0000,10,,,10.0000,10.0000,,\n"
-    ++ codes "6,XYZ,accepted,5,continuous,0,0,0,0.0000,30,10.0000,10,,,10.0000,10.0000,,\n"
-    ++ codes "7,XYZ,accepted,6,continuous,0,0,0,0.0000,25,10.0000,10,,,10.0000,10.0000,,\n"
-    ++ codes "8,XYZ,accepted,7,continuous,0,0,0,0.0000,10,10.0000,10,,,10.0000,10.0000,,\n"
-    ++ codes "9,XYZ,accepted,8,continuous,0,4,60,593.5000,0,,,9.8500,5,9.8500,10.0000,,\n"
-    ++ codes "10,XYZ,unknown-order,,,,,,,,,,9.8500,5,9.8500,10.0000,,\n"
-    ++ codes "11,XYZ,accepted,9,closing-call,4,0,0,0.0000,,,,9.8500,5,9.8500,10.0000,,\n"
-    ++ codes "12,XYZ,accepted,10,post-trading,4,0,0,0.0000,,,,,,9.8500,10.0000,,\n"
-    ++ codes "13,XYZ,accepted,11,ended,4,0,0,0.0000,,,,,,9.8500,10.0000,,\n"
+    ++ codes "2,XYZ,accepted,1,opening-call,0,0,0,0.0000,,,,,,10.0000,10.0000,,,\n"
+    ++ codes "3,XYZ,accepted,2,continuous,0,0,0,0.0000,,,,,,10.0000,10.0000,,,\n"
+    ++ codes "4,XYZ,accepted,3,continuous,0,0,0,0.0000,10,10.0000,10,,,10.0000,10.0000,,,\n"
+    ++ codes "5,XYZ,accepted,4,continuous,0,0,0,0.0000,20,10.0000,10,,,10.0000,10.0000,,,\n"
+    ++ codes "6,XYZ,accepted,5,continuous,0,0,0,0.0000,30,10.0000,10,,,10.0000,10.0000,,,\n"
+    ++ codes "7,XYZ,accepted,6,continuous,0,0,0,0.0000,25,10.0000,10,,,10.0000,10.0000,,,\n"
+    ++ codes "8,XYZ,accepted,7,continuous,0,0,0,0.0000,10,10.0000,10,,,10.0000,10.0000,,,\n"
+    ++ codes "9,XYZ,accepted,8,continuous,0,4,60,593.5000,0,,,9.8500,5,9.8500,10.0000,,,\n"
+    ++ codes "10,XYZ,unknown-order,,,,,,,,,,9.8500,5,9.8500,10.0000,,,\n"
+    ++ codes "11,XYZ,accepted,9,closing-call,4,0,0,0.0000,,,,9.8500,5,9.8500,10.0000,,,\n"
+    ++ codes "12,XYZ,accepted,10,post-trading,4,0,0,0.0000,,,,,,9.8500,10.0000,,,\n"
+    ++ codes "13,XYZ,accepted,11,ended,4,0,0,0.0000,,,,,,9.8500,10.0000,,,\n"
 
 -- the levels behind the rows of that day
 abbrev pub cascade_depth : List ℕ
@@ -136,13 +136,14 @@ crowded_state = record cascade_state {
 abbrev pub every_refusal : List Refusal
 every_refusal =
     refused.UnknownSecurity ∷ refused.UnknownMember ∷ refused.DayEnded ∷ refused.BadQuantity ∷ refused.BadPrice ∷ refused.BadValidity ∷ refused.BadCombination
-    ∷ refused.WrongPhase ∷ refused.DuplicateReference ∷ refused.UnknownOrder ∷ refused.NotChangeable ∷ refused.TriggerReached ∷ refused.JournalFull ∷ []
+    ∷ refused.WrongPhase ∷ refused.DuplicateReference ∷ refused.UnknownOrder ∷ refused.NotChangeable ∷ refused.TriggerReached ∷ refused.JournalFull
+    ∷ refused.WouldExecute ∷ []
 
 abbrev pub every_refusal_word : List (List ℕ)
 every_refusal_word =
     codes "unknown-security" ∷ codes "unknown-member" ∷ codes "day-ended" ∷ codes "bad-quantity" ∷ codes "bad-price" ∷ codes "bad-validity"
     ∷ codes "bad-combination" ∷ codes "wrong-phase" ∷ codes "duplicate-reference" ∷ codes "unknown-order" ∷ codes "not-changeable"
-    ∷ codes "trigger-reached" ∷ codes "journal-full" ∷ []
+    ∷ codes "trigger-reached" ∷ codes "journal-full" ∷ codes "would-execute" ∷ []
 
 -- all phases, and their words
 abbrev pub every_phase : List Phase

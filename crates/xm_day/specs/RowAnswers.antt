@@ -1,10 +1,13 @@
 -- What a day tells of its rows: of each the answer, and the market after it.
-use Rattle.std.specs.Prelude.{codes, ℕ, pos, ◌*◌, Bool, true, false, List, [], ◌∷◌, ◌++◌, slice_get, Option, Some, None, Result, Ok, Err}
+use Rattle.std.specs.Prelude.{codes, ℕ, pos, ◌*◌, ◌==◌, Bool, true, false, if◌then◌else◌, List, [], ◌∷◌, ◌++◌, slice_get, Option, Some, None, Result, Ok, Err}
+use Rattle.std.specs.List.{flat_map, list_any}
 use Rattle.std.specs.Fmt.{decimal}
 use Rattle.xm_day.specs.Day.{Day, after_row, opening_day, row_answer}
 use Rattle.xm_day.specs.Statement.{name_at, phase_word}
 use Rattle.xm_desk.specs.Shown.{level_in, units_left}
 use Rattle.xm_files.specs.Names.{NameLists}
+use Rattle.xm_files.specs.Plain.{is_mark}
+use Rattle.xm_files.specs.RecordTexts.{text_of_record}
 use Rattle.xm_rules.specs.Quote.{indicative}
 use Rattle.xm_rules.specs.State.{State, ref1, ref2}
 use Rattle.xm_rules.specs.declared.commands.Command.{Command}
@@ -32,6 +35,7 @@ refusal_word refused.NotChangeable = codes "not-changeable"
 refusal_word refused.TriggerReached = codes "trigger-reached"
 refusal_word refused.JournalFull = codes "journal-full"
 refusal_word (refused.OutOfMemory _) = codes "out-of-memory"
+refusal_word refused.WouldExecute = codes "would-execute"
 
 abbrev pub answer_word : Result Reply Refusal → List ℕ
 answer_word (Ok reply) = codes "accepted"
@@ -71,6 +75,14 @@ market_fields s =
     priced_fields s.settings.tick (level_in s Buy None) ++ codes "," ++ priced_fields s.settings.tick (level_in s Sell None)
     ++ codes "," ++ price_text (ref1 s) s.settings.tick ++ codes "," ++ price_text (ref2 s) s.settings.tick ++ codes "," ++ priced_fields s.settings.tick (indicative s)
 
+-- a byte of a field in quotation marks: one of these stands twice
+abbrev pub byte_in_quotes : ℕ → List ℕ
+byte_in_quotes byte = if byte == 34 then 34 ∷ 34 ∷ [] else byte ∷ []
+
+-- a field as CSV writes it: in quotation marks where it has one, a comma or a line's end
+abbrev pub quoted_field : List ℕ → List ℕ
+quoted_field text = if list_any is_mark text then 34 ∷ flat_map byte_in_quotes text ++ 34 ∷ [] else text
+
 -- the fields from the security on where it is unknown: it has no name and no market
 abbrev pub unknown_fields : Result Reply Refusal → List ℕ
 unknown_fields answer = codes "," ++ answer_word answer ++ codes ",,,,,,,,,,,,,,,"
@@ -81,25 +93,28 @@ security_fields names row answer None = unknown_fields answer
 security_fields names row answer (Some s) =
     name_at names.securities row.security ++ codes "," ++ answer_fields s.settings.tick (rest_named s row.command) answer ++ codes "," ++ market_fields s
 
-abbrev pub answer_line : NameLists → Row → Result Reply Refusal → Option State → List ℕ
-answer_line names row answer state = decimal row.line ++ codes "," ++ security_fields names row answer state ++ codes "\n"
+-- the line of a row, whose record has this free text
+abbrev pub answer_line : NameLists → Row → List ℕ → Result Reply Refusal → Option State → List ℕ
+answer_line names row text answer state =
+    decimal row.line ++ codes "," ++ security_fields names row answer state ++ codes "," ++ quoted_field text ++ codes "\n"
 
--- the line of a row that a day takes
-abbrev pub told_of : NameLists → Day → Row → List ℕ
-told_of names d row = answer_line names row (row_answer d.states row) (slice_get (after_row d row).states row.security)
+-- the line of a row that a day takes, where records have these texts by their numbers
+abbrev pub told_of : NameLists → (ℕ → List ℕ) → Day → Row → List ℕ
+told_of names texts d row =
+    answer_line names row (texts row.line) (row_answer d.states row) (slice_get (after_row d row).states row.security)
 
 -- those of rows that it takes one after another
-abbrev pub answers_of : NameLists → Day → List Row → List ℕ
-answers_of names d [] = []
-answers_of names d (row ∷ rows) = told_of names d row ++ answers_of names (after_row d row) rows
+abbrev pub answers_of : NameLists → (ℕ → List ℕ) → Day → List Row → List ℕ
+answers_of names texts d [] = []
+answers_of names texts d (row ∷ rows) = told_of names texts d row ++ answers_of names texts (after_row d row) rows
 
 abbrev pub answers_header : List ℕ
 answers_header =
-    codes "record,security,answer,version,phase,first_trade,trades,quantity,money,rest,best_buy,buy_quantity,best_sell,sell_quantity,last,auction,indicative,indicative_quantity\n"
+    codes "record,security,answer,version,phase,first_trade,trades,quantity,money,rest,best_buy,buy_quantity,best_sell,sell_quantity,last,auction,indicative,indicative_quantity,text\n"
 
--- the answers to the rows of a day
-abbrev pub answers_text : NameLists → SegmentConfig → List Row → List ℕ
-answers_text names config rows = answers_header ++ answers_of names (opening_day config) rows
+-- the answers to the rows of a day, which are those of an order file of these bytes
+abbrev pub answers_text : NameLists → SegmentConfig → List ℕ → List Row → List ℕ
+answers_text names config orders rows = answers_header ++ answers_of names (text_of_record orders) (opening_day config) rows
 
 -- a text that goes on with more, where it is asked for
 abbrev pub with_text : List ℕ → Option (List ℕ) → Option (List ℕ)

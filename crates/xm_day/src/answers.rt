@@ -5,13 +5,14 @@ ghost use Rattle.xm_rules.specs.Step.{replay};
 ghost use Rattle.xm_ticks.specs.Writing.{money_text};
 
 use crate::texts::{
-    push_comma, push_line_feed, push_money, push_number, push_price, push_text, security_name,
+    push_comma, push_field, push_line_feed, push_money, push_number, push_price, push_text,
+    security_name,
 };
 use crate::words::{phase_word, refusal_word};
 use std::alloc::{Allocator, Global};
 use std::marker::Model;
 use xm_desk::Desk;
-use xm_files::SegmentNames;
+use xm_files::{RecordTexts, SegmentNames};
 use xm_memory::OutOfMemory;
 use xm_rules::{Command, Refusal, Reply, Side};
 use xm_segment::Row;
@@ -19,7 +20,7 @@ use xm_ticks::{Price, TickSize};
 
 /// The names of the fields.
 const HEADER: &str =
-    "record,security,answer,version,phase,first_trade,trades,quantity,money,rest,best_buy,buy_quantity,best_sell,sell_quantity,last,auction,indicative,indicative_quantity\n";
+    "record,security,answer,version,phase,first_trade,trades,quantity,money,rest,best_buy,buy_quantity,best_sell,sell_quantity,last,auction,indicative,indicative_quantity,text\n";
 
 /// The text of the answers so far, where they are asked for. A clause sees the text.
 #[derive(Drop)]
@@ -38,6 +39,7 @@ impl Model for Answers {
 impl Answers {
     ghost use Rattle.std.specs.Prelude.{◌≡◌, ◌≢◌, [], map, slice_get, unwrap_or, None, true, IfOk, OnErr, OnOk};
     ghost use Rattle.xm_day.specs.RowAnswers.{answer_line, answers_header, where_asked, with_text};
+    ghost use Rattle.xm_files.specs.RecordTexts.{text_of_record};
     ghost use Rattle.xm_rules.specs.Step.{replay};
 
     /// None are asked for.
@@ -60,22 +62,25 @@ impl Answers {
         Ok(Answers { text: Some(text) })
     }
 
-    /// Adds the line of a row that was answered so by the desks, which have taken it.
+    /// Adds the line of a row that was answered so by the desks, which have taken it. The texts are those of its file.
     #[inline(always)]
     pub(crate) fn tell<A: Allocator + Copy>(
         &mut self,
         names: &SegmentNames,
+        texts: &mut RecordTexts<'_>,
         desks: &[Desk<A>],
         row: &Row,
         answer: &Result<Reply, Refusal>,
     ) -> Result<(), OutOfMemory>
-        ensures told { OnOk result (self.new ≡ with_text (answer_line names.now row.now answer.now (slice_get (map replay desks.now) row.now.security)) self.old) }
+        ensures told { OnOk result (self.new ≡ with_text (answer_line names.now row.now (text_of_record texts.old.orders row.now.line) answer.now (slice_get (map replay desks.now) row.now.security)) self.old) }
+        ensures texts { texts.new.orders ≡ texts.old.orders }
         ensures asked { OnErr result (self.old ≢ None) }
     {
         let Some(text) = &mut self.text else {
             return Ok(());
         };
-        push_answer(text, names, desks, row, answer)?;
+        texts.read(row.line)?;
+        push_answer(text, names, desks, row, texts.text(), answer)?;
         Ok(())
     }
 
@@ -90,20 +95,23 @@ impl Answers {
     }
 }
 
-/// The line of a row.
+/// The line of a row, whose record has this free text.
 #[inline(never)]
 fn push_answer<A: Allocator, B: Allocator + Copy>(
     text: &mut Vec<u8, A>,
     names: &SegmentNames,
     desks: &[Desk<B>],
     row: &Row,
+    own: &[u8],
     answer: &Result<Reply, Refusal>,
 ) -> Result<(), OutOfMemory>
-    ensures { OnOk result (text.new.items ≡ text.old.items ++ answer_line names.now row.now answer.now (slice_get (map replay desks.now) row.now.security)) }
+    ensures { OnOk result (text.new.items ≡ text.old.items ++ answer_line names.now row.now own.now answer.now (slice_get (map replay desks.now) row.now.security)) }
 {
     push_number(text, u64::from(row.line))?;
     push_comma(text)?;
     push_security(text, names, desks, row, answer)?;
+    push_comma(text)?;
+    push_field(text, own)?;
     push_line_feed(text)?;
     Ok(())
 }

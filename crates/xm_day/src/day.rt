@@ -56,7 +56,7 @@ fn tell_orders<R: io::Read, W: io::Write>(
     requires members { length names.now.members ≡ config.now.members }
     ensures ends { OrdersEnd InFileOrder config.now names.now (R.remaining orders.old) (W.contents out.old) (W.contents out.new) (report_in result) }
     ensures answers { IfOk result (λ day. IsAsked (IsTextOfRows answers_text (R.remaining orders.old) config.now names.now) asked.answers day.answers.items) }
-    ensures depth { IfOk result (λ day. IsAsked (IsTextOfRows depth_text (R.remaining orders.old) config.now names.now) asked.depth day.depth.items) }
+    ensures depth { IfOk result (λ day. IsAsked (IsTextOfRows (λ names config bytes rows. depth_text names config rows) (R.remaining orders.old) config.now names.now) asked.depth day.depth.items) }
     ensures untouched { IfErr result (λ fault. fault ≢ DayFault.WriteFailed → out.new ≡ out.old) }
 {
     let bytes = match read_orders(storage.alloc, orders) {
@@ -108,7 +108,7 @@ pub fn run_told<S: io::Read, R: io::Read, W: io::Write>(
 ) -> Result<ToldDay, DayFault>
     ensures ends { DayEnds InFileOrder (S.remaining segment.old) (R.remaining orders.old) (W.contents out.old) (W.contents out.new) (report_in result) }
     ensures answers { IfOk result (λ day. IsAsked (IsTextOfFiles answers_text (S.remaining segment.old) (R.remaining orders.old)) asked.answers day.answers.items) }
-    ensures depth { IfOk result (λ day. IsAsked (IsTextOfFiles depth_text (S.remaining segment.old) (R.remaining orders.old)) asked.depth day.depth.items) }
+    ensures depth { IfOk result (λ day. IsAsked (IsTextOfFiles (λ names config bytes rows. depth_text names config rows) (S.remaining segment.old) (R.remaining orders.old)) asked.depth day.depth.items) }
     ensures untouched { IfErr result (λ fault. fault ≢ DayFault.WriteFailed → out.new ≡ out.old) }
 {
     let (config, names) = match read_segment(storage.alloc, segment) {

@@ -6,6 +6,7 @@ ghost use Rattle.xm_day.specs.Feeds.{feed_after};
 ghost use Rattle.xm_day.specs.RowAnswers.{answers_of, with_text};
 ghost use Rattle.xm_day.specs.declared.report.AskedTexts.{AskedTexts};
 ghost use Rattle.xm_files.specs.Names.{NameLists};
+ghost use Rattle.xm_files.specs.RecordTexts.{text_of_record};
 ghost use Rattle.xm_rules.specs.Step.{replay};
 ghost use Rattle.xm_segment.specs.declared.config.SegmentConfig.{SegmentConfig};
 ghost use Rattle.xm_segment.specs.declared.rows.Row.{Row};
@@ -15,7 +16,7 @@ use crate::report::{AskedTexts, DayReport};
 use crate::told::Told;
 use std::alloc::{Allocator, Global};
 use xm_desk::Desk;
-use xm_files::SegmentNames;
+use xm_files::{RecordTexts, SegmentNames};
 use xm_memory::OutOfMemory;
 use xm_names::Storage;
 use xm_rules::{Refusal, Reply};
@@ -35,7 +36,7 @@ pub(crate) fn open_day(
     config: &SegmentConfig,
     asked: AskedTexts,
 ) -> Result<OpenDay, DayFault>
-    ensures { (names : NameLists) → HasTaken asked names config.now [] result }
+    ensures { (names : NameLists) (orders : List ℕ) → HasTaken asked names orders config.now [] result }
 {
     let desks = open_desks(storage, config)?;
     let told = Told::of(storage.alloc, desks.as_slice(), asked)?;
@@ -50,21 +51,23 @@ pub(crate) fn open_day(
     })
 }
 
-/// Takes more rows, where nothing went wrong before.
+/// Takes more rows, where nothing went wrong before. The texts are those of their file.
 pub(crate) fn take_more(
     day: Result<OpenDay, DayFault>,
     names: &SegmentNames,
+    texts: &mut RecordTexts<'_>,
     rows: &[Row],
 ) -> Result<OpenDay, DayFault>
     requires room { IfOk day (λ d. d.report.accepted + d.report.refused + length rows.now < 2 ^ 64) }
-    ensures { (asked : AskedTexts) (config : SegmentConfig) (taken : List Row) → HasTaken asked names.now config taken day → HasTaken asked names.now config (taken ++ rows.now) result }
+    ensures taken { (asked : AskedTexts) (config : SegmentConfig) (taken : List Row) → HasTaken asked names.now texts.old.orders config taken day → HasTaken asked names.now texts.old.orders config (taken ++ rows.now) result }
+    ensures texts { texts.new.orders ≡ texts.old.orders }
 {
     let OpenDay {
         mut desks,
         report,
         mut told,
     } = day?;
-    let report = take_rows(desks.as_mut_slice(), names, rows, report, &mut told)?;
+    let report = take_rows(desks.as_mut_slice(), names, texts, rows, report, &mut told)?;
     Ok(OpenDay {
         desks,
         report,
@@ -77,6 +80,7 @@ pub(crate) fn take_more(
 fn take_rows<A: Allocator + Copy>(
     desks: &mut [Desk<A>],
     names: &SegmentNames,
+    texts: &mut RecordTexts<'_>,
     rows: &[Row],
     before: DayReport,
     told: &mut Told,
@@ -84,14 +88,15 @@ fn take_rows<A: Allocator + Copy>(
     requires room { before.accepted + before.refused + length rows.now < 2 ^ 64 }
     ensures taken { IfOk result (λ report. day_of desks.new report.accepted report.refused ≡ after_rows (day_of desks.old before.accepted before.refused) rows.now) }
     ensures counted { IfOk result (λ report. report.accepted + report.refused ≡ before.accepted + before.refused + length rows.now) }
-    ensures answers { OnOk result (told.new.answers ≡ with_text (answers_of names.now (day_of desks.old before.accepted before.refused) rows.now) told.old.answers) }
+    ensures answers { OnOk result (told.new.answers ≡ with_text (answers_of names.now (text_of_record texts.old.orders) (day_of desks.old before.accepted before.refused) rows.now) told.old.answers) }
     ensures depth { OnOk result (told.new.depth ≡ option_map (feed_after names.now (day_of desks.old before.accepted before.refused) rows.now) told.old.depth) }
+    ensures texts { texts.new.orders ≡ texts.old.orders }
     ensures memory { OnErr result (TellsNothing told.old → LacksMemoryAt (day_of desks.old before.accepted before.refused) rows.now) }
 {
     let mut report = before;
     for row in rows {
         let answer = take_row(desks, row)?;
-        told.tell(names, desks, row, &answer)?;
+        told.tell(names, texts, desks, row, &answer)?;
         report = report.counted(&answer);
     }
     Ok(report)

@@ -1,13 +1,13 @@
 //! What the definitions give on worked examples. Each function promises one by its contract.
 #![tactic(auto, unfolding(xm_rules::specs::Refusals::refusal_of, xm_rules::specs::Step::step))]
 
-ghost use Rattle.std.specs.Prelude.{◌≡◌, codes, map, negsuc, pos, false, true, None, Some, [], ◌∷◌};
+ghost use Rattle.std.specs.Prelude.{◌≡◌, codes, map, negsuc, pos, false, true, Err, None, Some, [], ◌∷◌, ◌++◌};
 ghost use Rattle.xm_day.specs.Checks.{check_line};
 ghost use Rattle.xm_day.specs.Day.{day, opening_day};
 ghost use Rattle.xm_segment.specs.Opening.{segment_fault};
 ghost use Rattle.xm_day.specs.Examples.{broad_security, cascade_answers, cascade_depth, cascade_rows, cascade_state, cascade_text, crowded_state, every_phase, every_phase_word, every_refusal, every_refusal_word, every_restriction, every_restriction_word, every_trade_kind, every_trade_word, every_validity, every_validity_text, example_config, example_names, open_row, penny_state, restricted_state, sized_config};
 ghost use Rattle.xm_day.specs.MarketDepth.{depth_text, market_depth, same_depth, same_level, same_side_depth, told_change};
-ghost use Rattle.xm_day.specs.RowAnswers.{answers_of, answers_text, market_fields, priced_fields, refusal_word};
+ghost use Rattle.xm_day.specs.RowAnswers.{answer_line, answers_header, answers_of, market_fields, priced_fields, quoted_field, refusal_word};
 ghost use Rattle.xm_day.specs.Statement.{day_line, limit_text, member_line, phase_word, restriction_word, side_word, statement, stop_line, total_cash, trade_word, validity_text};
 ghost use Rattle.xm_day.specs.Workers.{rows_of};
 ghost use Rattle.xm_desk.specs.declared.opening.OpenFault.TheVariants.{BadWidths, NoSecurity, TooMany};
@@ -18,6 +18,7 @@ ghost use Rattle.xm_rules.specs.declared.orders.OrderKind.TheVariants.{Limit, Ma
 ghost use Rattle.xm_rules.specs.declared.phases.Auction.TheVariants.{Closing, Opening};
 ghost use Rattle.xm_rules.specs.declared.phases.CallStage.TheVariants.{Ordinary};
 ghost use Rattle.xm_rules.specs.declared.phases.Phase.TheVariants.{Call, Continuous};
+ghost use Rattle.xm_rules.specs.declared.replies.Refusal.TheVariants as refused;
 ghost use Rattle.xm_rules.specs.declared.orders.Side.TheVariants.{Buy, Sell};
 
 /// The rows of `examples/cascade.orders.csv` lead to this state, of which eleven are accepted.
@@ -32,7 +33,7 @@ pub fn cascade_statement()
 
 /// The answers to the rows of that day are `examples/cascade.answers.csv`.
 pub fn cascade_answers()
-    ensures { answers_text example_names example_config cascade_rows ≡ cascade_answers }
+    ensures { answers_header ++ answers_of example_names (λ line. []) (opening_day example_config) cascade_rows ≡ cascade_answers }
 {}
 
 /// The levels behind the rows of that day are `examples/cascade.depth.csv`.
@@ -65,10 +66,22 @@ pub fn changes_of_depth()
 
 /// The answer to a row of an unknown security, and to one that a call takes.
 pub fn answers_to_rows()
-    ensures unknown { answers_of example_names (opening_day example_config) (open_row 7 ∷ []) ≡ codes "2,,unknown-security,,,,,,,,,,,,,,,\n" }
+    ensures unknown { answers_of example_names (λ line. []) (opening_day example_config) (open_row 7 ∷ []) ≡ codes "2,,unknown-security,,,,,,,,,,,,,,,,\n" }
+    ensures with_text { answer_line example_names (open_row 7) (codes "at 9, sharp") (Err refused.UnknownSecurity) None ≡ codes "2,,unknown-security,,,,,,,,,,,,,,,,\"at 9, sharp\"\n" }
     ensures words { map refusal_word every_refusal ≡ every_refusal_word }
     ensures priced { priced_fields 50 (Some (201, 7)) ≡ codes "1.0050,7" }
     ensures unpriced { priced_fields 50 None ≡ codes "," }
+{}
+
+/// The free text of a record is told as it stood, and in quotation marks where CSV would read it in another way.
+pub fn free_texts()
+    ensures plain { quoted_field (codes "09:00:00.25 'x'") ≡ codes "09:00:00.25 'x'" }
+    ensures empty { quoted_field [] ≡ [] }
+    ensures comma { quoted_field (codes "a,b") ≡ codes "\"a,b\"" }
+    ensures quote { quoted_field (codes "a\"b") ≡ codes "\"a\"\"b\"" }
+    ensures line_feed { quoted_field (codes "a\nb") ≡ codes "\"a\nb\"" }
+    ensures carriage_return { quoted_field (codes "\r") ≡ codes "\"\r\"" }
+    ensures bytes { quoted_field (255 ∷ 0 ∷ []) ≡ 255 ∷ 0 ∷ [] }
 {}
 
 /// The market that is told of a state: a level has the rests of active orders alone, and a call its price.

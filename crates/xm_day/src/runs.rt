@@ -1,5 +1,5 @@
 //! The rows of an order file, run in their order.
-ghost use Rattle.std.specs.Prelude.{◌≤◌, length};
+ghost use Rattle.std.specs.Prelude.{◌≤◌, None, length};
 ghost use Rattle.xm_day.specs.Answers.{HasTaken, RowsRun};
 ghost use Rattle.xm_files.specs.Batches.{text_left};
 ghost use Rattle.xm_files.specs.declared.bytes.TheConstants.{MAX_BYTES};
@@ -8,7 +8,7 @@ use crate::desks::{OpenDay, open_day, take_more};
 use crate::faults::DayFault;
 use crate::report::AskedTexts;
 use std::alloc::Global;
-use xm_files::{Batch, FileFault, Part, RowReader, SegmentNames};
+use xm_files::{Batch, FileFault, Part, RecordTexts, RowReader, SegmentNames};
 use xm_names::Storage;
 use xm_segment::SegmentConfig;
 
@@ -25,22 +25,24 @@ pub(crate) fn run_rows(
     asked: AskedTexts,
 ) -> Result<Result<OpenDay, DayFault>, FileFault>
     requires { length bytes.items ≤ MAX_BYTES }
-    ensures { RowsRun (HasTaken asked names.now) config.now names.now (text_left bytes.items 1) result }
+    ensures { RowsRun (HasTaken asked names.now bytes.items) config.now names.now (text_left bytes.items None 1) result }
 {
     let mut file = RowReader::of(bytes.as_slice());
-    take_file(storage, config, names, &mut file, asked)
+    let mut texts = RecordTexts::of(storage.alloc, bytes.as_slice());
+    take_file(storage, config, names, &mut texts, &mut file, asked)
 }
 
-/// Reads the rows of an order file, and has the desks of a segment take them. A fault of the file comes before any other:
+/// Reads the rows of an order file, whose texts these are, and has the desks of a segment take them. A fault of the file comes before any other:
 /// where the segment can't be opened or memory is wanting, the rest is read all the same.
 fn take_file(
     storage: Storage<Global>,
     config: &SegmentConfig,
     names: &SegmentNames,
+    texts: &mut RecordTexts<'_>,
     file: &mut RowReader<'_>,
     asked: AskedTexts,
 ) -> Result<Result<OpenDay, DayFault>, FileFault>
-    ensures { RowsRun (HasTaken asked names.now) config.now names.now file.old result }
+    ensures { RowsRun (HasTaken asked names.now texts.old.orders) config.now names.now file.old result }
 {
     let mut batch = Batch::new(storage.alloc);
     let mut day = open_day(storage, config, asked);
@@ -49,7 +51,7 @@ fn take_file(
             Ok(more) => more,
             Err(fault) => return Err(fault),
         };
-        day = take_more(day, names, batch.rows());
+        day = take_more(day, names, texts, batch.rows());
         if !more {
             return Ok(day);
         }

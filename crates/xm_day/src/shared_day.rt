@@ -1,5 +1,5 @@
 //! A day that workers share.
-ghost use Rattle.std.specs.Prelude.{ℕ, ◌≡◌, ◌≢◌, ◌+◌, ◌≤◌, ◌++◌, List, [], IfOk, Some, length, map, slice_get, sum_by, true};
+ghost use Rattle.std.specs.Prelude.{ℕ, ◌≡◌, ◌≢◌, ◌+◌, ◌≤◌, ◌++◌, List, [], IfOk, None, Some, length, map, slice_get, sum_by, true};
 ghost use Rattle.xm_day.specs.Answers.{DesksEnd, RowsRun};
 ghost use Rattle.xm_day.specs.Workers.{AreJournals, HasOpened, HasShared, HaveWorked, IsShared, WorkerView, accepted_by, commands_in, fresh_worker, rows_of, taken_by, taken_in};
 ghost use Rattle.xm_files.specs.Batches.{text_left};
@@ -44,7 +44,7 @@ pub(crate) fn run_shared<T: Threads + Wait + Sync, G: Gate + Sync>(
     requires some { 1 ≤ workers }
     requires few { workers ≤ MAX_WORKERS }
     requires short { length bytes.items ≤ MAX_BYTES }
-    ensures { RowsRun (DesksEnd (IsShared workers)) config.now names.now (text_left bytes.items 1) result }
+    ensures { RowsRun (DesksEnd (IsShared workers)) config.now names.now (text_left bytes.items None 1) result }
 {
     let opened = Opened::new(storage, config, workers, 0);
     run_named::<Brand, T, G>(
@@ -76,7 +76,7 @@ fn run_named<S: Naming + Send + Sync, T: Threads + Wait + Sync, G: Gate + Sync>(
     requires some { 1 ≤ workers }
     requires few { workers ≤ MAX_WORKERS }
     requires short { length bytes.items ≤ MAX_BYTES }
-    ensures { RowsRun (DesksEnd (IsShared workers)) config.now names.now (text_left bytes.items 1) result }
+    ensures { RowsRun (DesksEnd (IsShared workers)) config.now names.now (text_left bytes.items None 1) result }
 {
     let mut file = RowReader::of(bytes.as_slice());
     let day = SharedDay::<S>::open(alloc, workers, opened, config);
@@ -138,9 +138,10 @@ fn closed<S: Naming>(
     Ok(day?.gathered(alloc)?)
 }
 
-/// A segment, and its workers, in the order of their numbers, which are what a clause sees.
+/// A segment, and its workers, in the order of their numbers, which are what a clause sees. The segment is large, and stays in
+/// its place while rounds hand the day on.
 struct SharedDay<S: Naming> {
-    segment: Segment<S>,
+    segment: Box<Segment<S>>,
     workers: Vec<Worker<S>>,
 }
 
@@ -186,6 +187,7 @@ impl<S: Naming> SharedDay<S> {
         ensures { HasShared S.settings S.workers config.now [] result }
     {
         let (segment, seats, _rows) = Segment::open(alloc, opened?)?;
+        let segment = boxed(alloc, segment)?;
         let workers = seated(seats)?;
         Ok(SharedDay { segment, workers })
     }
@@ -221,13 +223,18 @@ impl<S: Naming> SharedDay<S> {
     {
         let SharedDay { segment, workers } = self;
         let (seats, report) = counted(workers)?;
-        let desks = desks_of(segment, alloc, seats)?;
+        let desks = desks_of(Box::into_inner(segment), alloc, seats)?;
         Ok(OpenDay {
             desks,
             report,
             told: Told::nothing(),
         })
     }
+}
+
+/// A segment in a place of its own.
+fn boxed<S: Naming>(alloc: Global, segment: Segment<S>) -> Result<Box<Segment<S>>, OutOfMemory> {
+    Ok(Box::new(alloc, segment)?)
 }
 
 /// The desks of a segment whose seats are all there.

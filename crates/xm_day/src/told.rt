@@ -4,6 +4,7 @@ ghost use Rattle.xm_day.specs.Answers.{AsksNothing, TellsNothing};
 ghost use Rattle.xm_day.specs.Feeds.{next_feed};
 ghost use Rattle.xm_day.specs.MarketDepth.{depth_header, market_depth};
 ghost use Rattle.xm_day.specs.RowAnswers.{answer_line, answers_header, where_asked, with_text};
+ghost use Rattle.xm_files.specs.RecordTexts.{text_of_record};
 ghost use Rattle.xm_rules.specs.Step.{replay};
 
 use crate::answers::Answers;
@@ -11,7 +12,7 @@ use crate::depth::Depths;
 use crate::report::AskedTexts;
 use std::alloc::{Allocator, Global};
 use xm_desk::Desk;
-use xm_files::SegmentNames;
+use xm_files::{RecordTexts, SegmentNames};
 use xm_memory::OutOfMemory;
 use xm_rules::{Refusal, Reply};
 use xm_segment::Row;
@@ -49,20 +50,22 @@ impl Told {
         Ok(Told { answers, depth })
     }
 
-    /// Adds what is told of a row that was answered so by the desks, which have taken it.
+    /// Adds what is told of a row that was answered so by the desks, which have taken it. The texts are those of its file.
     #[inline(always)]
     pub(crate) fn tell<A: Allocator + Copy>(
         &mut self,
         names: &SegmentNames,
+        texts: &mut RecordTexts<'_>,
         desks: &[Desk<A>],
         row: &Row,
         answer: &Result<Reply, Refusal>,
     ) -> Result<(), OutOfMemory>
-        ensures answers { OnOk result (self.new.answers ≡ with_text (answer_line names.now row.now answer.now (slice_get (map replay desks.now) row.now.security)) self.old.answers) }
+        ensures answers { OnOk result (self.new.answers ≡ with_text (answer_line names.now row.now (text_of_record texts.old.orders row.now.line) answer.now (slice_get (map replay desks.now) row.now.security)) self.old.answers) }
         ensures depth { OnOk result (self.new.depth ≡ option_map (next_feed names.now row.now (slice_get (map replay desks.now) row.now.security)) self.old.depth) }
+        ensures texts { texts.new.orders ≡ texts.old.orders }
         ensures asked { OnErr result (TellsNothing self.old → ⊥) }
     {
-        self.answers.tell(names, desks, row, answer)?;
+        self.answers.tell(names, texts, desks, row, answer)?;
         self.depth.tell(names, desks, row)?;
         Ok(())
     }

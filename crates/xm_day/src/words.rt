@@ -81,5 +81,6 @@ pub(crate) fn refusal_word(refusal: Refusal) -> &'static str
         Refusal::TriggerReached => "trigger-reached",
         Refusal::JournalFull => "journal-full",
         Refusal::OutOfMemory(_) => "out-of-memory",
+        Refusal::WouldExecute => "would-execute",
     }
 }

@@ -3,6 +3,7 @@ pub(crate) mod fixtures;
 mod hurtful;
 mod order_files;
 mod rounds_read;
+mod second_format;
 mod segment_files;
 mod timetables;
 

@@ -63,6 +63,16 @@ macro_rules! orders {
     };
 }
 
+/// An order file of the second format, of these rows.
+macro_rules! second_orders {
+    ($rows:expr) => {
+        concat!(
+            "command,member,reference,security,side,kind,limit,trigger,quantity,validity,restriction,condition,text\n",
+            $rows
+        )
+    };
+}
+
 #[cfg(test)]
 mod day;
 #[cfg(test)]

@@ -42,7 +42,7 @@ RunEnds workers segment orders old new = TellsEnd (DayEndsBy workers segment ord
 -- the texts that are told beside the statement of two files, each of which is empty where it isn't asked for
 pub record AreTexts (asked : AskedTexts) (segment orders : Option (List ℕ)) (answers depth : List ℕ) : Type 0 where
   pub of_answers : IsAsked (IsTextOfFiles answers_text segment orders) asked.answers answers
-  pub of_depth : IsAsked (IsTextOfFiles depth_text segment orders) asked.depth depth
+  pub of_depth : IsAsked (IsTextOfFiles (λ names config bytes rows. depth_text names config rows) segment orders) asked.depth depth
 
 -- known bytes grow by a beginning of the text, which may be all of it
 abbrev pub AppendsBeginning : Option (List ℕ) → Option (List ℕ) → List ℕ → Type 0

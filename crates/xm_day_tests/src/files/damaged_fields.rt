@@ -1,5 +1,5 @@
 //! Each field of each kind of record, with texts that it can't have.
-use super::fixtures::{HEADER, SEGMENT};
+use super::fixtures::{HEADER, SECOND_HEADER, SEGMENT};
 use super::order_files::count_of;
 use std::process::Abort;
 use xm_files::{FileCause, FileFault};
@@ -45,14 +45,19 @@ fn is_lawful(letter: u8, column: usize, text: &[u8]) -> bool {
     }
 }
 
+/// The headers of both formats, and what stands behind the columns of the first in a record of each.
+const FORMATS: [(&str, &[u8]); 2] = [(HEADER, b""), (SECOND_HEADER, b",a text")];
+
 /// An order file with one record, in which a column has this text.
 fn with_field(
     rt: &(impl Abort + AllocGlobal),
+    format: (&str, &[u8]),
     record: &str,
     column: usize,
     text: &[u8],
 ) -> Vec<u8> {
-    let mut bytes = HEADER.as_bytes().to_vec(rt.alloc()).expect(rt, "memory");
+    let (header, behind) = format;
+    let mut bytes = header.as_bytes().to_vec(rt.alloc()).expect(rt, "memory");
     for (place, field) in record.split(',').enumerate() {
         if place > 0 {
             bytes.extend_from_slice(b",").expect(rt, "memory");
@@ -64,6 +69,7 @@ fn with_field(
         };
         bytes.extend_from_slice(field).expect(rt, "memory");
     }
+    bytes.extend_from_slice(behind).expect(rt, "memory");
     bytes
 }
 
@@ -72,7 +78,7 @@ const BAD_FIELD: FileFault = FileFault {
     cause: FileCause::BadField,
 };
 
-/// Compares what a record answers with a text in a column of this letter.
+/// Compares what a record answers in each format with a text in a column of this letter.
 fn field_is_checked(
     rt: &(impl Abort + AllocGlobal),
     record: &str,
@@ -80,14 +86,16 @@ fn field_is_checked(
     letter: u8,
     text: &[u8],
 ) {
-    let bytes = with_field(rt, record, column, text);
-    let answer = count_of(rt.alloc(), SEGMENT, bytes.as_slice());
     let expected = if is_lawful(letter, column, text) {
         Ok(1)
     } else {
         Err(BAD_FIELD)
     };
-    assert!(rt; answer == expected, "{record}, {column}");
+    for format in FORMATS {
+        let bytes = with_field(rt, format, record, column, text);
+        let answer = count_of(rt.alloc(), SEGMENT, bytes.as_slice());
+        assert!(rt; answer == expected, "{record}, {column}");
+    }
 }
 
 /// Compares what a record answers with each of `TEXTS` in each of its columns.

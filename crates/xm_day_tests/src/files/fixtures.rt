@@ -20,6 +20,9 @@ journal = 1
 /// An order file without a row.
 pub(crate) const HEADER: &str = orders!("");
 
+/// The same of the second format.
+pub(crate) const SECOND_HEADER: &str = second_orders!("");
+
 /// Orders before and in the opening call.
 pub(crate) const ORDERS: &str = orders!(
     "enter,AAA,1,XYZ,buy,limit,10.00,,10,,,

@@ -6,7 +6,7 @@ use std::alloc::Global;
 use std::io::{Read, Write};
 use std::process::Abort;
 use xm_day::{DayFault, run_alone};
-use xm_files::FileCause::{self, BadHeader, DuplicateName, MissingKey, Syntax, TooLong};
+use xm_files::FileCause::{self, BadField, BadHeader, DuplicateName, MissingKey, Syntax, TooLong};
 use xm_files::MAX_BYTES;
 use xm_names::Storage;
 use xm_segment::Row;
@@ -45,6 +45,34 @@ fn fills_have_faults(
 fn files_of_one_byte(rt: HostRuntime) {
     for (byte, left, line, orders, segment) in &FILLS {
         fills_have_faults(&rt, *byte, *left, *line, *orders, *segment);
+    }
+}
+
+/// What order files begin with whose next field has quotes, and the fault that is told of each: the record of that field has more
+/// fields than columns, but one that has as many.
+const QUOTED_FIELDS: [(&str, u32, FileCause); 6] = [
+    (",,,,,,,,,,,,,", 1, BadHeader),
+    ("\u{feff},,,,,,,,,,,,,", 1, BadHeader),
+    (orders!(",,,,,,,,,,,,,"), 2, Syntax),
+    (orders!("open,,,*,,,,,,,,,"), 2, Syntax),
+    (orders!("open,,,*,,,,,,,,"), 2, BadField),
+    (orders!("open,,,*,,,,,,,,\n,,,,,,,,,,,,,"), 3, Syntax),
+];
+
+/// A field in quotes, over two lines.
+const QUOTED: &str =
+    "\"AAAAAAAAAAAAAAAAAAAAAAAAAAAAAAAAAAAAAAAA\n,BBBBBBBBBBBBBBBBBBBBBBBBBBBBBBBBBBBBBBBB\"\"\"\n";
+
+/// Compares the fault of an order file that begins so, with a field in quotes behind it.
+fn quoted_has_fault(rt: &(impl Abort + AllocGlobal), begin: &str, line: u32, cause: FileCause) {
+    let text = format!(in rt.alloc(); "{begin}{QUOTED}").expect(rt, begin);
+    order_files::has_fault(rt, &mut text.as_bytes(), line, cause);
+}
+
+#[test]
+fn fields_in_quotes_behind_many(rt: HostRuntime) {
+    for (begin, line, cause) in &QUOTED_FIELDS {
+        quoted_has_fault(&rt, begin, *line, *cause);
     }
 }
 

@@ -106,7 +106,7 @@ fn prefixes_of_order_files(rt: HostRuntime) {
 }
 
 /// Records of twelve fields, of which each has a bad one.
-const BAD_FIELDS: [&str; 46] = [
+pub(super) const BAD_FIELDS: [&str; 46] = [
     "\u{feff}open,,,*,,,,,,,,",
     "leave,AAA,1,XYZ,,,,,,,,",
     ",,,*,,,,,,,,",

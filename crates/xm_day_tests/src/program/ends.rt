@@ -128,7 +128,7 @@ const STATEMENTS: [End; 4] = [
 
 /// The answers to the rows of a file that has none.
 const ANSWERS: &str =
-    "record,security,answer,version,phase,first_trade,trades,quantity,money,rest,best_buy,buy_quantity,best_sell,sell_quantity,last,auction,indicative,indicative_quantity\n";
+    "record,security,answer,version,phase,first_trade,trades,quantity,money,rest,best_buy,buy_quantity,best_sell,sell_quantity,last,auction,indicative,indicative_quantity,text\n";
 
 /// The levels behind them.
 const DEPTH: &str = "record,security,side,rank,limit,quantity\n";

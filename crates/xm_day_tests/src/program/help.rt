@@ -55,8 +55,9 @@ Options:
       --answers <FILE>
           Writes the answer to each row, and the market after it, to this file (CSV)
           
-          The file is made before any file is read, and written behind the statement. docs/FORMATS.md tells
-          of each field. It goes with one worker.
+          With a record that has a free text, as an order file of version 2 may have it, its text is told. The
+          file is made before any file is read, and written behind the statement. docs/FORMATS.md tells of
+          each field. It goes with one worker.
 
       --depth <FILE>
           Writes the best levels of both sides, behind each row that changed them, to this file (CSV)

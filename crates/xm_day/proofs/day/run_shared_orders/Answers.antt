@@ -1,7 +1,8 @@
 use Rattle.std.proofs.Common.{List, Result, Err, ap, sym, subst}
 use Rattle.xm_rules.specs.Step.{Journal}
-use Rattle.xm_day.proofs.Endings.{OrdersEnd-of_writing, orders-read}
+use Rattle.xm_day.proofs.Endings.{OrdersEnd-of_writing}
 use Rattle.xm_files.proofs.PassedErrors.{is_passed}
+use Rattle.xm_files.proofs.WholeFiles.{orders-read}
 use Rattle.xm_day.specs.Answers.{DesksEnd, OrdersEnd}
 use Rattle.xm_day.specs.Day.{day_of}
 use Rattle.xm_day.specs.Workers.{IsShared}

@@ -1,7 +1,8 @@
 use Rattle.std.proofs.Common.{◌∙◌, List, Result, Err, ap, sym, subst}
 use Rattle.xm_rules.specs.Step.{Journal}
-use Rattle.xm_day.proofs.Endings.{OrdersEnd-of_writing, orders-read, taken-ends}
+use Rattle.xm_day.proofs.Endings.{OrdersEnd-of_writing, taken-ends}
 use Rattle.xm_files.proofs.PassedErrors.{is_passed}
+use Rattle.xm_files.proofs.WholeFiles.{orders-read}
 use Rattle.xm_day.specs.Answers.{DesksEnd, InFileOrder, OrdersEnd, report_in}
 use Rattle.xm_day.specs.Day.{day_of}
 use Rattle.xm_day.specs.declared.faults.DayFault.{DayFault}
@@ -14,7 +15,7 @@ returns-in_err-statement-clause-ends g c =
     let names = c.args.names.now in
     let ran = c.in-Ok-run_rows.ensures in
     let report = c.in_ok-day-in-Ok-run_rows.day.report in
-    let ends = subst (DesksEnd InFileOrder config ran.0) c.in_ok-day-in-Ok-run_rows.was (taken-ends c.args.asked names config ran.0 c.in-Ok-run_rows.day ran.2) in
+    let ends = subst (DesksEnd InFileOrder config ran.0) c.in_ok-day-in-Ok-run_rows.was (taken-ends c.args.asked names c.in-Ok.bytes.items config ran.0 c.in-Ok-run_rows.day ran.2) in
     let lent = ap (λ (js : List Journal). day_of js report.accepted report.refused) c.as_slice.ensures.value in
     let read = orders-read names config _ c.in-Ok.bytes.items _ c.in-Ok.ensures.bytes c.in-Ok.ensures.short ran.1 in
     let fault = c.in_err-statement.field-0.0 in

@@ -10,7 +10,7 @@ use Rattle.xm_segment.specs.Opening.{journal_of}
 use Rattle.xm_day.proofs.desks.open_day.Goals as goal
 
 pub returns : goal.returns
-returns c = λ names.
+returns c = λ names orders.
     let config = c.args.config.now in
     let opened = c.in_ok-desks.ensures.opened in
     record {
@@ -23,6 +23,6 @@ returns c = λ names.
     }
 
 pub returns-in_err-told : goal.returns-in_err-told
-returns-in_err-told c = λ names.
-    if_memory c.args.asked names c.args.config.now [] c.from_residual-in_err-told.result c.from_residual-in_err-told.ensures.1 c.in_ok-desks.ensures.sound
+returns-in_err-told c = λ names orders.
+    if_memory c.args.asked names orders c.args.config.now [] c.from_residual-in_err-told.result c.from_residual-in_err-told.ensures.1 c.in_ok-desks.ensures.sound
     (λ unasked. absurd (c.in_err-told.ensures.asked unasked))

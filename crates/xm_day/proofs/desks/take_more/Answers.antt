@@ -11,14 +11,15 @@ use Rattle.xm_day.specs.Feeds.{feed_of}
 use Rattle.xm_day.specs.RowAnswers.{answers_text, where_asked}
 use Rattle.xm_day.proofs.desks.take_more.Goals as goal
 
-pub returns : goal.returns
-returns c = λ asked config taken has.
+pub returns-clause-taken : goal.returns-clause-taken
+returns-clause-taken c = λ asked config taken has.
     let old = c.in_ok-desks.field-0 in
     let new = c.take_rows.new.desks in
     let names = c.args.names.now in
+    let orders = c.args.texts.now.orders in
     let report = c.in_ok-report.report in
     let rows = c.args.rows.now in
-    let before = subst (HasTaken asked names config taken) c.in_ok-desks.was has in
+    let before = subst (HasTaken asked names orders config taken) c.in_ok-desks.was has in
     let kept = c.take_rows.auto.desks ∙ ap length c.as_mut_slice.ensures.value in
     let lent = lent_back new old.desks.items old.desks.len kept old.desks.ok.0 in
     let day = ap (λ (js : List Journal). day_of js old.report.accepted old.report.refused) c.as_mut_slice.ensures.value ∙ before.day_is in
@@ -33,20 +34,21 @@ returns c = λ asked config taken has.
           ∙ ap (λ (d : Day). after_rows d rows) day
           ∙ sym (after_rows-append (opening_day config) taken rows);
       all = omega (arith, both, counted, count);
-      answers_are = answers-joined asked.answers names config taken rows _ _ _ before.answers_are day c.in_ok-report.ensures.answers;
+      answers_are = answers-joined asked.answers names orders config taken rows _ _ _ before.answers_are day c.in_ok-report.ensures.answers;
       depth_is = feed-joined asked.depth names config taken rows _ _ _ before.depth_is day c.in_ok-report.ensures.depth;
     }
 
-pub returns-in_err-report : goal.returns-in_err-report
-returns-in_err-report c = λ asked config taken has.
+pub returns-in_err-report-clause-taken : goal.returns-in_err-report-clause-taken
+returns-in_err-report-clause-taken c = λ asked config taken has.
     let old = c.in_ok-desks.field-0 in
     let rows = c.args.rows.now in
     let names = c.args.names.now in
-    let before = subst (HasTaken asked names config taken) c.in_ok-desks.was has in
+    let orders = c.args.texts.now.orders in
+    let before = subst (HasTaken asked names orders config taken) c.in_ok-desks.was has in
     let day = ap (λ (js : List Journal). day_of js old.report.accepted old.report.refused) c.as_mut_slice.ensures.value ∙ before.day_is in
     let Lacks : Day → Type 0 = λ d. LacksMemoryAt d rows in
-    if_memory asked names config (taken ++ rows) c.from_residual-in_err-report.result c.from_residual-in_err-report.ensures.1 before.sound
+    if_memory asked names orders config (taken ++ rows) c.from_residual-in_err-report.result c.from_residual-in_err-report.ensures.1 before.sound
     (λ unasked. lacks-later (opening_day config) taken rows (subst Lacks day (c.in_err-report.ensures.memory (record {
-      answers = before.answers_are ∙ ap (λ (b : Bool). where_asked b (answers_text names config taken)) unasked.answers;
+      answers = before.answers_are ∙ ap (λ (b : Bool). where_asked b (answers_text names config orders taken)) unasked.answers;
       depth = before.depth_is ∙ ap (λ (b : Bool). where_asked b (feed_of names config taken)) unasked.depth;
     }))))

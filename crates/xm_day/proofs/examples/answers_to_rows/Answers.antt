@@ -9,3 +9,7 @@ returns-clause-unknown c = refl
 pub returns-clause-priced : goal.returns-clause-priced
 unfolding digits
 returns-clause-priced c = refl
+
+pub returns-clause-with_text : goal.returns-clause-with_text
+unfolding digits
+returns-clause-with_text c = refl

@@ -7,7 +7,8 @@ use Rattle.xm_day.proofs.runs.take_file.Given as goal
 abbrev pub invariant-parts : goal.invariant-parts
 invariant-parts l = record {
   read : rows_from l.names l.config l.initial.file [] ≡ rows_from l.names l.config l.file (rows_so_far l.batch);
-  taken : HasTaken l.fn.asked l.names l.config (rows_so_far l.batch) l.day;
+  taken : HasTaken l.fn.asked l.names l.initial.texts.orders l.config (rows_so_far l.batch) l.day;
+  texts : l.texts.orders ≡ l.initial.texts.orders;
 }
 
 abbrev pub decreases-parts : goal.decreases-parts
