@@ -52,9 +52,9 @@ def order_files():
     bytes_of = {"letters": "A", "quotes": '"', "commas": ",", "line feeds": "\n", "carriage returns": "\r", "zeros": "\0"}
     for name, byte in bytes_of.items():
         behind = files.counts(0) if byte in "\r\n" else files.fault(2, "Syntax")
-        most = 3 if byte == "," else MOST_TIMES
-        yield Trial(f"{name} alone", lambda byte=byte: files.one_byte(byte, files.fault(1, "BadHeader")), most=most)
-        yield Trial(f"{name} behind the header", lambda byte=byte, said=behind: files.one_byte(byte, said, files.HEADER), most=most)
+        yield Trial(f"{name} alone", lambda byte=byte: files.one_byte(byte, files.fault(1, "BadHeader")))
+        yield Trial(f"{name} behind the header", lambda byte=byte, said=behind: files.one_byte(byte, said, files.HEADER))
+    yield Trial("commas behind a quoted field", lambda: files.one_byte(",", files.fault(2, "Syntax"), files.HEADER + '""'), most=6)
     yield Trial("a quote that is never closed", lambda: files.one_byte("A", files.fault(2, "Syntax"), files.HEADER + '"'))
     yield Trial("an ordinary day, each record with a quote", files.quoted)
     yield Trial("125,000 records of eight securities", lambda: files.openings(125_000))
@@ -109,7 +109,7 @@ def days():
 
 def dear_days():
     """Days whose rows each ask for many levels, or for threads, in plain Rust as well."""
-    for members, rounds, most in ((1, 200_000, 8), (2, 20_000, 60), (8, 5000, 120)):
+    for members, rounds, most in ((1, 200_000, MOST_TIMES), (2, 20_000, 60), (8, 5000, 120)):
         title = f"{rounds:,} rounds of {members} and a phase row"
         yield Trial(title, lambda members=members, rounds=rounds: files.rounds(members, rounds), "a shared day", most)
     yield Trial("1,000 calls that 100,000 levels cross", lambda: files.calls_without_trade(100_000, 1000), most=500)
