@@ -1,12 +1,13 @@
 -- What holds of each live order, of each held stop and of each trade of a lawful journal, where it doesn't speak of the rests of
 -- orders: what commands bring in has it, and what becomes of that keeps it.
-use Rattle.std.proofs.Common.{◌≡◌, ℕ, ◌+◌, ◌-◌, ◌==◌, Bool, true, false, not, ◌&&◌, if◌then◌else◌, cond, List, [], ◌∷◌, All, IfSome, get_or, find, map, Option, Some, None, refl}
+use Rattle.std.proofs.Common.{◌≡◌, ℕ, ◌+◌, ◌-◌, ◌==◌, Bool, true, false, not, ◌&&◌, if◌then◌else◌, cond, List, [], ◌∷◌, All, IfSome, get_or, find, map, Option, Some, None, refl, sym, ap, subst, ◌∙◌}
 use Rattle.std.specs.Prelude.{nat_lt}
 use Rattle.std.proofs.lemmas.List.Elements.{All-nil, All-cons, All-head, All-tail, All-append, All-filter, All-map, All-push}
 use Rattle.xm_rules.specs.Active.{Positioned, positioned_from}
 use Rattle.xm_rules.specs.Allotment.{allotted, auction_trades}
 use Rattle.xm_rules.specs.Auction.{auction_price}
 use Rattle.xm_rules.specs.Commands.{outlasts, trigger_of}
+use Rattle.xm_rules.specs.Opening.{are_carriable, is_still_valid, opening}
 use Rattle.xm_rules.specs.Orders.{is_named, is_stop_named}
 use Rattle.xm_rules.specs.Priority.{without_units}
 use Rattle.xm_rules.specs.Refusals.{refusal_of}
@@ -31,6 +32,7 @@ use Rattle.xm_rules.specs.declared.phases.Phase.{Phase}
 use Rattle.xm_rules.specs.declared.phases.Phase.TheVariants.{Call}
 use Rattle.xm_rules.specs.declared.settings.DeskSettings.{DeskSettings}
 use Rattle.xm_rules.proofs.CallTrades.{call_of}
+use Rattle.xm_rules.proofs.Opening.{opening-has}
 use Rattle.xm_rules.proofs.Replays.{lawful-has, settle-has}
 
 -- a state of these settings has it
@@ -41,6 +43,7 @@ pub record Holds (G : Order → Type 0) (S : Stop → Type 0) (T : Trade → Typ
   pub trades : All T s.trades
 
 pub record AreKept (G : Order → Type 0) (S : Stop → Type 0) (T : Trade → Type 0) (settings : DeskSettings) : Type 0 where
+  pub begins : are_carriable settings ≡ true → All G settings.carried.orders × All S settings.carried.stops
   pub rests : (o : Order) (rest : ℕ) → G o → G (record o { rest = rest })
   pub held : (trigger : ℕ) (o : Order) → G o → S (stop_of trigger o)
   pub comes : (stop : Stop) → S stop → G (order_of_stop stop)
@@ -209,6 +212,18 @@ module _ (G : Order → Type 0) (S : Stop → Type 0) (T : Trade → Type 0) (se
       let after = settled-has (act s c) (act-has s c h k) in
       record { same = after.same; orders = after.orders; stops = after.stops; trades = after.trades }
 
+  opening-holds : are_carriable settings ≡ true → Has (opening settings)
+  opening-holds h =
+      let own = a.begins h in
+      opening-has Has settled-has settings (record {
+        same = refl;
+        orders = All-filter (λ (o : Order). is_still_valid settings.today o.validity) G settings.carried.orders own.0;
+        stops = All-filter (λ (stop : Stop). is_still_valid settings.today stop.validity) S settings.carried.stops own.1;
+        trades = All-nil T;
+      })
+
   -- every lawful journal of these settings has it
   pub lawful-holds : (j : Journal) → j.settings ≡ settings → is_lawful j ≡ true → Has (replay j)
-  lawful-holds j same h = lawful-has Has step-has j h (record { same = same; orders = All-nil G; stops = All-nil S; trades = All-nil T })
+  lawful-holds j same h =
+      lawful-has Has step-has j h
+      (λ carriable. subst (λ (d : DeskSettings). Has (opening d)) (sym same) (opening-holds (ap are_carriable (sym same) ∙ carriable)))

@@ -66,7 +66,7 @@ come-more s o =
 released-keeps : (s : State) → in_hand (released s) + sum_by stop_units (reached s) ≡ in_hand s
 released-keeps s = omega (arith, split stop_units (is_reached (ref1 s)) s.stops)
 
-settle-more : (s : State) → in_hand (settle s []) ≤ in_hand s
+pub settle-more : (s : State) → in_hand (settle s []) ≤ in_hand s
 settle-more s = settle-within in_hand stop_units (λ s stop. come-more s (order_of_stop stop)) (λ s. omega (arith, released-keeps s)) s
 
 -- ---- the end of a call

@@ -1,8 +1,9 @@
 -- What a replay by one command more is, and what a lawful journal keeps.
-use Rattle.std.proofs.Common.{◌≡◌, ◌+◌, true, List, [], ◌∷◌, ◌++◌, drop, length, None, is_none, refl, arith}
+use Rattle.std.proofs.Common.{◌≡◌, ◌+◌, Bool, true, ◌&&◌, List, [], ◌∷◌, ◌++◌, drop, length, None, is_none, refl, ap, ap₂, arith}
 use Rattle.std.proofs.lemmas.Bool.{and_parts}
+use Rattle.xm_rules.specs.Opening.{are_carriable, opening}
 use Rattle.xm_rules.specs.Refusals.{refusal_of}
-use Rattle.xm_rules.specs.State.{State, opening}
+use Rattle.xm_rules.specs.State.{State}
 use Rattle.xm_rules.specs.Step.{Journal, step, replay, replay_from, is_lawful, is_lawful_from, reply}
 use Rattle.xm_rules.specs.Sums.{total_money, total_quantity}
 use Rattle.xm_rules.specs.declared.commands.Command.{Command}
@@ -30,13 +31,19 @@ pub replay-push : (j : Journal) (c : Command) → replay (journal_of j.settings 
 unfolding replay
 replay-push j c = replay_from-push (opening j.settings) j.commands c
 
-pub is_lawful-opening : (settings : DeskSettings) → is_lawful (journal_of settings []) ≡ true
+pub is_lawful-opening : (settings : DeskSettings) → are_carriable settings ≡ true → is_lawful (journal_of settings []) ≡ true
 unfolding is_lawful
-is_lawful-opening settings = refl
+is_lawful-opening settings h = ap (λ (b : Bool). b && true) h
+
+pub carries : (j : Journal) → is_lawful j ≡ true → are_carriable j.settings ≡ true
+unfolding is_lawful
+carries j h = (and_parts (are_carriable j.settings) (is_lawful_from (opening j.settings) j.commands) h).0
 
 pub is_lawful-push : (j : Journal) (c : Command) → is_lawful j ≡ true → refusal_of (replay j) c ≡ None → is_lawful (journal_of j.settings (j.commands ++ c ∷ [])) ≡ true
 unfolding replay is_lawful
-is_lawful-push j c h r = is_lawful_from-push (opening j.settings) j.commands c h r
+is_lawful-push j c h r =
+    let parts = and_parts (are_carriable j.settings) (is_lawful_from (opening j.settings) j.commands) h in
+    ap₂ (λ (a b : Bool). a && b) parts.0 (is_lawful_from-push (opening j.settings) j.commands c parts.1 r)
 
 -- the number of accepted commands is that of the journal
 pub step-accepted : (s : State) (c : Command) → (step s c).accepted ≡ s.accepted + 1

@@ -3,7 +3,7 @@ use Rattle.std.proofs.Common.{◌≡◌, ℕ, ◌-◌, ◌<◌, max, min, Bool, 
 use Rattle.std.specs.List.{filter_map, flat_map}
 use Rattle.std.specs.Prelude.{nat_le, nat_lt}
 use Rattle.std.proofs.lemmas.Bool.Decides.{nat_tests}
-use Rattle.std.proofs.lemmas.List.Elements.{All-filter, All-map}
+use Rattle.std.proofs.lemmas.List.Elements.{All-filter, All-map, All-weaker}
 use Rattle.xm_rules.specs.Active.{Positioned, is_active_on, positioned_from}
 use Rattle.xm_rules.specs.Allotment.{Uncrossing, auction_trades, end_unit, first_unit, parties, side_queue, takes_part, trade_of_pair, traded_units}
 use Rattle.xm_rules.specs.Orders.{trade_between}
@@ -22,6 +22,7 @@ use Rattle.xm_rules.specs.declared.orders.TradeKind.TheVariants as made
 use Rattle.xm_rules.specs.declared.phases.Phase.TheVariants.{Call, Continuous}
 use Rattle.xm_rules.specs.declared.settings.DeskSettings.{DeskSettings}
 use Rattle.xm_rules.proofs.Accepted.{accepted}
+use Rattle.xm_rules.proofs.CarriedEntries.{CanBeCarried, CanBeHeld, carriable-parts}
 use Rattle.xm_rules.proofs.CallTrades.{All-filter_map, All-in_order, call_of}
 use Rattle.xm_rules.proofs.EachKept.{AreKept, Holds, lawful-holds, placed}
 use Rattle.xm_rules.proofs.TradeSizes.{all_of_lists}
@@ -76,6 +77,11 @@ is_below members member e = grind (arith, nat_tests)
 members-kept : (settings : DeskSettings) → AreKept (IsOf settings.members) (IsStopOf settings.members) (IsBetweenMembers settings.members) settings
 members-kept settings =
     record {
+      begins = λ h.
+          let parts = carriable-parts settings h in (
+            All-weaker (CanBeCarried settings.members) (IsOf settings.members) (λ o c. c.known) settings.carried.orders parts.orders,
+            All-weaker (CanBeHeld settings.members) (IsStopOf settings.members) (λ stop c. c.order.known) settings.carried.stops parts.stops,
+          );
       rests = λ o rest own. own;
       held = λ trigger o own. own;
       comes = λ stop own. own;

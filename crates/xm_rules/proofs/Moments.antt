@@ -31,6 +31,7 @@ use Rattle.xm_rules.specs.declared.phases.Phase.TheVariants.{PreTrading, Call, C
 use Rattle.xm_rules.specs.declared.settings.DeskSettings.{DeskSettings}
 use Rattle.xm_rules.proofs.CallTrades.{All-filter_map, All-flat_map, All-in_order, call_of, passed-where-none, trades_of_call}
 use Rattle.xm_rules.proofs.ComingIn.{IsOfSweep, trades_of_sweep}
+use Rattle.xm_rules.proofs.Opening.{opening-has}
 use Rattle.xm_rules.proofs.Replays.{replay-has, settle-has}
 
 -- ---- the trades before a number
@@ -230,7 +231,7 @@ unfolding step
 step-inside s c k = settle-inside (act s c) (act-inside s c k)
 
 pub inside_replay : (j : Journal) → WereInside (replay j)
-inside_replay j = replay-has WereInside step-inside j (All-nil (WasInside j.settings 0 []), λ number. ([], refl))
+inside_replay j = replay-has WereInside step-inside j (opening-has WereInside settle-inside j.settings (All-nil (WasInside j.settings 0 []), λ number. ([], refl)))
 
 pub inside_of_kind : (j : Journal) (kind : TradeKind) → All (λ (t : Trade). t.kind ≡ kind → is_inside_asked (ranges_at (replay j) t) kind t.price ≡ true) (replay j).trades
 inside_of_kind j kind =

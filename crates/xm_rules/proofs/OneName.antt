@@ -57,10 +57,10 @@ module _ {X : Type 0} (p : X → Bool) where
   count-without (x ∷ xs) = kept_none x (filter (λ y. not (p y)) xs) (p x) refl (count-without xs)
 
 module _ (member reference : ℕ) where
-  abbrev named : Order → ℕ
+  abbrev pub named : Order → ℕ
   named o = cond (is_named member reference o) 1 0
 
-  abbrev stop_named : Stop → ℕ
+  abbrev pub stop_named : Stop → ℕ
   stop_named stop = cond (is_stop_named member reference stop) 1 0
 
   -- the number of live orders and held stops of this name
@@ -90,7 +90,7 @@ module _ (member reference : ℕ) where
       (at_most (swept s o) _ (uses s + named o) (rest_after w == 0) (omega (arith, left)) (omega (arith, left, sum_by_push named (swept s o).orders rest)))
       (omega (arith, sum_by_push named s.orders o))
 
-  settle-uses : (s : State) → uses (settle s []) ≤ uses s
+  pub settle-uses : (s : State) → uses (settle s []) ≤ uses s
   settle-uses s =
       settle-within uses stop_named (λ s stop. come-uses s (order_of_stop stop)) (λ s. omega (arith, split stop_named (is_reached (ref1 s)) s.stops)) s
 

@@ -30,6 +30,7 @@ use Rattle.xm_rules.specs.declared.phases.Phase.{Phase}
 use Rattle.xm_rules.specs.declared.phases.Phase.TheVariants.{Call, Continuous}
 use Rattle.xm_rules.specs.declared.settings.DeskSettings.{DeskSettings}
 use Rattle.xm_rules.proofs.Accepted.{change-accepted, entry-accepted}
+use Rattle.xm_rules.proofs.CarriedEntries.{CanBeCarried, CanBeHeld, carriable-parts}
 use Rattle.xm_rules.proofs.CallTrades.{All-filter_map, All-in_order, IsOfCall, call_of, trades_of_call}
 use Rattle.xm_rules.proofs.Choices.{best_from_has}
 use Rattle.xm_rules.proofs.DayLimits.{within_limits}
@@ -58,6 +59,10 @@ limit-entered kind.Market e = tt
 limit-entered (kind.Limit p) e = range_high p e
 limit-entered (kind.StopMarket t) e = tt
 limit-entered (kind.StopLimit t p) e = range_high p (and_parts (is_in_range t) (is_in_range p) e).1
+
+limit-given : (k : OrderKind) → is_given_in_range (limit_of k) ≡ true → HasLimit k
+limit-given Market e = tt
+limit-given (Limit p) e = range_high p e
 
 limit-changed : (limit : Option ℕ) (k : OrderKind) → is_given_in_range limit ≡ true → HasLimit k → HasLimit (changed_kind limit k)
 limit-changed None k e h = h
@@ -109,6 +114,11 @@ candidates-in-range phase os h =
 prices-kept : (settings : DeskSettings) → InRange settings.reference → AreKept IsLimited IsStopLimited IsPriced settings
 prices-kept settings low =
     record {
+      begins = λ h.
+          let parts = carriable-parts settings h in (
+            All-weaker (CanBeCarried settings.members) IsLimited (λ o c. limit-given o.kind c.limit) settings.carried.orders parts.orders,
+            All-weaker (CanBeHeld settings.members) IsStopLimited (λ stop c. limit-given stop.becomes c.order.limit) settings.carried.stops parts.stops,
+          );
       rests = λ o rest own. own;
       held = λ trigger o own. own;
       comes = λ stop own. own;

@@ -2,13 +2,15 @@
 use Rattle.std.proofs.Common.{◌≡◌, ℕ, zero, suc, ◌+◌, ◌≤◌, ◌==◌, Bool, true, false, ◌&&◌, not, if◌then◌else◌, List, [], ◌∷◌, ◌++◌, length, length-append, All, refl, sym, ap, ◌∙◌, arith}
 use Rattle.std.proofs.lemmas.List.Elements.{All-nil, All-weaker, filter_passes}
 use Rattle.std.proofs.lemmas.List.Filters.{length-filter_both}
+use Rattle.xm_rules.specs.Opening.{carried_over, opening}
 use Rattle.xm_rules.specs.Settling.{come, is_continuous, is_free, is_reached, joined, order_of_stop, reached, released, settle, settle_in, sweep_of, swept, take_pending}
-use Rattle.xm_rules.specs.State.{State, opening, ref1}
+use Rattle.xm_rules.specs.State.{State, ref1}
 use Rattle.xm_rules.specs.Step.{Journal, act, replay, step}
 use Rattle.xm_rules.specs.Sweep.{rest_after}
 use Rattle.xm_rules.specs.declared.commands.Command.{Command}
 use Rattle.xm_rules.specs.declared.orders.Order.{Order}
 use Rattle.xm_rules.specs.declared.orders.Stop.{Stop}
+use Rattle.xm_rules.specs.declared.settings.DeskSettings.{DeskSettings}
 use Rattle.xm_rules.proofs.Replays.{replay-has}
 
 abbrev pub NoneReached : State → Type 0
@@ -31,7 +33,7 @@ was_false false e = refl
 pub as_many : (s : State) (pending : List Stop) → length (released s).stops + length (pending ++ reached s) ≡ length s.stops + length pending
 as_many s pending = omega (arith, length-append pending (reached s), length-filter_both (is_reached (ref1 s)) (λ (stop : Stop). not (is_reached (ref1 s) stop)) (λ stop. refl) s.stops)
 
-released-none : (s : State) → NoneReached (released s)
+pub released-none : (s : State) → NoneReached (released s)
 released-none s =
     All-weaker (λ (stop : Stop). not (is_reached (ref1 s) stop) ≡ true) (λ (stop : Stop). is_reached (ref1 s) stop ≡ false)
     (λ stop e. was_false (is_reached (ref1 s) stop) e) (released s).stops (filter_passes (λ (stop : Stop). not (is_reached (ref1 s) stop)) s.stops)
@@ -55,8 +57,12 @@ step-none : (s : State) (c : Command) → NoneReached (step s c)
 unfolding step
 step-none s c = settled-none (length (act s c).stops + 0) (act s c) [] (omega arith)
 
+opening-none : (settings : DeskSettings) → NoneReached (opening settings)
+unfolding opening
+opening-none settings = let s = carried_over settings in settled-none (length s.stops + 0) s [] (omega arith)
+
 pub none_reached : (j : Journal) → NoneReached (replay j)
-none_reached j = replay-has NoneReached (λ s c none. step-none s c) j (All-nil (λ (stop : Stop). is_reached (ref1 (opening j.settings)) stop ≡ false))
+none_reached j = replay-has NoneReached (λ s c none. step-none s c) j (opening-none j.settings)
 
 -- ---- turns
 

@@ -3,9 +3,10 @@ use Rattle.std.proofs.Common.{◌≡◌, ℕ, zero, suc, ◌+◌, true, List, []
 use Rattle.std.specs.Prelude.{is_none}
 use Rattle.std.proofs.lemmas.Bool.{and_parts}
 use Rattle.std.proofs.lemmas.List.Elements.{All-append, All-head, All-nil, All-tail}
+use Rattle.xm_rules.specs.Opening.{are_carriable, opening}
 use Rattle.xm_rules.specs.Refusals.{refusal_of}
 use Rattle.xm_rules.specs.Settling.{come, order_of_stop, reached, released, settle, settle_in, take_pending}
-use Rattle.xm_rules.specs.State.{State, opening}
+use Rattle.xm_rules.specs.State.{State}
 use Rattle.xm_rules.specs.Step.{Journal, is_lawful, is_lawful_from, replay, replay_from, step}
 use Rattle.xm_rules.specs.declared.commands.Command.{Command}
 use Rattle.xm_rules.specs.declared.orders.Stop.{Stop}
@@ -46,6 +47,8 @@ module _ (P : State → Type 0) (steps : (s : State) (c : Command) → refusal_o
       let parts = and_parts (is_none (refusal_of s c)) (is_lawful_from (step s c) cs) h in
       lawful_from-has (step s c) cs parts.1 (steps s c (none_from_test (refusal_of s c) parts.0) p)
 
-  pub lawful-has : (j : Journal) → is_lawful j ≡ true → P (opening j.settings) → P (replay j)
+  pub lawful-has : (j : Journal) → is_lawful j ≡ true → (are_carriable j.settings ≡ true → P (opening j.settings)) → P (replay j)
   unfolding replay is_lawful
-  lawful-has j h p = lawful_from-has (opening j.settings) j.commands h p
+  lawful-has j h p =
+      let parts = and_parts (are_carriable j.settings) (is_lawful_from (opening j.settings) j.commands) h in
+      lawful_from-has (opening j.settings) j.commands parts.1 (p parts.0)

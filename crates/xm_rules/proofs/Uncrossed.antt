@@ -8,6 +8,7 @@ use Rattle.xm_rules.specs.Active.{Positioned, active, is_active_on, positioned_f
 use Rattle.xm_rules.specs.Auction.{auction_price}
 use Rattle.xm_rules.specs.Commands.{is_in_range, outlasts, trigger_of}
 use Rattle.xm_rules.specs.Crossing.{NoneMeet}
+use Rattle.xm_rules.specs.Opening.{are_carriable, is_still_valid, opening}
 use Rattle.xm_rules.specs.Orders.{is_named, is_stop_named, meets, with_rest}
 use Rattle.xm_rules.specs.Priority.{without_units}
 use Rattle.xm_rules.specs.Refusals.{refusal_of}
@@ -29,10 +30,13 @@ use Rattle.xm_rules.specs.declared.phases.CallStage.{CallStage}
 use Rattle.xm_rules.specs.declared.phases.CallStage.TheVariants.{Ordinary, Interrupted}
 use Rattle.xm_rules.specs.declared.phases.Phase.{Phase}
 use Rattle.xm_rules.specs.declared.phases.Phase.TheVariants.{Call, Continuous, PreTrading, PostTrading, Ended}
+use Rattle.xm_rules.specs.declared.settings.DeskSettings.{DeskSettings}
 use Rattle.xm_rules.proofs.Accepted.{change-accepted, entry-accepted}
 use Rattle.xm_rules.proofs.AfterCalls.{none_meet_after}
 use Rattle.xm_rules.proofs.CallTrades.{call_of}
+use Rattle.xm_rules.proofs.CarriedEntries.{CanBeCarried, CanBeHeld, carriable-parts}
 use Rattle.xm_rules.proofs.ComingIn.{none_meet}
+use Rattle.xm_rules.proofs.Opening.{opening-has}
 use Rattle.xm_rules.proofs.Remaining.{each_positioned, is_on_side, joins_queue}
 use Rattle.xm_rules.proofs.Replays.{lawful-has, settle-has}
 
@@ -280,5 +284,17 @@ step-uncrossed s c accepted u =
     let v = settle-uncrossed (act s c) (act-uncrossed s c accepted u) in
     record { rests = v.rests; units = v.units; unmet = v.unmet }
 
+opening-uncrossed : (settings : DeskSettings) → are_carriable settings ≡ true → IsUncrossed (opening settings)
+opening-uncrossed settings h =
+    let parts = carriable-parts settings h in
+    let entries = settings.carried in
+    opening-has IsUncrossed settle-uncrossed settings (record {
+      rests = All-filter (λ (o : Order). is_still_valid settings.today o.validity) HasUnits entries.orders
+          (All-weaker (CanBeCarried settings.members) HasUnits (λ o c. some_units o.rest c.units) entries.orders parts.orders);
+      units = All-filter (λ (stop : Stop). is_still_valid settings.today stop.validity) StopHasUnits entries.stops
+          (All-weaker (CanBeHeld settings.members) StopHasUnits (λ stop c. some_units stop.quantity c.order.units) entries.stops parts.stops);
+      unmet = λ e. absurd (cc);
+    })
+
 pub uncrossed_replay : (j : Journal) → is_lawful j ≡ true → IsUncrossed (replay j)
-uncrossed_replay j h = lawful-has IsUncrossed step-uncrossed j h (record { rests = All-nil HasUnits; units = All-nil StopHasUnits; unmet = λ e. absurd (cc) })
+uncrossed_replay j h = lawful-has IsUncrossed step-uncrossed j h (opening-uncrossed j.settings)

@@ -3,6 +3,8 @@ use Rattle.std.specs.Prelude.{ℕ, Bool, map, List, [], ◌∷◌, ◌++◌, Opt
 use Rattle.xm_rules.specs.Active.{is_active}
 use Rattle.xm_rules.specs.Allotment.{Uncrossing}
 use Rattle.xm_rules.specs.Auction.{auction_price}
+use Rattle.xm_rules.specs.Entries.{none_left}
+use Rattle.xm_rules.specs.Opening.{are_carriable}
 use Rattle.xm_rules.specs.Refusals.{refusal_of}
 use Rattle.xm_rules.specs.State.{Ranges, State, ref1, ref2}
 use Rattle.xm_rules.specs.Step.{step, reply, replay, Journal}
@@ -23,6 +25,7 @@ use Rattle.xm_rules.specs.declared.orders.Stop.{Stop}
 use Rattle.xm_rules.specs.declared.orders.Trade.{Trade}
 use Rattle.xm_rules.specs.declared.orders.TradeKind.{TradeKind}
 use Rattle.xm_rules.specs.declared.orders.TradeKind.TheVariants as made
+use Rattle.xm_rules.specs.declared.orders.Validity.{Validity}
 use Rattle.xm_rules.specs.declared.orders.Validity.TheVariants.{Day, TillDate, TillCancelled}
 use Rattle.xm_rules.specs.declared.phases.Auction.TheVariants.{Opening, Intraday, Closing, Interruption}
 use Rattle.xm_rules.specs.declared.phases.CallStage.TheVariants.{Ordinary, Interrupted}
@@ -57,7 +60,7 @@ trade kind sweep quantity price buyer seller =
 
 -- two members, today 2026-01-05, reference price 1000, ranges of 20, 50 and 40 thousandths, 1000 commands
 abbrev pub settings : DeskSettings
-settings = record { today = 20260105; members = 2; tick = 1; reference = 1000; widths = record { dynamic = 20; statics = 50; wide = 40 }; limit = 1000 }
+settings = record { today = 20260105; members = 2; tick = 1; reference = 1000; widths = record { dynamic = 20; statics = 50; wide = 40 }; limit = 1000; carried = none_left }
 
 abbrev pub journal : List Command → Journal
 journal commands = record { settings = settings; commands = commands }
@@ -273,3 +276,31 @@ stop_till reference date = record (stop 0 reference Sell 900 Market 5) { validit
 -- the first member bought four units at 990 from the second
 abbrev pub one_trade : List Trade
 one_trade = trade made.Continuous 1 4 990 (0, 1) (1, 1) ∷ []
+
+-- a day of the settings above that begins with these orders and stops
+abbrev pub carrying : List Order → List Stop → DeskSettings
+carrying orders stops = record settings { carried = record { orders = orders; stops = stops } }
+
+-- entries of earlier days
+abbrev pub till : Validity → Order → Order
+till validity o = record o { validity = validity }
+
+abbrev pub stop_at : ℕ → ℕ → ℕ → Validity → Stop
+stop_at member reference trigger validity = record (stop member reference Sell trigger Market 5) { validity = validity }
+
+-- four orders, of which one is over and one ends today, and four stops, of which two are reached and one is over
+abbrev pub left_over : DeskSettings
+left_over =
+    carrying
+    (till TillCancelled (buy 1 990 5) ∷ till (TillDate 20260104) (buy 2 980 5) ∷ till (TillDate 20260105) (sell 1 1010 3) ∷ till (TillDate 20260106) (sell 2 1020 4) ∷ [])
+    (stop_at 0 3 1000 TillCancelled ∷ stop_at 1 4 900 TillCancelled ∷ stop_at 1 5 1000 (TillDate 20260104) ∷ stop_at 1 6 1001 (TillDate 20260105) ∷ [])
+
+-- which of these a security takes
+abbrev pub takes : List Order → List Stop → Bool
+takes orders stops = are_carriable (carrying orders stops)
+
+abbrev pub lasting : Order → Order
+lasting o = till TillCancelled o
+
+abbrev pub lasting_stop : Stop
+lasting_stop = stop_at 0 3 900 TillCancelled

@@ -3,8 +3,10 @@ pub mod Allotment
 pub mod Auction
 pub mod Commands
 pub mod Crossing
+pub mod Entries
 pub mod Examples
 pub mod Moments
+pub mod Opening
 pub mod Orders
 pub mod Priority
 pub mod Quote

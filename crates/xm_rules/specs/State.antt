@@ -7,7 +7,6 @@ use Rattle.xm_rules.specs.declared.orders.Trade.{Trade}
 use Rattle.xm_rules.specs.declared.orders.TradeKind.{TradeKind}
 use Rattle.xm_rules.specs.declared.orders.TradeKind.TheVariants as made
 use Rattle.xm_rules.specs.declared.phases.Phase.{Phase}
-use Rattle.xm_rules.specs.declared.phases.Phase.TheVariants.{PreTrading}
 use Rattle.xm_rules.specs.declared.settings.DeskSettings.{DeskSettings}
 use Rattle.xm_rules.specs.declared.settings.Widths.{Widths}
 
@@ -23,10 +22,6 @@ pub record State : Type 0 where
   pub trades : List Trade
   -- the number of sweeps and of price determinations that traded
   pub sweeps : ℕ
-
--- the state before the day
-abbrev pub opening : DeskSettings → State
-opening settings = record { settings = settings; accepted = 0; phase = PreTrading; orders = []; stops = []; trades = []; sweeps = 0 }
 
 -- the price of the last trade of a list, or another price where there is none
 abbrev pub last_price : ℕ → List Trade → ℕ

@@ -3,10 +3,11 @@ use Rattle.std.specs.Prelude.{ℕ, ◌+◌, ◌==◌, Bool, true, false, ◌&&�
 use Rattle.xm_rules.specs.Allotment.{Uncrossing, auction_trades, orders_after_call}
 use Rattle.xm_rules.specs.Auction.{auction_price}
 use Rattle.xm_rules.specs.Commands.{order_kind, trigger_of, outlasts}
+use Rattle.xm_rules.specs.Opening.{are_carriable, opening}
 use Rattle.xm_rules.specs.Orders.{is_named, removed, removed_stop, with_rest, without_member, without_stops_of}
 use Rattle.xm_rules.specs.Refusals.{refusal_of}
 use Rattle.xm_rules.specs.Settling.{come, swept, sweep_of, settle}
-use Rattle.xm_rules.specs.State.{Ranges, State, opening, ref1, ranges, inside_both, inside_wide}
+use Rattle.xm_rules.specs.State.{Ranges, State, ref1, ranges, inside_both, inside_wide}
 use Rattle.xm_rules.specs.Sums.{total_quantity, total_money}
 use Rattle.xm_rules.specs.Sweep.{is_fillable}
 use Rattle.xm_rules.specs.declared.commands.Command.{Command}
@@ -173,5 +174,6 @@ pub record Journal : Type 0 where
 unfoldable pub replay : Journal → State
 replay j = replay_from (opening j.settings) j.commands
 
+-- its settings carry what a security takes, and each of its commands is one that the state before it doesn't refuse
 unfoldable pub is_lawful : Journal → Bool
-is_lawful j = is_lawful_from (opening j.settings) j.commands
+is_lawful j = are_carriable j.settings && is_lawful_from (opening j.settings) j.commands

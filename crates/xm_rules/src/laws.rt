@@ -1,15 +1,16 @@
 //! Laws of the definitions, over all inputs. Each function promises one by its contract.
-ghost use Rattle.std.specs.Prelude.{◌≡◌, ◌≢◌, ◌≤◌, ◌<◌, ◌+◌, ◌*◌, ◌&&◌, ◌||◌, ◌⊎◌, ◌++◌, ◌∷◌, [], ℕ, List, Option, Some, None, All, Contains, count_by, length, sum_by, true, false};
+ghost use Rattle.std.specs.Prelude.{◌≡◌, ◌≢◌, ◌≤◌, ◌<◌, ◌+◌, ◌*◌, ◌&&◌, ◌||◌, ◌⊎◌, ◌++◌, ◌∷◌, [], ℕ, List, Option, Some, None, All, Contains, count_by, filter, length, map, not, sum_by, true, false};
 ghost use Rattle.xm_rules.specs.Active.{Positioned, active};
 ghost use Rattle.xm_rules.specs.Allotment.{Uncrossing, side_queue, allotted, auction_trades};
 ghost use Rattle.xm_rules.specs.Auction.{auction_price, volume};
 ghost use Rattle.xm_rules.specs.Crossing.{NoneMeet};
 ghost use Rattle.xm_rules.specs.Moments.{earlier, ranges_at};
+ghost use Rattle.xm_rules.specs.Opening.{carried_over, opening};
 ghost use Rattle.xm_rules.specs.Orders.{is_named, is_stop_named};
 ghost use Rattle.xm_rules.specs.Priority.{is_ahead};
 ghost use Rattle.xm_rules.specs.Quote.{best_limit};
 ghost use Rattle.xm_rules.specs.Refusals.{refusal_of};
-ghost use Rattle.xm_rules.specs.Settling.{is_reached, settle, settle_in};
+ghost use Rattle.xm_rules.specs.Settling.{is_reached, order_of_stop, settle, settle_in};
 ghost use Rattle.xm_rules.specs.State.{State, ranges, ref1, inside_both, inside_wide};
 ghost use Rattle.xm_rules.specs.Step.{Journal, come_under, entered_order, replay, is_lawful, step, uncrossed, new_trades};
 ghost use Rattle.xm_rules.specs.Sums.{AreWithinLimits, IsBetweenMembers, bought, over_members, paid, received, sold, total_money, total_quantity};
@@ -149,11 +150,12 @@ pub fn lawful_journals_hold_no_refused_command()
         → refusal_of (replay (record { settings = settings; commands = commands })) c ≡ None }
 {}
 
-/// A lawful journal trades no more than a million units for each command of members that it takes, since no command brings in
-/// more. Its opening reference is in range, as that of each desk is, and so are the limits that its checks let in: so no trade is
+/// A lawful journal trades no more than a million units for each order or stop that earlier days left and for each command of members
+/// that it takes, since none brings in more. Its opening reference is in range, as that of each desk is, and so are the limits that its checks let in: so no trade is
 /// above the highest price. Where its limit is one that a journal may have, its trades are within the limits of a day.
 pub fn lawful_journals_stay_within_the_limits_of_a_day()
-    ensures quantity { (j : Journal) → is_lawful j ≡ true → total_quantity (replay j).trades ≤ MAX_QUANTITY * j.settings.limit }
+    ensures quantity { (j : Journal) → is_lawful j ≡ true → total_quantity (replay j).trades
+        ≤ MAX_QUANTITY * (length j.settings.carried.orders + length j.settings.carried.stops + j.settings.limit) }
     ensures prices { (j : Journal) → is_lawful j ≡ true → j.settings.reference ≤ MAX_PRICE → All (λ (t : Trade). t.price ≤ MAX_PRICE) (replay j).trades }
     ensures limits { (j : Journal) → is_lawful j ≡ true → j.settings.limit ≤ MAX_JOURNAL_LIMIT → j.settings.reference ≤ MAX_PRICE
         → AreWithinLimits (replay j).trades }
@@ -234,4 +236,15 @@ pub fn book_or_cancel_orders_join_last()
 pub fn lawful_journals_use_each_name_once()
     ensures { (j : Journal) (member reference : ℕ) → is_lawful j ≡ true
         → count_by (is_named member reference) (replay j).orders + count_by (is_stop_named member reference) (replay j).stops ≤ 1 }
+{}
+
+/// A day opens with the orders that earlier days left and that are still valid, in their order. Behind them stand the orders of the
+/// stops that the opening reference has reached, in order of entry; the other stops are held. No trade was made, no sweep has a number,
+/// and no command is counted.
+pub fn days_open_with_what_is_still_valid()
+    ensures { (settings : DeskSettings) → let before = carried_over settings in
+        opening settings ≡ record before {
+          orders = before.orders ++ map order_of_stop (filter (is_reached settings.reference) before.stops);
+          stops = filter (λ (stop : Stop). not (is_reached settings.reference stop)) before.stops;
+        } }
 {}

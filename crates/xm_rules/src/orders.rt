@@ -2,6 +2,7 @@
 ghost use Rattle.std.specs.Prelude.{◌≡◌, ◌&&◌, IsTrue, Some};
 ghost use Rattle.xm_rules.specs.Active.{is_active};
 ghost use Rattle.xm_rules.specs.Commands.{is_over, outlasts};
+ghost use Rattle.xm_rules.specs.Opening.{is_carriable, is_carriable_stop, is_lasting, is_still_valid};
 ghost use Rattle.xm_rules.specs.Orders.{accepts, limit_of, meets, trade_between};
 ghost use Rattle.xm_rules.specs.Priority.{is_better};
 ghost use Rattle.xm_rules.specs.Refusals.{is_given_in_range, is_limit_for_market};
@@ -11,6 +12,7 @@ ghost use Rattle.xm_rules.specs.State.{is_auction};
 ghost use Rattle.xm_rules.specs.Step.{changed_kind, changed_order, keeps_priority, same_limit};
 ghost use Rattle.xm_rules.specs.Sums.{money_of};
 
+use crate::commands::is_in_range;
 use crate::phases::{Auction, CallStage, Phase};
 use xm_ticks::Price;
 
@@ -69,6 +71,16 @@ pub enum OrderKind {
 }
 
 impl OrderKind {
+    /// Whether its limit, if it has one, is in range, as that of each typed order is.
+    fn has_limit_in_range(self) -> bool
+        ensures { result ≡ is_given_in_range (limit_of self) }
+    {
+        match self {
+            OrderKind::Market => true,
+            OrderKind::Limit(limit) => is_in_range(limit.get()),
+        }
+    }
+
     /// The limit, where there is one.
     pub fn limit(self) -> Option<Price>
         ensures { result ≡ limit_of self }
@@ -168,6 +180,27 @@ impl Validity {
             Validity::TillCancelled => true,
         }
     }
+
+    /// Whether it goes on after the day of the entry.
+    pub fn is_lasting(self) -> bool
+        ensures { result ≡ is_lasting self }
+    {
+        match self {
+            Validity::Day => false,
+            Validity::TillDate(_) | Validity::TillCancelled => true,
+        }
+    }
+
+    /// Whether what was entered on an earlier day is still valid today.
+    pub fn is_still_valid(self, today: u32) -> bool
+        ensures { result ≡ is_still_valid today self }
+    {
+        match self {
+            Validity::Day => false,
+            Validity::TillDate(date) => today <= date,
+            Validity::TillCancelled => true,
+        }
+    }
 }
 
 /// In which phases of trading an order takes part.
@@ -219,6 +252,17 @@ pub struct Order {
 }
 
 impl Order {
+    /// Whether earlier days may have left it: its member is known, its units and its limit are in range, and it is valid beyond
+    /// the day of its entry.
+    pub fn is_carriable(&self, members: u32) -> bool
+        ensures { result ≡ is_carriable members self.now }
+    {
+        self.member < members
+            && is_in_range(self.rest)
+            && self.kind.has_limit_in_range()
+            && self.validity.is_lasting()
+    }
+
     /// Whether it keeps its position in time under a change to this quantity, and to this limit if
     /// one is given: the limit stays, and the quantity doesn't rise.
     pub fn keeps_priority(&self, quantity: u32, limit: Option<u32>) -> bool
@@ -264,6 +308,13 @@ pub struct Stop {
 }
 
 impl Stop {
+    /// Whether earlier days may have left it: its trigger is in range, and they may have left the order that it becomes.
+    pub fn is_carriable_stop(&self, members: u32) -> bool
+        ensures { result ≡ is_carriable_stop members self.now }
+    {
+        is_in_range(self.trigger) && self.order_of_stop().is_carriable(members)
+    }
+
     /// Whether the last price has reached its trigger.
     pub fn is_reached(&self, last: Price) -> bool
         ensures { result ≡ is_reached last self.now }

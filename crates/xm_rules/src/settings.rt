@@ -1,11 +1,14 @@
 //! The settings of a security for its day.
-ghost use Rattle.std.specs.Prelude.{ℕ, ◌≡◌, ◌≤◌, true};
+ghost use Rattle.std.specs.Prelude.{ℕ, ◌≡◌, ◌≤◌, IfOk, true};
+ghost use Rattle.xm_rules.specs.Opening.{are_carriable};
 ghost use Rattle.xm_rules.specs.Settings.{are_widths, is_width};
 ghost use Rattle.xm_rules.specs.State.{inside_both, inside_wide};
 ghost use Rattle.xm_rules.specs.Step.{stage_after};
 ghost use Rattle.xm_ticks.specs.declared.ranges.TheConstants.{MAX_WIDTH};
 
+use crate::carried::Carried;
 use crate::phases::CallStage;
+use xm_memory::OutOfMemory;
 use xm_ticks::{JournalLimit, MAX_WIDTH, Price, TickSize, inside};
 
 /// The widths of the price ranges in thousandths of their reference price. A desk opens only with
@@ -93,7 +96,7 @@ fn is_width(width: u32) -> bool
 pub const PHASE_COMMANDS_MORE: u32 = 64;
 
 /// The settings that a desk is opened with.
-#[derive(Clone, Copy, PartialEq, Eq, Hash, Debug)]
+#[derive(Drop, Debug)]
 pub struct DeskSettings {
     /// The date, as a number.
     pub today: u32,
@@ -108,4 +111,31 @@ pub struct DeskSettings {
     /// The number of commands up to which the journal takes those of members; those of the phases
     /// it takes up to `PHASE_COMMANDS_MORE` more.
     pub limit: JournalLimit,
+    /// The orders and stops that earlier days left.
+    pub carried: Carried,
+}
+
+impl DeskSettings {
+    /// The same settings, with orders and stops of their own. It fails where a growth is refused.
+    pub fn copied(&self) -> Result<DeskSettings, OutOfMemory>
+        ensures { IfOk result (λ settings. settings ≡ self.now) }
+    {
+        let carried = self.carried.copied()?;
+        Ok(DeskSettings {
+            today: self.today,
+            members: self.members,
+            tick: self.tick,
+            reference: self.reference,
+            widths: self.widths,
+            limit: self.limit,
+            carried,
+        })
+    }
+
+    /// Whether the security takes the orders and stops that earlier days left.
+    pub fn are_carriable(&self) -> bool
+        ensures { result ≡ are_carriable self.now }
+    {
+        self.carried.can_be_left(self.members)
+    }
 }

@@ -7,10 +7,10 @@ use crate::orders::Trade;
 use xm_ticks::Price;
 
 /// The most units that a security trades in a day, of which no lawful journal has more.
-pub const MAX_TRADED_QUANTITY: u64 = 1_000_000_000_000;
+pub const MAX_TRADED_QUANTITY: u64 = 1_100_000_000_000;
 
 /// The most money that it trades, in ticks times units.
-pub const MAX_TRADED_MONEY: u64 = 1_000_000_000_000_000_000;
+pub const MAX_TRADED_MONEY: u64 = 1_100_000_000_000_000_000;
 
 /// The quantity of all trades, in units.
 pub fn total_quantity(trades: &[Trade]) -> u64

@@ -1,5 +1,5 @@
 //! Whole replays with auctions.
-#![tactic(auto, unfolding(crate::specs::Refusals::refusal_of, crate::specs::Step::step, crate::specs::Step::reply, crate::specs::Step::replay, crate::specs::Step::is_lawful))]
+#![tactic(auto, unfolding(crate::specs::Refusals::refusal_of, crate::specs::Step::step, crate::specs::Step::reply, crate::specs::Step::replay, crate::specs::Step::is_lawful, crate::specs::Opening::opening))]
 
 ghost use Rattle.std.specs.Prelude.{◌≡◌, [], ◌∷◌, ◌++◌, true, Some};
 ghost use Rattle.xm_rules.specs.Examples.{open_spread, references, order, enter, trade, settings, journal, state_after, answer, distant_call, drifted_call, waiting_order, call_price, after_empty};

@@ -1,5 +1,5 @@
 //! Sweeps of continuous trading, and the stops that they reach.
-#![tactic(auto, unfolding(crate::specs::Refusals::refusal_of, crate::specs::Step::step, crate::specs::Step::reply, crate::specs::Step::replay, crate::specs::Step::is_lawful))]
+#![tactic(auto, unfolding(crate::specs::Refusals::refusal_of, crate::specs::Step::step, crate::specs::Step::reply, crate::specs::Step::replay, crate::specs::Step::is_lawful, crate::specs::Opening::opening))]
 
 ghost use Rattle.std.specs.Prelude.{◌≡◌, [], ◌∷◌, ◌++◌, true, false};
 ghost use Rattle.xm_rules.specs.Examples.{distant_book, distant_sell, distant_sells, falling_buys, resting_buys, resting_sells, references, order, stop, enter, buy, sell, trade, settings, journal, state_after, opened, answer, sweep, cascade_book, full_cascade_book, cut_cascade_book, falling_sell};
