@@ -54,7 +54,7 @@ module _ (f : Place → Bool) where
         places-counted pending,
       )
 
-places-length : (stops : List Stop) → length (places_of_stops stops) ≡ length stops
+pub places-length : (stops : List Stop) → length (places_of_stops stops) ≡ length stops
 places-length [] = refl
 places-length (s ∷ stops) = omega (arith, places-length stops)
 

@@ -5,7 +5,7 @@ use Rattle.std.proofs.lemmas.List.Elements.{All-append, All-nil}
 use Rattle.xm_book.specs.TimeList.{TimeList}
 use Rattle.xm_desk.specs.Frame.{IsFramed}
 use Rattle.xm_desk.specs.Made.{AreSized, CanSettle, IsCounted, Makes}
-use Rattle.xm_desk.specs.Settled.{Unsettled, joined_in, places_in, once_used, possible_trades, trades_in}
+use Rattle.xm_desk.specs.Settled.{Unsettled, came, joined_in, places_in, once_used, possible_trades, trades_in}
 use Rattle.xm_desk.specs.declared.unsettled.Ready.{Ready}
 use Rattle.xm_desk.specs.declared.unsettled.Ready.TheVariants.{Nothing, ForStop, ForOrder, Used, OneTrade}
 use Rattle.xm_rules.proofs.Accepted.{accepted-below}
@@ -26,6 +26,7 @@ use Rattle.xm_rules.specs.declared.settings.DeskSettings.{DeskSettings}
 use Rattle.xm_stops.specs.HeldStops.{HeldStops, PendingStops}
 use Rattle.xm_ticks.specs.declared.numbers.TheConstants.{MAX_JOURNAL_LIMIT, MAX_QUANTITY}
 use Rattle.xm_book.specs.declared.places.TheConstants.{MAX_PLACES}
+use Rattle.xm_rules.specs.declared.carried.TheConstants.{MAX_CARRIED}
 use Rattle.xm_rules.specs.declared.settings.TheConstants.{PHASE_COMMANDS_MORE}
 
 once_used-none : (ready : Ready) → places_in (once_used ready) ≡ []
@@ -51,7 +52,7 @@ module _ (u : Unsettled) (command : Command) (settled : u.pending ≡ []) (lawfu
       record {
         ready = once_used-none u.ready;
         accepted = omega (arith, accepted-below s command lawful, keeps.accepted, ap (λ (x : DeskSettings). x.limit) keeps.settings);
-        sweeps = omega (arith, follows.numbers, counted.sweeps, keeps.accepted, none);
+        sweeps = omega (arith, follows.numbers, counted.sweeps, keeps.accepted, none, ap (λ (x : DeskSettings). came x 0) keeps.settings);
         names = λ m r. (let before = counted.names m r in
             let l = act-uses m r s command lawful (omega (arith, before)) in
             omega (arith, l, ap (λ (stops : List Stop). count_by (is_stop_named m r) stops) settled));
@@ -85,7 +86,7 @@ ready_once Used = omega arith
 
 -- no more trades are possible than a book has orders
 pub few-possible : (u : Unsettled) (accepted limit room : ℕ) (book : TimeList) (held : HeldStops) (pending : PendingStops) (ready : Ready) → IsFramed accepted book held pending room ready
-    → u.state.orders ≡ book.orders → u.state.stops ≡ held.stops → u.pending ≡ pending.stops → u.ready ≡ ready → accepted ≤ limit + PHASE_COMMANDS_MORE → limit ≤ MAX_JOURNAL_LIMIT → possible_trades u ≤ MAX_PLACES
+    → u.state.orders ≡ book.orders → u.state.stops ≡ held.stops → u.pending ≡ pending.stops → u.ready ≡ ready → accepted ≤ MAX_CARRIED + limit + PHASE_COMMANDS_MORE → limit ≤ MAX_JOURNAL_LIMIT → possible_trades u ≤ MAX_PLACES
 few-possible u accepted limit room book held pending ready f orders stops waiting is_ready below few =
     omega (
       arith,

@@ -8,7 +8,7 @@ use Rattle.std.proofs.lemmas.List.Sums.{sum_by-append, sum_by-cons}
 use Rattle.xm_desk.proofs.Making.{makes-both, makes-none}
 use Rattle.xm_desk.specs.Incoming.{CanComeIn}
 use Rattle.xm_desk.specs.Made.{CanSettle, HaveUnits, Makes, uses}
-use Rattle.xm_desk.specs.Settled.{Unsettled, place_of_stop}
+use Rattle.xm_desk.specs.Settled.{Unsettled, came, place_of_stop}
 use Rattle.xm_desk.specs.declared.unsettled.Ready.TheVariants.{ForOrder, Used}
 use Rattle.xm_rules.proofs.Following.{come-sweeps}
 use Rattle.xm_rules.proofs.Kept.{come-keeps}
@@ -149,7 +149,15 @@ module _ (u : Unsettled) (can : CanSettle u) (stop : Stop) (first : slice_get (u
       record {
         ready = refl;
         accepted = omega (arith, can.accepted, keeps.accepted, ap (λ (x : DeskSettings). x.limit) keeps.settings);
-        sweeps = omega (arith, can.sweeps, one_less, kept_stops, keeps.accepted, come-sweeps s (order_of_stop stop));
+        sweeps = omega (
+          arith,
+          can.sweeps,
+          one_less,
+          kept_stops,
+          keeps.accepted,
+          come-sweeps s (order_of_stop stop),
+          ap (λ (x : DeskSettings). came x 0) keeps.settings,
+        );
         names = λ m r. (let l = names m r in omega (arith, come-uses m r s (order_of_stop stop)));
         units = subst HaveUnits (sym (come-stops s (order_of_stop stop))) (taken-standing u can).units;
         pending_units = All-tail (λ (x : Stop). is_in_range x.quantity ≡ true) stop left have;

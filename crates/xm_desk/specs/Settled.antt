@@ -5,7 +5,8 @@ use Rattle.xm_book.specs.declared.places.Place.{Place}
 use Rattle.xm_desk.specs.declared.unsettled.Ready.{Ready}
 use Rattle.xm_desk.specs.declared.unsettled.Ready.TheVariants.{Nothing, OneTrade, ForOrder, ForStop, Used}
 use Rattle.xm_rules.specs.Settling.{order_of_stop}
-use Rattle.xm_rules.specs.State.{State, opening}
+use Rattle.xm_rules.specs.Opening.{opening}
+use Rattle.xm_rules.specs.State.{State}
 use Rattle.xm_rules.specs.declared.orders.Stop.{Stop}
 use Rattle.xm_rules.specs.declared.settings.DeskSettings.{DeskSettings}
 

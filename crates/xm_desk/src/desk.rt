@@ -1,10 +1,11 @@
 //! The desk of one security.
-ghost use Rattle.std.specs.Prelude.{◌≡◌, ◌≢◌, ◌≤◌, ◌+◌, ◌++◌, ◌∷◌, [], All, IsTrue, None, Some, Err, IfOk, IfErr, OnErr, OnOk, length, pos};
+ghost use Rattle.std.specs.Prelude.{◌≡◌, ◌≢◌, ◌≤◌, ◌+◌, ◌++◌, ◌∷◌, [], All, IsTrue, None, Some, Err, IfOk, IfErr, OnErr, OnOk, length, pos, true};
 ghost use Rattle.xm_desk.specs.Opening.{open_fault};
 ghost use Rattle.xm_desk.specs.Shown.{level_in, market_units, units_left};
 ghost use Rattle.xm_desk.specs.declared.tape.TheConstants.{MAX_TRADES};
 ghost use Rattle.xm_positions.specs.Positions.{cash_position, net_position};
 ghost use Rattle.xm_rules.specs.Refusals.{refusal_of};
+ghost use Rattle.xm_rules.specs.Opening.{are_carriable};
 ghost use Rattle.xm_rules.specs.Quote.{best_limit, indicative, quote};
 ghost use Rattle.xm_rules.specs.State.{ref1, ref2};
 ghost use Rattle.xm_rules.specs.Step.{is_lawful, new_trades, replay, reply};
@@ -51,11 +52,11 @@ impl<A: Allocator + Copy> Model for Desk<A> {
 }
 
 impl<A: Allocator + Copy> Desk<A> {
-    /// A desk before the day.
+    /// A desk before the day, with the orders and stops of its settings that are still valid.
     ///
     /// More than 1,000 members are `TooMany`. A width outside 1 to `MAX_WIDTH` thousandths, or a dynamic
-    /// one that is not below the wide one, is `BadWidths`. Where the growth of the members' positions is refused, it is
-    /// `OutOfMemory`.
+    /// one that is not below the wide one, is `BadWidths`. Orders and stops that earlier days can't have left are `BadCarried`.
+    /// Where a growth is refused, it is `OutOfMemory`. The settings are given up then.
     pub fn open(storage: Storage<A>, settings: DeskSettings) -> Result<Desk<A>, OpenFault>
         ensures opened { IfOk result (λ desk. desk ≡ record { settings = settings; commands = [] }) }
         ensures sound { OnOk result (open_fault settings ≡ None) }
@@ -67,7 +68,7 @@ impl<A: Allocator + Copy> Desk<A> {
         }
         let positions = Positions::new(storage.alloc, settings.members)?;
         Ok(Desk {
-            market: Market::new(storage, settings),
+            market: Market::open(storage, settings)?,
             journal: Vec::new(storage.alloc),
             positions,
         })
@@ -135,9 +136,10 @@ impl<A: Allocator + Copy> Desk<A> {
         Ok(reply)
     }
 
-    /// The settings that the desk was opened with.
+    /// The settings that the desk was opened with. It takes the orders and stops that they carry.
     pub fn settings(&self) -> &DeskSettings
         ensures opened { result.now ≡ self.now.settings }
+        ensures carriable { are_carriable result.now ≡ true }
         ensures kept { result.now ≡ (replay self.now).settings }
     {
         self.market.settings()

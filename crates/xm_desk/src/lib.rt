@@ -4,6 +4,7 @@
 mod accepted;
 mod desk;
 mod entries;
+mod open_entries;
 mod opening;
 mod tape;
 mod unsettled;

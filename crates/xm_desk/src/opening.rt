@@ -20,6 +20,11 @@ pub enum OpenFault {
     /// A width is not 1 to `MAX_WIDTH` thousandths, or the dynamic one is not below the wide one.
     #[error("bad widths of the price ranges")]
     BadWidths,
+    /// The orders and stops that earlier days left are more than `MAX_CARRIED`, two of them have one name, or one of them is none
+    /// that an earlier day may have left: its member isn't known, its validity is the day of its entry, or its units, its
+    /// trigger or its limit are out of range.
+    #[error("bad orders or stops of earlier days")]
+    BadCarried,
     /// A growth was refused.
     #[error("out of memory")]
     OutOfMemory(OutOfMemory),
@@ -43,6 +48,8 @@ pub fn open_fault(settings: &DeskSettings) -> Option<OpenFault>
         Some(OpenFault::TooMany)
     } else if !settings.widths.are_widths() {
         Some(OpenFault::BadWidths)
+    } else if !settings.are_carriable() {
+        Some(OpenFault::BadCarried)
     } else {
         None
     }

@@ -7,6 +7,7 @@ ghost use Rattle.xm_desk.specs.Settled.{once_used};
 ghost use Rattle.xm_rules.specs.State.{ref1, ref2};
 ghost use Rattle.xm_rules.specs.Step.{act};
 
+mod before_day;
 mod calls;
 mod changes;
 mod checks;
@@ -58,10 +59,11 @@ pub struct Unsettled<A: Allocator + Copy> {
 }
 
 impl<A: Allocator + Copy> Model for Unsettled<A> {
-    ghost use Rattle.std.specs.Prelude.{◌≡◌, true};
+    ghost use Rattle.std.specs.Prelude.{◌≡◌, ◌≤◌, None};
     ghost use Rattle.xm_desk.specs.Frame.{IsFramed};
-    ghost use Rattle.xm_rules.specs.Settings.{are_widths};
+    ghost use Rattle.xm_desk.specs.Opening.{open_fault};
     ghost use Rattle.xm_desk.specs.Settled.{Unsettled, came};
+    ghost use Rattle.xm_rules.specs.declared.carried.TheConstants.{MAX_CARRIED};
 
     ghost Value = { Unsettled };
 
@@ -81,7 +83,8 @@ impl<A: Allocator + Copy> Model for Unsettled<A> {
 
     ghost invariant = { λ u. record {
       opening : u.tape.opening ≡ u.settings.reference;
-      widths : are_widths u.settings.widths ≡ true;
+      opens : open_fault u.settings ≡ None;
+      few : came u.settings 0 ≤ MAX_CARRIED;
       frame : IsFramed (came u.settings u.accepted) u.book u.stops u.pending u.tape.room u.ready.value;
     } };
 }

@@ -55,6 +55,7 @@ impl<A: Allocator + Copy> Unsettled<A> {
         ensures ok { OnOk result (self.new ≡ record self.old { ready = ForOrder place.now }) }
         ensures err { OnErr result (self.new ≡ self.old) }
     {
+        let _ = self.settings.limit.get(); // The range of the limit is known where it is asked for.
         self.tape.reserve(self.book.len() + self.stops.len() + 1)?;
         self.book.reserve_for(place)?;
         self.ready = Snapshot::of(&Ready::ForOrder(*place));
@@ -70,6 +71,7 @@ impl<A: Allocator + Copy> Unsettled<A> {
         ensures ok { OnOk result (self.new ≡ record self.old { ready = ForStop stop.now }) }
         ensures err { OnErr result (self.new ≡ self.old) }
     {
+        let _ = self.settings.limit.get(); // The range of the limit is known where it is asked for.
         self.tape.reserve(self.book.len() + self.stops.len() + 1)?;
         self.pending.reserve(self.stops.len() + 1)?;
         self.stops.reserve_one(stop)?;

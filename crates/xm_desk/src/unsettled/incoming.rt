@@ -130,6 +130,7 @@ impl<A: Allocator + Copy> Unsettled<A> {
         ensures joined { self.new ≡ record self.old { state = joined self.old.state order; ready = Used } }
         ensures made { Makes self.old self.new }
     {
+        let _ = self.settings.limit.get(); // The range of the limit is known where it is asked for.
         self.book.add(order);
         self.ready = Snapshot::of(&Ready::Used);
     }

@@ -1,34 +1,33 @@
 //! A security between commands.
-ghost use Rattle.std.specs.Prelude.{◌≡◌, ◌+◌, ◌++◌, ◌<◌, ◌≤◌, [], All, Some, OnErr, OnOk, IfErr, IfOk, drop, length, true};
+ghost use Rattle.std.specs.Prelude.{◌≡◌, ◌+◌, ◌++◌, ◌<◌, ◌≤◌, [], All, None, Some, OnErr, OnOk, IfErr, IfOk, drop, length};
 ghost use Rattle.xm_desk.specs.Accepted.{IsAccepted};
 ghost use Rattle.xm_desk.specs.Growth.{ready_for};
 ghost use Rattle.xm_desk.specs.Made.{AreSized, IsCounted, Makes};
-ghost use Rattle.xm_rules.specs.Settings.{are_widths};
+ghost use Rattle.xm_desk.specs.Opening.{open_fault};
 ghost use Rattle.xm_desk.specs.Settled.{places_in};
 ghost use Rattle.xm_desk.specs.Shown.{level_in, market_units, units_left};
 ghost use Rattle.xm_desk.specs.declared.tape.TheConstants.{MAX_TRADES};
 ghost use Rattle.xm_desk.specs.declared.unsettled.Ready.TheVariants.{Nothing};
+ghost use Rattle.xm_rules.specs.Opening.{opening};
 ghost use Rattle.xm_rules.specs.Quote.{best_limit, indicative};
 ghost use Rattle.xm_rules.specs.Refusals.{refusal_of};
-ghost use Rattle.xm_rules.specs.State.{opening, ref1, ref2};
+ghost use Rattle.xm_rules.specs.State.{ref1, ref2};
 ghost use Rattle.xm_rules.specs.Step.{new_trades, step};
 ghost use Rattle.xm_rules.specs.Sums.{AreWithinLimits, IsBetweenMembers, total_money, total_quantity};
 ghost use Rattle.xm_rules.specs.declared.settings.TheConstants.{PHASE_COMMANDS_MORE};
 ghost use Rattle.xm_ticks.specs.declared.numbers.TheConstants.{MAX_JOURNAL_LIMIT, MAX_PRICE};
 
 use crate::accepted::Accepted;
-use crate::tape::Tape;
+use crate::open_entries::OpenEntries;
 use crate::unsettled::{Ready, Unsettled};
 use std::alloc::Allocator;
 use std::marker::Model;
 use std::snapshot::Snapshot;
 use xm_auction::auction_price;
-use xm_book::Book;
 use xm_memory::OutOfMemory;
 use xm_names::Storage;
 use xm_positions::Positions;
 use xm_rules::{Command, DeskSettings, Order, Phase, Refusal, Reply, Side, Stop, Trade};
-use xm_stops::{Pending, Stops};
 use xm_ticks::Price;
 
 /// A security after the commands that it accepted. No stop is pending.
@@ -53,24 +52,14 @@ impl<A: Allocator + Copy> Model for Market<A> {
 }
 
 impl<A: Allocator + Copy> Market<A> {
-    /// A security before the day.
-    pub fn new(storage: Storage<A>, settings: DeskSettings) -> Market<A>
-        requires { are_widths settings.widths ≡ true }
-        ensures { result ≡ record { state = opening settings; ready = Nothing } }
+    /// A security before the day, with what earlier days left. It fails where a growth is refused.
+    pub fn open(storage: Storage<A>, settings: DeskSettings) -> Result<Market<A>, OutOfMemory>
+        requires { open_fault settings ≡ None }
+        ensures { IfOk result (λ market. market ≡ record { state = opening settings; ready = Nothing }) }
     {
-        Market {
-            inside: Unsettled {
-                settings,
-                accepted: 0,
-                phase: Phase::PreTrading,
-                book: Book::new(storage),
-                stops: Stops::new(storage),
-                pending: Pending::new(storage.alloc),
-                tape: Tape::new(storage.alloc, settings.reference),
-                sweeps: 0,
-                ready: Snapshot::of(&Ready::Nothing),
-            },
-        }
+        let entries = OpenEntries::of(storage, &settings)?;
+        let inside = Unsettled::before_day(storage.alloc, settings, entries)?;
+        Ok(Market { inside })
     }
 
     /// The live orders in time order, or `OutOfMemory` where the growth of their list was refused.
@@ -281,6 +270,7 @@ impl<A: Allocator + Copy> Unsettled<A> {
         requires room { self.old.state.accepted < self.old.state.settings.limit + PHASE_COMMANDS_MORE }
         ensures { self.new ≡ record self.old { state = record self.old.state { accepted = self.old.state.accepted + 1 }; ready = Nothing } }
     {
+        let _ = self.settings.limit.get(); // The range of the limit is known where it is asked for.
         self.accepted += 1;
         self.ready = Snapshot::of(&Ready::Nothing);
     }

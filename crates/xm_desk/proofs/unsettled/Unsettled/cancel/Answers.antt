@@ -18,7 +18,8 @@ invariant_of-self g c =
     let few = filter-shorter (λ (o : Order). not (is_named c.args.member c.args.reference o)) u.book.orders in
     record {
       opening = c.self.invariant.opening;
-      widths = c.self.invariant.widths;
+      opens = c.self.invariant.opens;
+      few = c.self.invariant.few;
       frame =
           fewer (came u.settings u.accepted) u.stops u.pending u.book c.remove.new.self u.tape.room u.tape.room u.ready.value c.self.invariant.frame
           (ap (λ (l : TimeList). l.reserved) left) (ap (λ (l : TimeList). l.adds) left) (omega (arith, orders, few)) (omega (arith, orders, few));
@@ -32,7 +33,8 @@ invariant_of-self-else-is_none g c =
     let few = filter-shorter (λ (o : Order). not (is_named c.args.member c.args.reference o)) u.book.orders in
     record {
       opening = c.self.invariant.opening;
-      widths = c.self.invariant.widths;
+      opens = c.self.invariant.opens;
+      few = c.self.invariant.few;
       frame =
           fewer (came u.settings u.accepted) u.stops u.pending u.book c.remove.new.self u.tape.room u.tape.room u.ready.value c.self.invariant.frame
           (ap (λ (l : TimeList). l.reserved) left) (ap (λ (l : TimeList). l.adds) left) (omega (arith, orders, few)) (omega (arith, orders, few));

@@ -16,7 +16,8 @@ invariant_of-self g c =
     let few = filter-shorter (λ (o : Order). not (o.member == c.args.member)) u.book.orders in
     record {
       opening = c.self.invariant.opening;
-      widths = c.self.invariant.widths;
+      opens = c.self.invariant.opens;
+      few = c.self.invariant.few;
       frame =
           fewer (came u.settings u.accepted) u.stops u.pending u.book c.remove_all.new.self u.tape.room u.tape.room u.ready.value c.self.invariant.frame
           (ap (λ (l : TimeList). l.reserved) left) (ap (λ (l : TimeList). l.adds) left) (omega (arith, orders, few)) (omega (arith, orders, few));

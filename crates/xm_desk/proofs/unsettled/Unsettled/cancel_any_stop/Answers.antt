@@ -33,7 +33,8 @@ invariant_of-self-2 g c =
     let rest = c.release.ensures.rest in
     record {
       opening = c.self.invariant.opening;
-      widths = c.self.invariant.widths;
+      opens = c.self.invariant.opens;
+      few = c.self.invariant.few;
       frame =
           subst (λ (h : HeldStops). IsFramed (came u.settings u.accepted) c.release.new.self h u.pending u.tape.room u.ready.value) (sym removed)
           (stop-leaves (came u.settings u.accepted) u.book c.release.new.self u.stops left u.pending u.tape.room u.ready.value stop c.self.invariant.frame

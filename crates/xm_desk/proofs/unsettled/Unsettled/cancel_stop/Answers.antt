@@ -31,7 +31,8 @@ invariant_of-self g c =
     let rest = c.release.ensures.rest in
     record {
       opening = c.self.invariant.opening;
-      widths = c.self.invariant.widths;
+      opens = c.self.invariant.opens;
+      few = c.self.invariant.few;
       frame =
           subst (λ (h : HeldStops). IsFramed (came u.settings u.accepted) c.release.new.self h u.pending u.tape.room u.ready.value) (sym c.remove.ensures.left)
           (stop-leaves (came u.settings u.accepted) u.book c.release.new.self u.stops left u.pending u.tape.room u.ready.value stop c.self.invariant.frame
@@ -46,6 +47,7 @@ invariant_of-self-in_default g c =
     let same = c.remove.ensures.left ∙ ap (λ (ss : List Stop). let h : HeldStops = record u.stops { stops = ss } in h) none in
     record {
       opening = c.self.invariant.opening;
-      widths = c.self.invariant.widths;
+      opens = c.self.invariant.opens;
+      few = c.self.invariant.few;
       frame = subst (λ (h : HeldStops). IsFramed (came u.settings u.accepted) u.book h u.pending u.tape.room u.ready.value) (sym same) c.self.invariant.frame;
     }

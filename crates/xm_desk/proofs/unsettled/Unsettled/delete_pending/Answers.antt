@@ -24,7 +24,8 @@ invariant_of-self-2 g c =
     let rest = c.release.ensures.rest in
     record {
       opening = c.self.invariant.opening;
-      widths = c.self.invariant.widths;
+      opens = c.self.invariant.opens;
+      few = c.self.invariant.few;
       frame =
           subst (λ (p : PendingStops). IsFramed (came u.settings u.accepted) c.release.new.self u.stops p u.tape.room u.ready.value) (sym c.pop.ensures.rest)
           (pending-leaves (came u.settings u.accepted) u.book u.stops u.pending u.tape.room c.in-Some.stop (sym c.pop.ensures.first ∙ c.in-Some.is) c.release.new.self u.ready.value c.self.invariant.frame

@@ -26,7 +26,8 @@ invariant_of-self g c =
     (ap (λ (l : TimeList). l.reserved) left) (ap (λ (l : TimeList). l.adds) left) (omega (arith, orders, few)) (omega (arith, orders, few)) in
     record {
       opening = c.self.invariant.opening;
-      widths = c.self.invariant.widths;
+      opens = c.self.invariant.opens;
+      few = c.self.invariant.few;
       frame =
           subst (λ (h : HeldStops). IsFramed (came u.settings u.accepted) c.remove_expired.new.self h c.take_expired.new.pending u.tape.room u.ready.value) (sym c.take_expired.ensures.held)
           (moves (came u.settings u.accepted) c.remove_expired.new.self u.stops stay leave u.pending c.take_expired.new.pending u.tape.room u.ready.value framed

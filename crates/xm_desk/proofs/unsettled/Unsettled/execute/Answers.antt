@@ -35,7 +35,8 @@ invariant_of-self g c =
     let left = ap (λ (l : TimeList). length l.orders) released in
     rw c.of-then-swept-eq0.ensures (record {
       opening = ap (λ (t : TapeView). t.opening) c.sweep-swept.ensures.trades ∙ c.self.invariant.opening;
-      widths = c.self.invariant.widths;
+      opens = c.self.invariant.opens;
+      few = c.self.invariant.few;
       frame =
           gives-up (came u.settings u.accepted) u.stops u.pending u.book c.release.new.self u.tape.room c.sweep-swept.new.self.room u.ready.value place ready c.self.invariant.frame
           (subst (λ (ps : List Place). SamePlaces ps (place ∷ c.release.new.self.reserved)) (ap (λ (l : TimeList). l.reserved) swept) c.release.ensures.places)

@@ -22,7 +22,8 @@ invariant_of-self g c =
     let orders = ap (λ (l : TimeList). length l.orders) left in
     rw c.of.ensures (record {
       opening = c.self.invariant.opening;
-      widths = c.self.invariant.widths;
+      opens = c.self.invariant.opens;
+      few = c.self.invariant.few;
       frame =
           gives-up (came u.settings u.accepted) u.stops u.pending u.book c.release.new.self u.tape.room u.tape.room u.ready.value c.args.place ready c.self.invariant.frame
           c.release.ensures.places (sym (ap (λ (l : TimeList). l.adds) left)) (omega (arith, orders)) (omega (arith, orders));

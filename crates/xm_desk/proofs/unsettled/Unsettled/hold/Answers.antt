@@ -12,6 +12,7 @@ invariant_of-self g c =
     let u = c.self.inside in
     rw c.of.ensures (record {
       opening = c.self.invariant.opening;
-      widths = c.self.invariant.widths;
+      opens = c.self.invariant.opens;
+      few = c.self.invariant.few;
       frame = holds (came u.settings u.accepted) u.book u.stops c.add.new.self u.pending u.tape.room u.ready.value c.args.stop.now (ap (λ (v : Unsettled). v.ready) c.self.view_is ∙ c.requires.ready) c.self.invariant.frame c.add.ensures;
     })

@@ -20,7 +20,8 @@ invariant_of-self g c =
     let ready : u.ready.value ≡ ForOrder (place_of c.args.order) = ap (λ (v : Unsettled). v.ready) c.self.view_is ∙ c.requires.ready in
     rw c.of.ensures (record {
       opening = c.self.invariant.opening;
-      widths = c.self.invariant.widths;
+      opens = c.self.invariant.opens;
+      few = c.self.invariant.few;
       frame =
           joins (came u.settings u.accepted) u.stops u.pending u.book c.add.new.self u.tape.room u.ready.value (place_of c.args.order) c.args.order ready c.self.invariant.frame
           c.add.ensures.orders c.add.ensures.adds c.add.ensures.used;

@@ -16,7 +16,8 @@ invariant_of-self-2 g c =
     let framed = comes-next (came u.settings u.accepted) u.book u.stops u.pending u.tape.room c.in_ok-stop.stop (sym c.pop.ensures.first ∙ c.in_ok-stop.was) u.ready.value none c.self.invariant.frame in
     rw c.of-2.ensures (record {
       opening = c.self.invariant.opening;
-      widths = c.self.invariant.widths;
+      opens = c.self.invariant.opens;
+      few = c.self.invariant.few;
       frame =
           subst (λ (p : PendingStops). IsFramed (came u.settings u.accepted) u.book u.stops p u.tape.room (ForOrder c.of.result)) (sym c.pop.ensures.rest)
           (subst (λ (p : Place). IsFramed (came u.settings u.accepted) u.book u.stops (let left : PendingStops = record u.pending { stops = Rattle.std.specs.Prelude.drop 1 u.pending.stops } in left) u.tape.room (ForOrder p)) (sym is) framed);

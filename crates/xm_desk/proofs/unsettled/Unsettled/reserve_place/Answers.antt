@@ -20,7 +20,8 @@ invariant_of-self-in_err-reserve_for g c =
     let same : c.reserve_for.new.self ≡ u.book = search rules in
     record {
       opening = opening;
-      widths = c.self.invariant.widths;
+      opens = c.self.invariant.opens;
+      few = c.self.invariant.few;
       frame =
           subst (λ (b : TimeList). IsFramed (came u.settings u.accepted) b u.stops u.pending c.reserve.new.self.room u.ready.value) (sym same)
           (grown (came u.settings u.accepted) u.stops u.pending u.ready.value ready u.book u.stops u.pending u.tape.room c.reserve.new.self.room c.self.invariant.frame refl refl (omega arith) (omega (arith, enough)));
@@ -38,7 +39,8 @@ invariant_of-self-2 g c =
     let more : Reserves c.args.place.now u.book c.reserve_for.new.self = search rules in
     rw c.of.ensures (record {
       opening = opening;
-      widths = c.self.invariant.widths;
+      opens = c.self.invariant.opens;
+      few = c.self.invariant.few;
       frame =
           keeps-place (came u.settings u.accepted) u.stops u.pending u.ready.value ready u.book c.reserve_for.new.self c.reserve.new.self.room
           (grown (came u.settings u.accepted) u.stops u.pending u.ready.value ready u.book u.stops u.pending u.tape.room c.reserve.new.self.room c.self.invariant.frame refl refl (omega arith) (omega (arith, enough))) enough c.args.place.now more;

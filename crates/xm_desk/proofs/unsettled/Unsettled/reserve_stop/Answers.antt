@@ -23,7 +23,8 @@ invariant_of-self-in_err-reserve-2 g c =
     let same : c.reserve-2.new.self ≡ u.pending = search rules in
     record {
       opening = opening;
-      widths = c.self.invariant.widths;
+      opens = c.self.invariant.opens;
+      few = c.self.invariant.few;
       frame =
           subst (λ (p : PendingStops). IsFramed (came u.settings u.accepted) u.book u.stops p c.reserve.new.self.room u.ready.value) (sym same)
           (grown (came u.settings u.accepted) u.stops u.pending u.ready.value ready u.book u.stops u.pending u.tape.room c.reserve.new.self.room c.self.invariant.frame refl refl (omega arith) (omega (arith, enough)));
@@ -44,7 +45,8 @@ invariant_of-self-in_err-reserve_one g c =
     let same : c.reserve_one.new.self ≡ u.stops = search rules in
     record {
       opening = opening;
-      widths = c.self.invariant.widths;
+      opens = c.self.invariant.opens;
+      few = c.self.invariant.few;
       frame =
           subst (λ (h : HeldStops). IsFramed (came u.settings u.accepted) u.book h c.reserve-2.new.self c.reserve.new.self.room u.ready.value) (sym same)
           (grown (came u.settings u.accepted) u.stops u.pending u.ready.value ready u.book u.stops c.reserve-2.new.self u.tape.room c.reserve.new.self.room c.self.invariant.frame refl still (omega (arith, waiting)) (omega (arith, enough)));
@@ -66,7 +68,8 @@ invariant_of-self-in_err-reserve_for g c =
     let same : c.reserve_for.new.self ≡ u.book = search rules in
     record {
       opening = opening;
-      widths = c.self.invariant.widths;
+      opens = c.self.invariant.opens;
+      few = c.self.invariant.few;
       frame =
           subst (λ (b : TimeList). IsFramed (came u.settings u.accepted) b c.reserve_one.new.self c.reserve-2.new.self c.reserve.new.self.room u.ready.value) (sym same)
           (grown (came u.settings u.accepted) u.stops u.pending u.ready.value ready u.book c.reserve_one.new.self c.reserve-2.new.self u.tape.room c.reserve.new.self.room c.self.invariant.frame (ap (λ (h : HeldStops). h.stops) held) still (omega (arith, waiting)) (omega (arith, enough)));
@@ -92,7 +95,8 @@ invariant_of-self-2 g c =
     let same = ap (λ (h : HeldStops). length h.stops) held in
     rw c.of-2.ensures (record {
       opening = opening;
-      widths = c.self.invariant.widths;
+      opens = c.self.invariant.opens;
+      few = c.self.invariant.few;
       frame =
           keeps-stop (came u.settings u.accepted) c.reserve_one.new.self c.reserve-2.new.self u.ready.value ready u.book c.reserve_for.new.self c.reserve.new.self.room framed
           (omega (arith, same, ap (λ (ss : List Stop). length ss) still, enough)) stop (subst (λ (p : Place). Reserves p u.book c.reserve_for.new.self) is more)

@@ -17,7 +17,8 @@ invariant_of-self-2 g c =
     let opening = ap (λ (t : TapeView). t.opening) taped ∙ c.self.invariant.opening in
     rw c.of.ensures (record {
       opening = opening;
-      widths = c.self.invariant.widths;
+      opens = c.self.invariant.opens;
+      few = c.self.invariant.few;
       frame =
           spares (came u.settings u.accepted) u.stops u.pending u.ready.value ready u.book c.reserve.new.self.room
           (grown (came u.settings u.accepted) u.stops u.pending u.ready.value ready u.book u.stops u.pending u.tape.room c.reserve.new.self.room c.self.invariant.frame refl refl (omega arith) (omega (arith, enough))) enough;

@@ -35,7 +35,7 @@ few g c =
     let is = c.self.view_is in
     few-possible v (came u.settings u.accepted) v.state.settings.limit u.tape.room u.book u.stops u.pending u.ready.value c.self.invariant.frame (sym (ap (λ (w : Unsettled). w.state.orders) is))
     (sym (ap (λ (w : Unsettled). w.state.stops) is)) (sym (ap (λ (w : Unsettled). w.pending) is)) (sym (ap (λ (w : Unsettled). w.ready) is))
-    (omega (arith, c.requires.counted.accepted, ap (λ (w : Unsettled). w.state.accepted) is)) (omega (arith, c.get.ensures.value, c.get.ensures.high, ap (λ (w : Unsettled). w.state.settings.limit) is))
+    (omega (arith, c.requires.counted.accepted, c.self.invariant.few, ap (λ (w : Unsettled). w.state.accepted) is, ap (λ (w : Unsettled). w.state.settings.limit) is)) (omega (arith, c.get.ensures.value, c.get.ensures.high, ap (λ (w : Unsettled). w.state.settings.limit) is))
 
 pub returns-clause-counted : goal.returns-clause-counted
 returns-clause-counted g c =

@@ -17,7 +17,8 @@ invariant_of-self g c =
     let stay = λ (stop : Stop). not (is_reached last stop) in
     record {
       opening = c.self.invariant.opening;
-      widths = c.self.invariant.widths;
+      opens = c.self.invariant.opens;
+      few = c.self.invariant.few;
       frame =
           subst (λ (h : HeldStops). IsFramed (came u.settings u.accepted) u.book h c.take_reached.new.pending u.tape.room u.ready.value) (sym c.take_reached.ensures.held)
           (moves (came u.settings u.accepted) u.book u.stops (filter stay u.stops.stops) (filter gone u.stops.stops) u.pending c.take_reached.new.pending u.tape.room u.ready.value c.self.invariant.frame

@@ -24,7 +24,8 @@ invariant_of-self g c =
     let orders = ap (λ (l : TimeList). length l.orders) left in
     rw c.of.ensures (record {
       opening = ap (λ (t : TapeView). t.opening) c.allot.ensures.trades ∙ c.self.invariant.opening;
-      widths = c.self.invariant.widths;
+      opens = c.self.invariant.opens;
+      few = c.self.invariant.few;
       frame =
           ends_call (came b.settings b.accepted) b.stops b.pending b.book c.allot.new.book b.tape.room c.allot.new.self.room b.ready.value (ap (λ (v : Unsettled). v.ready) c.self.view_is ∙ c.requires.ready) c.self.invariant.frame
           (ap (λ (l : TimeList). l.reserved) left) (ap (λ (l : TimeList). l.adds) left) (omega (arith, orders, c.allot.ensures.used, c.allot.ensures.room)) (omega (arith, orders, fewer-orders u));
