@@ -5,6 +5,7 @@ use mathlib.Core.Option.{Option, none, some}
 use lib.ListN.{get_elem?}
 use Rattle.atomic_table.specs.Table.{State, Me, Step}
 use Rattle.xm_board.specs.declared.journal.Entry.{Entry}
+use Rattle.xm_rules.specs.Entries.{none_left}
 use Rattle.xm_rules.specs.declared.settings.DeskSettings.{DeskSettings}
 use Rattle.xm_board.specs.declared.journal.NumberedJournal.{NumberedJournal}
 use Rattle.xm_board.specs.declared.seats.View.{View}
@@ -88,7 +89,7 @@ taking d e = record { role = d.role; number = d.number; seen = e.seen; own_entri
 
 -- the settings of a seat that was joined to another, of which nothing is said
 abbrev pub some_settings : DeskSettings
-some_settings = record { today = 0; members = 0; tick = 1; reference = 1; widths = record { dynamic = 1; statics = 1; wide = 2 }; limit = 1 }
+some_settings = record { today = 0; members = 0; tick = 1; reference = 1; widths = record { dynamic = 1; statics = 1; wide = 2 }; limit = 1; carried = none_left }
 
 abbrev pub spent_of : View
 spent_of = record { role = Spent; number = 0; seen = opening_of some_settings; own_entries = []; asked = opening_of some_settings; stage = Idle }

@@ -1,6 +1,7 @@
 //! A board that is opened, before a type names it.
-ghost use Rattle.std.specs.Prelude.{◌≡◌, IfOk};
+ghost use Rattle.std.specs.Prelude.{◌≡◌, IfOk, true};
 ghost use Rattle.xm_board.specs.Journals.{opening_of, quote_of};
+ghost use Rattle.xm_rules.specs.Opening.{are_carriable};
 
 use crate::journal::Entry;
 use crate::rule::BoardRule;
@@ -42,9 +43,10 @@ impl<A: Allocator> Model for Opened<A> {
 }
 
 impl<A: Allocator> Opened<A> {
-    /// A board for these settings, with the quote of their opening state. It fails where the memory is refused.
+    /// A board for these settings, whose carried orders and stops a security takes, with the quote of their opening state. It fails where the memory is refused.
     pub fn new(alloc: A, settings: &DeskSettings, quote: &Quote) -> Result<Opened<A>, OutOfMemory>
-        requires { quote.now ≡ quote_of (opening_of settings.now) }
+        requires carried { are_carriable settings.now ≡ true }
+        requires quote { quote.now ≡ quote_of (opening_of settings.now) }
         ensures { IfOk result (λ o. o.settings ≡ settings.now) }
     {
         // A read limit is in its range.

@@ -4,8 +4,10 @@ use Rattle.std.specs.Prelude.{◌≢◌, IfErr, IfOk, OnErr, OnOk}
 use Rattle.std.proofs.lemmas.List.{length-append}
 use Rattle.std.proofs.lemmas.List.Sums.{sum_by-append}
 use Rattle.xm_rules.proofs.Journals.{journal_of, replay-opening, replay-push, reply-parts}
+use Rattle.xm_rules.proofs.Opening.{opening-is}
 use Rattle.xm_rules.specs.Refusals.{refusal_of}
-use Rattle.xm_rules.specs.State.{opening}
+use Rattle.xm_rules.specs.Opening.{opening}
+use Rattle.xm_rules.specs.State.{State}
 use Rattle.xm_rules.specs.Step.{Journal, new_trades, replay, reply, step}
 use Rattle.xm_rules.specs.Sums.{money_of, total_money, total_quantity}
 use Rattle.xm_rules.specs.declared.commands.Command.{Command}
@@ -51,4 +53,5 @@ counted j k c (Err e) is appended gives kept = ap ledger_sums kept
 pub fresh-counts : (j : Journal) → j.commands ≡ [] → no_sums ≡ ledger_sums j
 fresh-counts j none =
     let opened : replay j ≡ opening j.settings = ap (λ (cs : List Command). replay (journal_of j.settings cs)) none ∙ replay-opening j.settings in
-    λ i. record { accepted = length (sym none i); quantity = total_quantity ((sym opened) i).trades; money = total_money ((sym opened) i).trades }
+    let untraded : (replay j).trades ≡ [] = ap (λ (s : State). s.trades) (opened ∙ opening-is j.settings) in
+    λ i. record { accepted = length (sym none i); quantity = total_quantity (sym untraded i); money = total_money (sym untraded i) }

@@ -2,7 +2,8 @@
 use Rattle.std.specs.Prelude.{ℕ, [], ◌||◌, not, if◌then◌else◌, nat_lt, length, Option, Some, None}
 use Rattle.std.specs.List.{list_all}
 use Rattle.xm_desk.specs.declared.opening.OpenFault.{OpenFault}
-use Rattle.xm_desk.specs.declared.opening.OpenFault.TheVariants.{NoSecurity, TooMany, BadWidths}
+use Rattle.xm_desk.specs.declared.opening.OpenFault.TheVariants.{NoSecurity, TooMany, BadWidths, BadCarried}
+use Rattle.xm_rules.specs.Opening.{can_be_left}
 use Rattle.xm_rules.specs.Settings.{are_widths}
 use Rattle.xm_rules.specs.Step.{Journal}
 use Rattle.xm_rules.specs.declared.settings.DeskSettings.{DeskSettings}
@@ -12,7 +13,7 @@ use Rattle.xm_segment.specs.declared.config.SegmentConfig.{SegmentConfig}
 -- the settings that the desk of a security is opened with
 abbrev pub settings_of : SegmentConfig → SecurityConfig → DeskSettings
 settings_of config security =
-    record { today = config.today; members = config.members; tick = security.tick; reference = security.reference; widths = security.widths; limit = security.limit }
+    record { today = config.today; members = config.members; tick = security.tick; reference = security.reference; widths = security.widths; limit = security.limit; carried = security.carried }
 
 -- the journal that a desk with these settings begins
 abbrev pub fresh_journal : DeskSettings → Journal
@@ -29,12 +30,14 @@ max_securities = 8
 abbrev pub max_members : ℕ
 max_members = 1000
 
--- what is wrong with a segment, if anything is: it has no security; too many, or too many members; the widths of one
+-- what is wrong with a segment, if anything is: it has no security; too many, or too many members; the widths of one; what earlier days
+-- left to one
 abbrev pub segment_fault : SegmentConfig → Option OpenFault
 segment_fault config =
     if not (nat_lt 0 (length config.securities)) then Some NoSecurity
     else (if nat_lt max_securities (length config.securities) || nat_lt max_members config.members then Some TooMany
-    else (if list_all (λ (security : SecurityConfig). are_widths security.widths) config.securities then None else Some BadWidths))
+    else (if not (list_all (λ (security : SecurityConfig). are_widths security.widths) config.securities) then Some BadWidths
+    else (if list_all (λ (security : SecurityConfig). can_be_left config.members security.carried) config.securities then None else Some BadCarried)))
 
 -- the most workers of a segment, and the most watchers
 abbrev pub max_workers : ℕ

@@ -2,11 +2,11 @@
 ghost use Rattle.std.specs.Prelude.{◌≡◌};
 
 use std::marker::Model;
-use xm_rules::Widths;
+use xm_rules::{Carried, Widths};
 use xm_ticks::{JournalLimit, Price, TickSize};
 
 /// The settings of a security.
-#[derive(Clone, Copy, PartialEq, Eq, Hash, Debug)]
+#[derive(Drop, Debug)]
 pub struct SecurityConfig {
     /// The size of a tick, in ten-thousandths of a euro.
     pub tick: TickSize,
@@ -16,6 +16,8 @@ pub struct SecurityConfig {
     pub widths: Widths,
     /// How many commands of members the journal takes.
     pub limit: JournalLimit,
+    /// The orders and stops that earlier days left.
+    pub carried: Carried,
 }
 
 /// The settings of the securities of a segment, in index order. A clause sees their list.

@@ -1,6 +1,7 @@
 //! The desks of a segment, opened.
 ghost use Rattle.std.specs.Prelude.{◌≡◌, ◌≢◌, map, Err, IfErr, IfOk, None, OnOk, Some};
 ghost use Rattle.std.specs.List.{list_all};
+ghost use Rattle.xm_rules.specs.Opening.{can_be_left};
 ghost use Rattle.xm_rules.specs.Settings.{are_widths};
 ghost use Rattle.xm_segment.specs.Opening.{journal_of, opening_fault, segment_fault, settings_of};
 
@@ -20,7 +21,8 @@ pub const MAX_WORKERS: u32 = 64;
 /// Opens a desk for each security of a segment, in index order.
 ///
 /// The fault is the first of the segment's own: no security, more than `MAX_SECURITIES` of them or `MAX_MEMBERS` members,
-/// and widths of a security that aren't lawful. It is `OutOfMemory` where a growth was refused.
+/// widths of a security that aren't lawful, and orders or stops of one that earlier days can't have left. It is `OutOfMemory` where
+/// a growth was refused.
 pub fn open_desks<A: Allocator + Copy>(
     storage: Storage<A>,
     config: &SegmentConfig,
@@ -47,25 +49,29 @@ pub(crate) fn desks_of<A: Allocator + Copy>(
 {
     let mut desks = Vec::new(storage.alloc);
     for security in config.securities.as_slice() {
-        let desk = Desk::open(storage, config.settings_of(security))?;
+        let settings = config.settings_of(security)?;
+        let desk = Desk::open(storage, settings)?;
         desks.push(desk).map_err(OutOfMemory::from)?;
     }
     Ok(desks)
 }
 
 impl SegmentConfig {
-    /// The settings that the desk of a security is opened with.
-    pub fn settings_of(&self, security: &SecurityConfig) -> DeskSettings
-        ensures { result ≡ settings_of self.now security.now }
+    /// The settings that the desk of a security is opened with, which have what it carries for themselves. It fails where a growth
+    /// is refused.
+    pub fn settings_of(&self, security: &SecurityConfig) -> Result<DeskSettings, OutOfMemory>
+        ensures { IfOk result (λ settings. settings ≡ settings_of self.now security.now) }
     {
-        DeskSettings {
+        let carried = security.carried.copied()?;
+        Ok(DeskSettings {
             today: self.today,
             members: self.members,
             tick: security.tick,
             reference: security.reference,
             widths: security.widths,
             limit: security.limit,
-        }
+            carried,
+        })
     }
 
     /// What is wrong with the segment for so many workers and watchers, if anything is.
@@ -90,10 +96,12 @@ impl SegmentConfig {
             Some(OpenFault::NoSecurity)
         } else if securities.len() > MAX_SECURITIES || self.members > MAX_MEMBERS {
             Some(OpenFault::TooMany)
-        } else if have_widths(securities) {
-            None
-        } else {
+        } else if !have_widths(securities) {
             Some(OpenFault::BadWidths)
+        } else if !can_be_left(securities, self.members) {
+            Some(OpenFault::BadCarried)
+        } else {
+            None
         }
     }
 }
@@ -105,4 +113,13 @@ fn have_widths(securities: &[SecurityConfig]) -> bool
     securities
         .iter()
         .all(|security| security.widths.are_widths())
+}
+
+/// Whether each security of so many members takes the orders and stops that earlier days left.
+fn can_be_left(securities: &[SecurityConfig], members: u32) -> bool
+    ensures { result ≡ list_all (λ security. can_be_left members security.carried) securities.now }
+{
+    securities
+        .iter()
+        .all(|security| security.carried.can_be_left(members))
 }

@@ -10,7 +10,7 @@ new-requires c =
     let i = c.loop-desk.desk-index in
     let desk = c.desk-item.result in
     let at = slice_get-get_or c.args.desks.now i desk c.loop-desk-test.true ∙ ap (λ (j : Journal). Some j) (sym c.desk-item.is) in
-    fresh-quote desk c.quote.result c.settings.result.now c.quote.ensures (c.requires i desk at) c.settings.ensures.opened
+    record { carried = c.settings.ensures.carriable; quote = fresh-quote desk c.quote.result c.settings.result.now c.quote.ensures (c.requires i desk at) c.settings.ensures.opened }
 
 pub loop-desk-preserved : goal.loop-desk-preserved
 loop-desk-preserved c =
