@@ -14,16 +14,18 @@ use Rattle.xm_files.specs.Rows.{by_column, columns_of, field, is_header, column_
 use Rattle.xm_files.specs.declared.columns.Column.{Column}
 use Rattle.xm_files.specs.declared.columns.Column.TheVariants as column
 use Rattle.xm_files.specs.declared.order_format.OrderFormat.{OrderFormat}
-use Rattle.xm_files.specs.declared.order_format.OrderFormat.TheVariants.{First, Second}
+use Rattle.xm_files.specs.declared.order_format.OrderFormat.TheVariants.{First, Second, Carry}
 
 -- how many columns a format has
 pub at-most-thirteen : (format : OrderFormat) → length (columns_of format) ≤ 13
 at-most-thirteen First = omega arith
 at-most-thirteen Second = omega arith
+at-most-thirteen Carry = omega arith
 
 pub at-least-two : (format : OrderFormat) → 2 ≤ length (columns_of format)
 at-least-two First = omega arith
 at-least-two Second = omega arith
+at-least-two Carry = omega arith
 
 field-by-column : (columns : List Column) (fields : List (List ℕ)) (c : Column) → field c (by_column columns fields) ≡ get_or fields (column_place columns c) []
 field-by-column columns fields column.Command = refl

@@ -7,7 +7,7 @@ use Rattle.xm_files.proofs.LineRecords.{line-records, line-shorter, strip-fed}
 use Rattle.xm_files.specs.Batches.{RowsLeft, rows_from}
 use Rattle.xm_files.specs.FileFaults.{fault_at}
 use Rattle.xm_files.specs.Names.{NameLists}
-use Rattle.xm_files.specs.Orders.{IsHeaded, NoHeader, format_of, records_in, rows_of_records, rows_under}
+use Rattle.xm_files.specs.Orders.{IsHeaded, IsUnder, NoHeader, format_of, records_in, rows_of_records, rows_under}
 use Rattle.xm_files.specs.Plain.{ReadsLine}
 use Rattle.xm_files.specs.Rows.{is_header}
 use Rattle.xm_files.specs.declared.file_faults.FileCause.TheVariants.{BadHeader}
@@ -20,20 +20,28 @@ use Rattle.xm_segment.specs.declared.rows.Row.{Row}
 other-count : (fields : List (List ℕ)) → (length fields == 13) ≡ true → (length fields == 12) ≡ false
 other-count fields more = grind (arith, nat_tests)
 
--- the header of a format says it
-pub header-says : (format : OrderFormat) (fields : List (List ℕ)) → is_header format fields ≡ true → format_of fields ≡ Some format
-header-says First fields h = rw h refl
-header-says Second fields h =
+-- the header of the first format says it, and so does that of the second
+says-first : (fields : List (List ℕ)) → is_header First fields ≡ true → format_of fields ≡ Some First
+says-first fields h = rw h refl
+
+says-second : (fields : List (List ℕ)) → is_header Second fields ≡ true → format_of fields ≡ Some Second
+says-second fields h =
     let count = (and_parts (length fields == 13) _ h).0 in
     let other : is_header First fields ≡ false = and_left (length fields == 12) _ (other-count fields count) in
     rw (other, h) refl
 
+pub first-headed : (file more : List (List (List ℕ))) → IsUnder file First more → IsHeaded file First more
+first-headed file more under = record { header = under.header; says = says-first under.header under.is; first = under.first }
+
+pub second-headed : (file more : List (List (List ℕ))) → IsUnder file Second more → IsHeaded file Second more
+second-headed file more under = record { header = under.header; says = says-second under.header under.is; first = under.first }
+
 -- a text that begins with the header's line is left from its line feed on
 pub headed-line : (format : OrderFormat) (text more left : List ℕ) (header : List (List ℕ)) → is_header format header ≡ true → strip_bom text ≡ text → ReadsLine text header more → left ≡ 10 ∷ more
-    → IsHeaded (records_in text) format (records_in left)
+    → IsUnder (records_in text) format (records_in left)
 headed-line format text more left header is first reads fed = record {
   header = header;
-  says = header-says format header is;
+  is = is;
   first = ap (λ (t : List ℕ). records default_config t) first ∙ line-records text more header reads ∙ ap (λ (t : List ℕ). header ∷ records default_config t) (sym (ap strip_bom fed ∙ strip-fed more));
 }
 

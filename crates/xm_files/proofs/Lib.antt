@@ -1,8 +1,10 @@
 mod Batches
+mod Filling
 mod Formats
 mod Hinted
 mod Known
 mod NameFacts
+mod UsedNames
 mod Values
 mod Distinct
 mod Documents
@@ -13,6 +15,7 @@ mod PlainFields
 mod Marked
 mod CsvFields
 mod LineRecords
+mod Listing
 mod Headed
 mod Progress
 pub mod PassedErrors

@@ -12,8 +12,10 @@ use Rattle.xm_files.proofs.Formats.{at-most-thirteen}
 use Rattle.xm_files.proofs.Headed.{not-headed}
 use Rattle.xm_files.proofs.LineRecords.{fed-records, strip-fed}
 use Rattle.xm_files.proofs.PlainFields.{first-of, next-of}
+use Rattle.xm_files.proofs.Listing.{not-carried, other-listed}
 use Rattle.xm_files.proofs.Progress.{other-record}
 use Rattle.xm_files.proofs.Takes.{records-more}
+use Rattle.xm_files.specs.Carry.{NoCarryHeader, lists_after}
 use Rattle.xm_files.specs.FileFaults.{fault_at, result_then}
 use Rattle.xm_files.specs.Names.{NameLists}
 use Rattle.xm_files.specs.Orders.{NoHeader, format_of, records_in, rows_after}
@@ -22,7 +24,9 @@ use Rattle.xm_files.specs.Rows.{columns_of, is_header}
 use Rattle.xm_files.specs.declared.file_faults.FileCause.TheVariants.{BadHeader, Syntax}
 use Rattle.xm_files.specs.declared.file_faults.FileFault.{FileFault}
 use Rattle.xm_files.specs.declared.order_format.OrderFormat.{OrderFormat}
-use Rattle.xm_files.specs.declared.order_format.OrderFormat.TheVariants.{First, Second}
+use Rattle.xm_files.specs.declared.order_format.OrderFormat.TheVariants.{First, Second, Carry}
+use Rattle.xm_rules.specs.Entries.{Entries}
+use Rattle.xm_segment.specs.declared.config.SecurityConfig.{SecurityConfig}
 use Rattle.xm_segment.specs.declared.config.SegmentConfig.{SegmentConfig}
 use Rattle.xm_segment.specs.declared.rows.Row.{Row}
 
@@ -153,6 +157,12 @@ pub wide-header : (text : List ℕ) → strip_bom text ≡ text → BeginsWide t
 wide-header text unmarked w =
     not-headed (records_in text) (records_from default_config (length text) w.0.1 w.0.2) w.0.0 (ap (records default_config) unmarked ∙ wide-records text w.0 w.1) (no-format text w)
 
+-- that of a carry file neither
+pub wide-carry : (text : List ℕ) → strip_bom text ≡ text → BeginsWide text → NoCarryHeader (records_in text) (fault_at 1 BadHeader)
+wide-carry text unmarked w =
+    not-carried (records_in text) (records_from default_config (length text) w.0.1 w.0.2) w.0.0 (ap (records default_config) unmarked ∙ wide-records text w.0 w.1)
+    (and_left (length w.0.0 == length (columns_of Carry)) _ (other-length text w Carry))
+
 -- and as another it isn't as long as the first
 pub wide-record : (text begun : List ℕ) → text ≡ 10 ∷ begun → BeginsWide begun → (names : NameLists) (config : SegmentConfig) (format : OrderFormat) (line : ℕ) (rows : List Row)
     → rows_after names config format line rows (records_in text) ≡ Err (fault_at line Syntax)
@@ -161,3 +171,11 @@ wide-record text begun fed w = λ names config format line rows.
     ap (λ (t : List ℕ). rows_after names config format line rows (records default_config t)) (ap strip_bom fed ∙ strip-fed begun)
     ∙ ap (rows_after names config format line rows) (fed-records begun ∙ wide-records begun w.0 w.1)
     ∙ ap (λ (r : Result (List Row) FileFault). result_then r (λ sum. rows_after names config format (line + 1) sum more)) (other-record names config format line rows w.0.0 (other-length begun w format))
+
+pub wide-listed : (text begun : List ℕ) → text ≡ 10 ∷ begun → BeginsWide begun → (names : NameLists) (securities : List SecurityConfig) (line : ℕ) (lists : List Entries)
+    → lists_after names securities line lists (records_in text) ≡ Err (fault_at line Syntax)
+wide-listed text begun fed w = λ names securities line lists.
+    let more = records_from default_config (length begun) w.0.1 w.0.2 in
+    ap (λ (t : List ℕ). lists_after names securities line lists (records default_config t)) (ap strip_bom fed ∙ strip-fed begun)
+    ∙ ap (lists_after names securities line lists) (fed-records begun ∙ wide-records begun w.0 w.1)
+    ∙ ap (λ (r : Result (List Entries) FileFault). result_then r (λ longer. lists_after names securities (line + 1) longer more)) (other-listed names securities line lists w.0.0 (other-length begun w Carry))

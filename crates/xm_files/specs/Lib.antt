@@ -1,4 +1,5 @@
 pub mod Batches
+pub mod Carry
 pub mod Examples
 pub mod FileFaults
 pub mod Hints

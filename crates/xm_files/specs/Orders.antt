@@ -1,5 +1,5 @@
 -- What an order file gives: its rows, or its first fault.
-use Rattle.std.specs.Prelude.{◌≡◌, ℕ, ◌+◌, not, if◌then◌else◌, nat_lt, ◌==◌, List, [], ◌∷◌, ◌++◌, length, Option, Some, None, Result, Ok, Err}
+use Rattle.std.specs.Prelude.{◌≡◌, ℕ, ◌+◌, true, not, if◌then◌else◌, nat_lt, ◌==◌, List, [], ◌∷◌, ◌++◌, length, Option, Some, None, Result, Ok, Err}
 use Rattle.csv.specs.Reading.{default_config, records, strip_bom}
 use Rattle.xm_files.specs.FileFaults.{fault_at, max_bytes, result_then}
 use Rattle.xm_files.specs.Names.{NameLists}
@@ -32,7 +32,13 @@ with_rows line rows (Some more) = if nat_lt max_rows (length rows + length more)
 abbrev pub format_of : List (List ℕ) → Option OrderFormat
 format_of fields = if is_header First fields then Some First else (if is_header Second fields then Some Second else None)
 
--- the records of a file begin with the header of a format, and these come behind it
+-- the records of a file begin with the header of this format, and these come behind it
+pub record IsUnder (file : List (List (List ℕ))) (format : OrderFormat) (more : List (List (List ℕ))) : Type 0 where
+  pub header : List (List ℕ)
+  pub is : is_header format header ≡ true
+  pub first : file ≡ header ∷ more
+
+-- the records of an order file begin with the header of a format, and these come behind it
 pub record IsHeaded (file : List (List (List ℕ))) (format : OrderFormat) (more : List (List (List ℕ))) : Type 0 where
   pub header : List (List ℕ)
   pub says : format_of header ≡ Some format

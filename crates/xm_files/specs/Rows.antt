@@ -30,7 +30,7 @@ use Rattle.xm_files.specs.declared.entries.Word.{Word}
 use Rattle.xm_files.specs.declared.entries.Word.TheVariants as word
 use Rattle.xm_files.specs.declared.fields.TheConstants.{MAX_TEXT}
 use Rattle.xm_files.specs.declared.order_format.OrderFormat.{OrderFormat}
-use Rattle.xm_files.specs.declared.order_format.OrderFormat.TheVariants.{First, Second}
+use Rattle.xm_files.specs.declared.order_format.OrderFormat.TheVariants.{First, Second, Carry}
 use Rattle.xm_files.specs.declared.records.Fields.{Fields}
 use Rattle.xm_segment.specs.declared.rows.Row.{Row}
 
@@ -41,6 +41,10 @@ first_columns = column.Command ∷ column.Member ∷ column.Reference ∷ column
 -- every column that a format may have
 abbrev pub every_column : List Column
 every_column = first_columns ++ column.Text ∷ []
+
+-- the columns of the carry file
+abbrev pub carry_columns : List Column
+carry_columns = column.Security ∷ column.Member ∷ column.Reference ∷ column.Side ∷ column.Kind ∷ column.Limit ∷ column.Trigger ∷ column.Quantity ∷ column.Validity ∷ column.Restriction ∷ []
 
 -- where a column stands among all
 abbrev pub column_index : Column → ℕ
@@ -78,6 +82,7 @@ title_of column.Text = codes "text"
 abbrev pub columns_of : OrderFormat → List Column
 columns_of First = first_columns
 columns_of Second = every_column
+columns_of Carry = carry_columns
 
 -- every command word
 abbrev pub every_word : List Word
@@ -87,6 +92,7 @@ every_word = word.Enter ∷ word.Change ∷ word.Cancel ∷ word.CancelAll ∷ w
 abbrev pub kinds_of : OrderFormat → List Word
 kinds_of First = every_word
 kinds_of Second = every_word
+kinds_of Carry = []
 
 -- where a command word stands among all
 abbrev pub word_index : Word → ℕ
@@ -209,6 +215,10 @@ has_condition Second Plain = true
 has_condition Second Ioc = true
 has_condition Second Fok = true
 has_condition Second Boc = true
+has_condition Carry Plain = true
+has_condition Carry Ioc = false
+has_condition Carry Fok = false
+has_condition Carry Boc = false
 
 -- the condition that a text names, if orders of a format may have it
 abbrev pub condition_in : OrderFormat → List ℕ → Option Condition

@@ -6,6 +6,7 @@ use Rattle.std.specs.Result.{result_ok}
 use Rattle.std.specs.Str.{bytes_eq, is_utf8}
 use Rattle.toml.specs.Data.{Data, Items, no_items, item, Members, no_members, member, get_member, as_str, as_integer, as_array, as_table}
 use Rattle.toml.specs.Parse.{parse_document}
+use Rattle.xm_rules.specs.Entries.{none_left}
 use Rattle.xm_rules.specs.declared.settings.Widths.{Widths}
 use Rattle.xm_ticks.specs.Reading.{price_of}
 use Rattle.xm_files.specs.Steps.{◌>>=◌}
@@ -111,7 +112,7 @@ settings_in table =
     price_at (codes "reference") tick table >>= (λ reference.
     widths_in table >>= (λ widths.
     number_at (codes "journal") 1 1000000 table >>= (λ limit.
-    Some (record { tick = tick; reference = reference; widths = widths; limit = limit })))))
+    Some (record { tick = tick; reference = reference; widths = widths; limit = limit; carried = none_left })))))
 
 abbrev pub security_values : Members → Option Security
 security_values table =
@@ -123,9 +124,9 @@ abbrev pub security_of : Members → Result Security FileCause
 security_of table = checked security_keys table (security_values table)
 
 -- no name occurs again
-abbrev pub are_distinct : List (List ℕ) → Bool
-are_distinct [] = true
-are_distinct (name ∷ names) = not (is_among name names) && are_distinct names
+abbrev pub are_distinct_texts : List (List ℕ) → Bool
+are_distinct_texts [] = true
+are_distinct_texts (name ∷ names) = not (is_among name names) && are_distinct_texts names
 
 -- the securities in index order: their names and their settings
 pub record ListedSecurities : Type 0 where
@@ -157,7 +158,7 @@ segment_from top securities =
 abbrev pub segment_with : Result Top FileCause → Result (SegmentConfig × NameLists) FileFault
 segment_with (Err cause) = Err (fault_at 0 cause)
 segment_with (Ok top) =
-    if not (are_distinct top.members) then Err (fault_at 0 DuplicateName)
+    if not (are_distinct_texts top.members) then Err (fault_at 0 DuplicateName)
     else result_then (securities_after (record { names = []; settings = [] }) top.securities) (λ securities. Ok (segment_from top securities))
 
 -- what a table of TOML gives, if the text is one

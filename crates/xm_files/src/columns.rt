@@ -1,8 +1,8 @@
-//! The columns of the order file.
+//! The columns of the order file and the carry file.
 ghost use Rattle.std.specs.Prelude.{◌≡◌};
-ghost use Rattle.xm_files.specs.Rows.{column_index, title_of};
+ghost use Rattle.xm_files.specs.Rows.{carry_columns, column_index, column_place, title_of};
 
-/// A column that a format of order files may have.
+/// A column that a format may have.
 #[derive(Clone, Copy, PartialEq, Eq, Debug)]
 pub(crate) enum Column {
     Command,
@@ -35,6 +35,20 @@ impl Column {
         Column::Validity,
         Column::Restriction,
         Column::Condition,
+    ];
+
+    /// The columns of the carry file.
+    pub(crate) const CARRY: [Column; 10] = [
+        Column::Security,
+        Column::Member,
+        Column::Reference,
+        Column::Side,
+        Column::Kind,
+        Column::Limit,
+        Column::Trigger,
+        Column::Quantity,
+        Column::Validity,
+        Column::Restriction,
     ];
 
     /// Every column.
@@ -73,6 +87,26 @@ impl Column {
             Column::Restriction => 10,
             Column::Condition => 11,
             Column::Text => 12,
+        }
+    }
+
+    /// Where the column stands in the carry file; the number of its columns where it isn't one of them.
+    #[inline(always)]
+    pub(crate) fn carry_index(self) -> usize
+        ensures { result ≡ column_place carry_columns self }
+    {
+        match self {
+            Column::Security => 0,
+            Column::Member => 1,
+            Column::Reference => 2,
+            Column::Side => 3,
+            Column::Kind => 4,
+            Column::Limit => 5,
+            Column::Trigger => 6,
+            Column::Quantity => 7,
+            Column::Validity => 8,
+            Column::Restriction => 9,
+            Column::Command | Column::Condition | Column::Text => 10,
         }
     }
 

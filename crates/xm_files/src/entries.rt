@@ -114,7 +114,7 @@ fn parse_word(text: &[u8]) -> Option<Word>
 }
 
 /// The index of the member in a record; an unknown name has the number of names as its index.
-fn member(fields: &Fields, names: &SegmentNames) -> Option<u32>
+pub(crate) fn member(fields: &Fields, names: &SegmentNames) -> Option<u32>
     ensures { result ≡ name_index names.now.members (field column.Member (texts_of fields.now)) }
 {
     let name = fields.text(Column::Member);
@@ -126,7 +126,7 @@ fn member(fields: &Fields, names: &SegmentNames) -> Option<u32>
 }
 
 /// The index of the security in a record; an unknown name has the number of names as its index.
-fn security(fields: &Fields, names: &SegmentNames) -> Option<u32>
+pub(crate) fn security(fields: &Fields, names: &SegmentNames) -> Option<u32>
     ensures { result ≡ name_index names.now.securities (field column.Security (texts_of fields.now)) }
 {
     let name = fields.text(Column::Security);
@@ -152,7 +152,7 @@ fn enter(
 }
 
 /// The tick of a security, and the finest one where the security is unknown.
-fn tick(securities: &[SecurityConfig], security: u32) -> TickSize
+pub(crate) fn tick(securities: &[SecurityConfig], security: u32) -> TickSize
     ensures { result ≡ tick_of securities.now security }
 {
     match securities.get(security as usize) {
@@ -162,7 +162,7 @@ fn tick(securities: &[SecurityConfig], security: u32) -> TickSize
 }
 
 /// The order that a member enters in a security with this tick.
-fn order(fields: &Fields, member: u32, tick: TickSize) -> Option<Command>
+pub(crate) fn order(fields: &Fields, member: u32, tick: TickSize) -> Option<Command>
     ensures { result ≡ order_command fields.now.format tick member (texts_of fields.now) }
 {
     let reference = whole(fields.text(Column::Reference))?;

@@ -1,18 +1,22 @@
 //! What the definitions give on worked examples. Each function promises one by its contract.
 ghost use Rattle.std.specs.Prelude.{◌≡◌, codes, map, [], ◌∷◌, Some, None, Ok, Err, true, false};
 ghost use Rattle.std.specs.List.{range_with_len};
-ghost use Rattle.xm_files.specs.Examples.{change_record, entered_row, every_title, order_record, phase_record, record_names, record_settings, round_rows, row_of, second_titles, record_with_text};
+ghost use Rattle.xm_files.specs.Examples.{carry_record, carry_titles, change_record, entered_row, every_title, left_order, left_record, left_stop, left_stop_record, order_listed, order_record, phase_record, record_names, record_settings, round_rows, row_of, says, second_titles, record_with_text, with_ticks};
+ghost use Rattle.xm_files.specs.Carry.{empty_lists, lists_in, with_carry_record, with_lists, with_one_more};
 ghost use Rattle.xm_files.specs.Orders.{format_of, rows_of_records, with_record};
 ghost use Rattle.xm_files.specs.Rows.{by_column, columns_of, condition_in, field, is_header, kind_in, name_index, names_members_command, restriction_of, rows_of_record, side_named, title_of, validity_of, whole_of};
-ghost use Rattle.xm_files.specs.Segment.{are_distinct, is_name};
+ghost use Rattle.xm_files.specs.Segment.{are_distinct_texts, is_name};
 ghost use Rattle.xm_files.specs.Timetable.{ends_round, is_one_round, rounds_of, share_of};
-ghost use Rattle.xm_files.specs.declared.file_faults.FileCause.TheVariants.{BadField, BadHeader, Syntax};
+ghost use Rattle.xm_files.specs.declared.file_faults.FileCause.TheVariants.{BadField, BadHeader, DuplicateName, Syntax};
 ghost use Rattle.xm_files.specs.declared.columns.Column.TheVariants as column;
 ghost use Rattle.xm_files.specs.declared.entries.Word.TheVariants as word;
-ghost use Rattle.xm_files.specs.declared.order_format.OrderFormat.TheVariants.{First, Second};
+ghost use Rattle.xm_files.specs.declared.order_format.OrderFormat.TheVariants.{First, Second, Carry};
+ghost use Rattle.xm_files.specs.declared.listed.Entry.TheVariants as entry;
 ghost use Rattle.xm_rules.specs.declared.commands.Command.TheVariants.{Cancel, CancelAll, Change, EndDay, StartClosing, StartIntraday, StartOpening, Uncross};
 ghost use Rattle.xm_rules.specs.declared.commands.Condition.TheVariants.{Fok, Ioc, Plain};
 ghost use Rattle.xm_rules.specs.declared.commands.Kind.TheVariants.{Limit, Market, StopLimit, StopMarket};
+ghost use Rattle.xm_rules.specs.Entries.{none_left};
+ghost use Rattle.xm_rules.specs.declared.orders.OrderKind.TheVariants as kind;
 ghost use Rattle.xm_rules.specs.declared.orders.Restriction.TheVariants.{AuctionsOnly, ClosingOnly, Free, OpeningOnly};
 ghost use Rattle.xm_rules.specs.declared.orders.Side.TheVariants.{Buy, Sell};
 ghost use Rattle.xm_rules.specs.declared.orders.Validity.TheVariants.{Day, TillCancelled, TillDate};
@@ -86,8 +90,8 @@ pub fn names()
     ensures thirteen { is_name (codes "AZ01234567890") ≡ false }
     ensures empty { is_name (codes "") ≡ false }
     ensures small { is_name (codes "Az") ≡ false }
-    ensures distinct { are_distinct (codes "A" ∷ codes "B" ∷ codes "AB" ∷ []) ≡ true }
-    ensures again { are_distinct (codes "A" ∷ codes "B" ∷ codes "A" ∷ []) ≡ false }
+    ensures distinct { are_distinct_texts (codes "A" ∷ codes "B" ∷ codes "AB" ∷ []) ≡ true }
+    ensures again { are_distinct_texts (codes "A" ∷ codes "B" ∷ codes "A" ∷ []) ≡ false }
     ensures index { map (name_index record_names.members) (codes "AAA" ∷ codes "BBB" ∷ codes "CCC" ∷ codes "" ∷ []) ≡ Some 0 ∷ Some 1 ∷ Some 2 ∷ None ∷ [] }
 {}
 
@@ -177,4 +181,59 @@ pub fn words_of_members()
     ensures members { map names_members_command (codes "enter" ∷ codes "change" ∷ codes "cancel" ∷ codes "cancel-all" ∷ []) ≡ true ∷ true ∷ true ∷ true ∷ [] }
     ensures phases { map names_members_command (codes "open" ∷ codes "intraday" ∷ codes "close" ∷ codes "uncross" ∷ codes "end" ∷ []) ≡ false ∷ false ∷ false ∷ false ∷ false ∷ [] }
     ensures none { map names_members_command (codes "" ∷ codes "Enter" ∷ codes "quote" ∷ []) ≡ false ∷ false ∷ false ∷ [] }
+{}
+
+/// The header of a carry file, which is none of an order file.
+pub fn titles_of_a_carry_file()
+    ensures titles { map title_of (columns_of Carry) ≡ carry_titles }
+    ensures header { is_header Carry carry_titles ≡ true }
+    ensures no_orders { format_of carry_titles ≡ None }
+    ensures orders { is_header Carry every_title ≡ false }
+    ensures fields { field column.Quantity (by_column (columns_of Carry) left_record) ≡ codes "30" }
+    ensures absent { field column.Condition (by_column (columns_of Carry) left_record) ≡ [] }
+{}
+
+/// What records of a carry file say, at ticks of 50 in the first security and of 100 in the second.
+pub fn entries_listed()
+    ensures limit { says left_record ≡ Some (record { security = 0; entry = entry.Order left_order }) }
+    ensures stop { says left_stop_record ≡ Some (record { security = 0; entry = entry.Stop left_stop }) }
+    ensures market { says (carry_record (codes "UVW") (codes "market") (codes "") (codes "") (codes "1000000") (codes "00000000") (codes "free"))
+        ≡ Some (record { security = 1; entry = entry.Order (record left_order { kind = kind.Market; rest = 1000000; validity = TillDate 0; restriction = Free }) }) }
+    ensures stop_market { says (carry_record (codes "XYZ") (codes "stop-market") (codes "") (codes "1") (codes "30") (codes "20260105") (codes "free"))
+        ≡ Some (record { security = 0; entry = entry.Stop (record left_stop { becomes = kind.Market }) }) }
+{}
+
+/// Records of a carry file with a bad field: a name of no security, each fault of a price, a quantity out of range, a validity
+/// that ends with the day, and a restriction that is wanting or a stop's.
+pub fn entries_of_bad_fields()
+    ensures unknown { says (carry_record (codes "ABC") (codes "limit") (codes "1") (codes "") (codes "30") (codes "gtc") (codes "free")) ≡ None }
+    ensures star { says (carry_record (codes "*") (codes "limit") (codes "1") (codes "") (codes "30") (codes "gtc") (codes "free")) ≡ None }
+    ensures no_number { says (carry_record (codes "XYZ") (codes "limit") (codes "a") (codes "") (codes "30") (codes "gtc") (codes "free")) ≡ None }
+    ensures decimals { says (carry_record (codes "XYZ") (codes "limit") (codes "1.00000") (codes "") (codes "30") (codes "gtc") (codes "free")) ≡ None }
+    ensures off_tick { says (carry_record (codes "XYZ") (codes "limit") (codes "1.001") (codes "") (codes "30") (codes "gtc") (codes "free")) ≡ None }
+    ensures zero_price { says (carry_record (codes "XYZ") (codes "limit") (codes "0") (codes "") (codes "30") (codes "gtc") (codes "free")) ≡ None }
+    ensures off_trigger { says (carry_record (codes "XYZ") (codes "stop-market") (codes "") (codes "1.001") (codes "30") (codes "gtc") (codes "free")) ≡ None }
+    ensures no_trigger { says (carry_record (codes "XYZ") (codes "stop-limit") (codes "1") (codes "") (codes "30") (codes "gtc") (codes "free")) ≡ None }
+    ensures no_units { says (carry_record (codes "XYZ") (codes "limit") (codes "1") (codes "") (codes "0") (codes "gtc") (codes "free")) ≡ None }
+    ensures many_units { says (carry_record (codes "XYZ") (codes "limit") (codes "1") (codes "") (codes "1000001") (codes "gtc") (codes "free")) ≡ None }
+    ensures day { says (carry_record (codes "XYZ") (codes "limit") (codes "1") (codes "") (codes "30") (codes "day") (codes "free")) ≡ None }
+    ensures no_validity { says (carry_record (codes "XYZ") (codes "limit") (codes "1") (codes "") (codes "30") (codes "") (codes "free")) ≡ None }
+    ensures no_restriction { says (carry_record (codes "XYZ") (codes "limit") (codes "1") (codes "") (codes "30") (codes "gtc") (codes "")) ≡ None }
+    ensures stop { says (carry_record (codes "XYZ") (codes "stop-market") (codes "") (codes "1") (codes "30") (codes "gtc") (codes "opening")) ≡ None }
+    ensures no_restriction_of_a_stop { says (carry_record (codes "XYZ") (codes "stop-market") (codes "") (codes "1") (codes "30") (codes "gtc") (codes "")) ≡ None }
+{}
+
+/// What a carry file lists: for each security its orders and its stops, of which no two have one name.
+pub fn entries_of_carry_files()
+    ensures header { lists_in record_names record_settings.securities (carry_titles ∷ []) ≡ Ok (none_left ∷ none_left ∷ []) }
+    ensures none { lists_in record_names record_settings.securities [] ≡ Err (record { line = 1; cause = BadHeader }) }
+    ensures orders { lists_in record_names record_settings.securities (every_title ∷ []) ≡ Err (record { line = 1; cause = BadHeader }) }
+    ensures one { lists_in record_names record_settings.securities (carry_titles ∷ left_record ∷ []) ≡ Ok order_listed }
+    ensures used { lists_in record_names record_settings.securities (carry_titles ∷ left_record ∷ left_stop_record ∷ []) ≡ Err (record { line = 3; cause = DuplicateName }) }
+    ensures short { with_carry_record record_names record_settings.securities 4 order_listed (codes "XYZ" ∷ []) ≡ Err (record { line = 4; cause = Syntax }) }
+    ensures bad { with_carry_record record_names record_settings.securities 4 order_listed carry_titles ≡ Err (record { line = 4; cause = BadField }) }
+    ensures other_security { with_carry_record record_names record_settings.securities 4 (none_left ∷ order_listed) left_stop_record ≡ Ok (record { orders = []; stops = left_stop ∷ [] } ∷ order_listed) }
+    ensures last { with_one_more 4 (record { orders = left_order ∷ []; stops = left_stop ∷ [] }) (entry.Order (record left_order { member = 0 })) ≡ Ok (record { orders = left_order ∷ record left_order { member = 0 } ∷ []; stops = left_stop ∷ [] }) }
+    ensures filled { with_lists record_settings.securities order_listed ≡ record (with_ticks 50) { carried = record { orders = left_order ∷ []; stops = [] } } ∷ with_ticks 100 ∷ [] }
+    ensures emptied { with_lists (with_lists record_settings.securities order_listed) (empty_lists record_settings.securities) ≡ record_settings.securities }
 {}

@@ -13,8 +13,8 @@ pub enum FileCause {
     ReadFailed,
     /// The file has more than 16,777,216 bytes.
     TooLong,
-    /// A segment file that is no TOML, or a record of an order file that is no CSV or has another
-    /// number of fields than the first.
+    /// A segment file that is no TOML, or a record of an order file or a carry file that is no CSV or
+    /// has another number of fields than the first.
     Syntax,
     /// A required key of a segment file is missing.
     MissingKey,
@@ -22,14 +22,16 @@ pub enum FileCause {
     UnknownKey,
     /// A value of a segment file has the wrong type or is out of range.
     BadValue,
-    /// The name of a member or of a security occurs again.
+    /// The name of a member or of a security occurs again, or that of an entry of a carry file in its
+    /// security.
     DuplicateName,
-    /// An order file has no record, or the first isn't the header.
+    /// An order file or a carry file has no record, or the first isn't the header.
     BadHeader,
     /// A command word, an empty required field, a filled field that must be empty, or a text that
-    /// isn't listed.
+    /// isn't listed. In a carry file, an unknown name, or a number or a price out of range, too.
     BadField,
-    /// An order file has more than 1,000,000 rows.
+    /// An order file has more than 1,000,000 rows, or a carry file more than 100,000 entries of a
+    /// security.
     TooManyRows,
     /// A growth was refused.
     OutOfMemory(OutOfMemory),
@@ -37,7 +39,7 @@ pub enum FileCause {
 
 /// What is wrong with a file, and where.
 ///
-/// In an order file `line` is the number of the record, the header being 1. In a segment file it is
+/// In an order file or a carry file `line` is the number of the record, the header being 1. In a segment file it is
 /// 0 for the whole text and the top keys, and k for the k-th security, counted from 1. It is 0 for
 /// `ReadFailed`, `TooLong` and `OutOfMemory`.
 #[derive(Clone, Copy, PartialEq, Eq, Debug, Error)]

@@ -1,13 +1,14 @@
-//! The header of an order file, which says the format of its records.
+//! The header of an order file, which says the format of its records, and that of a carry file.
 ghost use Rattle.std.specs.Prelude.{◌≡◌, ◌≢◌, ◌+◌, ◌≤◌, length, None, IfOk, IfErr, IfSome};
 ghost use Rattle.std.specs.Bool.{OnTrue};
 ghost use Rattle.csv.specs.Reading.{strip_bom};
 ghost use Rattle.csv.specs.Records.{fields_of};
+ghost use Rattle.xm_files.specs.Carry.{NoCarryHeader};
 ghost use Rattle.xm_files.specs.FileFaults.{is_from_outside};
-ghost use Rattle.xm_files.specs.Orders.{IsHeaded, NoHeader, format_of, records_in};
+ghost use Rattle.xm_files.specs.Orders.{IsHeaded, IsUnder, NoHeader, format_of, records_in};
 ghost use Rattle.xm_files.specs.Plain.{rest_of};
 ghost use Rattle.xm_files.specs.Rows.{is_header};
-ghost use Rattle.xm_files.specs.Unread.{csv_left};
+ghost use Rattle.xm_files.specs.Unread.{csv_left, with_ahead};
 
 use crate::csv_records::CsvRecords;
 use crate::file_faults::{FileCause, FileFault};
@@ -39,8 +40,8 @@ pub(crate) fn header_line(text: &[u8]) -> Option<(OrderFormat, &[u8])>
 
 /// What is left of a text from the line feed on that ends the header of a format, where the text begins with its line and has
 /// nothing before it.
-fn behind_header(text: &[u8], format: OrderFormat) -> Option<&[u8]>
-    ensures headed { IfSome result (λ left. IsHeaded (records_in text.now) format (records_in left.now)) }
+pub(crate) fn behind_header(text: &[u8], format: OrderFormat) -> Option<&[u8]>
+    ensures headed { IfSome result (λ left. IsUnder (records_in text.now) format (records_in left.now)) }
     ensures shorter { IfSome result (λ left. length left.now ≤ length text.now) }
 {
     let mut marks = unmarked(text)?;
@@ -69,7 +70,8 @@ fn unmarked(text: &[u8]) -> Option<Marks<'_>>
 
 /// Sees that a text begins with a record that has more fields than any header.
 fn wide_header(text: &[u8]) -> Option<()>
-    ensures { IfSome result (λ _. NoHeader (records_in text.now) (record { line = 1; cause = FileCause.BadHeader })) }
+    ensures orders { IfSome result (λ _. NoHeader (records_in text.now) (record { line = 1; cause = FileCause.BadHeader })) }
+    ensures carry { IfSome result (λ _. NoCarryHeader (records_in text.now) (record { line = 1; cause = FileCause.BadHeader })) }
 {
     begin_wide(&mut unmarked(text)?)?;
     Some(())
@@ -102,6 +104,35 @@ pub(crate) fn csv_behind_header<'a>(
             Ok((format, csv))
         }
         None => Err(no_header()),
+    }
+}
+
+/// Reads the header of a carry file by CSV, unless it is seen to have too many fields: the records behind it.
+#[inline(never)]
+pub(crate) fn csv_behind_carry_header<'a>(
+    alloc: Global,
+    text: &'a [u8],
+) -> Result<CsvRecords<'a>, FileFault>
+    requires { 1 + length text.now ≤ MAX_LINES }
+    ensures headed { IfOk result (λ csv. IsUnder (records_in text.now) OrderFormat.Carry (with_ahead csv.ahead csv.behind)) }
+    ensures line { IfOk result (λ csv. csv.line ≡ 2) }
+    ensures err { IfErr result (λ fault. fault.cause ≢ FileCause.OutOfMemory tt → NoCarryHeader (records_in text.now) fault) }
+    ensures memory { IfErr result (λ fault. OnTrue (is_from_outside fault.cause) (fault.line ≡ 0)) }
+{
+    if wide_header(text).is_some() {
+        return Err(no_header());
+    }
+    let mut csv = CsvRecords::of(alloc, text, 1);
+    match csv.look_ahead() {
+        Ok(true) => {}
+        Ok(false) => return Err(no_header()),
+        Err(wanting) => return Err(FileFault::from(wanting)),
+    }
+    if is_header(OrderFormat::Carry, csv.row()) {
+        csv.take();
+        Ok(csv)
+    } else {
+        Err(no_header())
     }
 }
 

@@ -1,15 +1,18 @@
-//! The files that a day is read from: what the bytes of a segment file and of an order file give.
+//! The files that a day is read from: what the bytes of a segment file, of a carry file and of an order file give.
 #![tactic(auto)]
 
 mod batch;
 mod bytes;
+mod carry;
 mod columns;
 mod csv_records;
 mod entries;
+mod entry_lists;
 pub mod examples;
 mod fields;
 mod file_faults;
 mod headers;
+mod listed;
 mod marks;
 mod names;
 mod order_format;
@@ -24,6 +27,7 @@ mod wide;
 
 pub use crate::batch::Batch;
 pub use crate::bytes::MAX_BYTES;
+pub use crate::carry::read_carry;
 pub use crate::file_faults::{FileCause, FileFault};
 pub use crate::names::SegmentNames;
 pub use crate::orders::{MAX_LINES, MAX_ROWS, RowReader, read_orders, read_rows};

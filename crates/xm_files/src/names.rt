@@ -48,7 +48,7 @@ impl Model for NameList {
     ghost use Rattle.xm_files.specs.FileFaults.{max_bytes};
     ghost use Rattle.xm_files.specs.Hints.{LeadsInto};
     ghost use Rattle.xm_files.specs.Names.{ArePlaces};
-    ghost use Rattle.xm_files.specs.Segment.{are_distinct};
+    ghost use Rattle.xm_files.specs.Segment.{are_distinct_texts};
 
     ghost Value = { List (List ℕ) };
 
@@ -56,7 +56,7 @@ impl Model for NameList {
 
     ghost invariant = { λ n. record {
       few : length n.names.items ≤ max_bytes;
-      distinct : are_distinct (map string_bytes n.names.items) ≡ true;
+      distinct : are_distinct_texts (map string_bytes n.names.items) ≡ true;
       places : ArePlaces (map string_bytes n.names.items) n.places;
       hints : All (LeadsInto (map string_bytes n.names.items)) n.hints;
     } };

@@ -1,4 +1,4 @@
-//! The formats of order files: the columns of each, and its kinds of commands.
+//! The formats of order files and of the carry file: the columns of each, and its kinds of commands.
 ghost use Rattle.std.specs.Prelude.{◌≡◌};
 ghost use Rattle.xm_files.specs.Rows.{columns_of, has_condition, has_word, kinds_of, column_place};
 
@@ -9,12 +9,15 @@ use xm_rules::Condition;
 /// The most columns that a format has.
 pub(crate) const MOST_COLUMNS: usize = 13;
 
-/// A format of order files. It says which columns a record has, in which order, and which commands records give.
+/// A format of order files, or that of the carry file. It says which columns a record has, in which order, and which commands
+/// records give.
 #[derive(Clone, Copy, PartialEq, Eq, Debug)]
 pub(crate) enum OrderFormat {
     First,
     /// With a free text behind the columns of the first.
     Second,
+    /// That of the carry file, whose records are orders and stops, and name no command.
+    Carry,
 }
 
 impl OrderFormat {
@@ -26,6 +29,7 @@ impl OrderFormat {
         match self {
             OrderFormat::First => &Column::FIRST,
             OrderFormat::Second => &Column::ALL,
+            OrderFormat::Carry => &Column::CARRY,
         }
     }
 
@@ -36,6 +40,7 @@ impl OrderFormat {
     {
         match self {
             OrderFormat::First | OrderFormat::Second => column.index(),
+            OrderFormat::Carry => column.carry_index(),
         }
     }
 
@@ -46,6 +51,7 @@ impl OrderFormat {
     {
         match self {
             OrderFormat::First | OrderFormat::Second => &Word::ALL,
+            OrderFormat::Carry => &[],
         }
     }
 
@@ -69,6 +75,10 @@ impl OrderFormat {
             },
             OrderFormat::Second => match condition {
                 Condition::Plain | Condition::Ioc | Condition::Fok | Condition::Boc => true,
+            },
+            OrderFormat::Carry => match condition {
+                Condition::Plain => true,
+                Condition::Ioc | Condition::Fok | Condition::Boc => false,
             },
         }
     }

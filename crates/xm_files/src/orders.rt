@@ -393,7 +393,7 @@ fn add_lines<'a>(
 }
 
 /// A text behind the line feed that it begins with.
-fn behind_line_feed(text: &[u8]) -> Option<Marks<'_>>
+pub(crate) fn behind_line_feed(text: &[u8]) -> Option<Marks<'_>>
     ensures fed { IfSome result (λ marks. text.now ≡ 10 ∷ rest_of marks) }
     ensures behind { IfSome result (IsBehind 10) }
 {
@@ -414,7 +414,7 @@ fn wide_record(text: &[u8]) -> Option<()>
 }
 
 /// A fault of the record with this number.
-fn fault_at(line: u32, cause: FileCause) -> FileFault
+pub(crate) fn fault_at(line: u32, cause: FileCause) -> FileFault
     ensures { result ≡ record { line = line; cause = cause } }
 {
     FileFault { line, cause }

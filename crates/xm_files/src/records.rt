@@ -1,4 +1,4 @@
-//! The records of an order file.
+//! The records of an order file or a carry file.
 ghost use Rattle.std.specs.Prelude.{◌≡◌, ◌≤◌, ◌∷◌, [], drop, ℕ, List, Some, None, length, if◌then◌else◌, ◌==◌, option_map, get_or, IfSome};
 ghost use Rattle.std.specs.List.{list_all};
 ghost use Rattle.std.specs.Str.{bytes_eq};
@@ -60,6 +60,7 @@ impl<'a> Fields<'a> {
         match self.format {
             OrderFormat::First => self.read_fields(OrderFormat::First, line),
             OrderFormat::Second => self.read_fields(OrderFormat::Second, line),
+            OrderFormat::Carry => self.read_fields(OrderFormat::Carry, line),
         }
     }
 

@@ -5,7 +5,7 @@ ghost use Rattle.std.specs.List.{list_all};
 ghost use Rattle.toml.specs.Data.{get_member};
 ghost use Rattle.toml.specs.View.{table_view};
 ghost use Rattle.xm_files.specs.FileFaults.{is_from_outside};
-ghost use Rattle.xm_files.specs.Segment.{are_distinct, document_of, fault_after, with_security, has_keys, has_only, securities_after, security_keys, security_of, security_values, segment_in, segment_of, segment_with, settings_in, top_keys, top_of, top_values, widths_in};
+ghost use Rattle.xm_files.specs.Segment.{are_distinct_texts, document_of, fault_after, with_security, has_keys, has_only, securities_after, security_keys, security_of, security_values, segment_in, segment_of, segment_with, settings_in, top_keys, top_of, top_values, widths_in};
 
 use crate::bytes::read_whole;
 use crate::file_faults::{FileCause, FileFault, parse_cause};
@@ -17,7 +17,7 @@ use std::alloc::Global;
 use std::io::Read;
 use toml::Table;
 use xm_memory::OutOfMemory;
-use xm_rules::Widths;
+use xm_rules::{Carried, Widths};
 use xm_segment::{Securities, SecurityConfig, SegmentConfig};
 use xm_ticks::{JournalLimit, TickSize};
 
@@ -137,8 +137,8 @@ fn top_values(alloc: Global, table: &Table) -> Result<Top<'_>, FileCause>
 /// The names of the members. The cause is `DuplicateName` or `OutOfMemory`.
 fn list_members(alloc: Global, names: &[&str]) -> Result<NameList, FileCause>
     ensures ok { IfOk result (λ list. list ≡ map (λ name. name.now) names.now) }
-    ensures distinct { IfOk result (λ list. are_distinct list ≡ true) }
-    ensures err { IfErr result (λ cause. cause ≢ FileCause.OutOfMemory tt → (cause ≡ FileCause.DuplicateName) × (are_distinct (map (λ name. name.now) names.now) ≡ false)) }
+    ensures distinct { IfOk result (λ list. are_distinct_texts list ≡ true) }
+    ensures err { IfErr result (λ cause. cause ≢ FileCause.OutOfMemory tt → (cause ≡ FileCause.DuplicateName) × (are_distinct_texts (map (λ name. name.now) names.now) ≡ false)) }
 {
     let mut list = NameList::new(alloc);
     for name in names {
@@ -255,6 +255,7 @@ fn settings_in(table: &Table) -> Option<SecurityConfig>
         reference,
         widths,
         limit,
+        carried: Carried::none(),
     })
 }
 
