@@ -5,9 +5,10 @@ use std::marker::Model;
 use xm_desk::Desk;
 use xm_names::Storage;
 use xm_rules::{
-    Command, Condition, DeskSettings, Kind, Order, Phase, Quote, Refusal, Reply, Restriction, Side,
-    Stop, Trade, Validity, Widths,
+    Carried, Command, Condition, DeskSettings, Kind, Order, Phase, Quote, Refusal, Reply,
+    Restriction, Side, Stop, Trade, Validity, Widths,
 };
+use xm_segment::SecurityConfig;
 use xm_ticks::{JournalLimit, Price, TickSize};
 
 /// The load did not run as it should, or could not be told.
@@ -15,6 +16,9 @@ use xm_ticks::{JournalLimit, Price, TickSize};
 pub struct LoadFault;
 
 pub const TODAY: u32 = 20260105;
+
+/// In ten-thousandths of a euro.
+const TICK: u32 = 100;
 
 /// What a desk is opened with, beside what all have in common. The reference is in ticks.
 #[derive(Clone, Copy)]
@@ -30,10 +34,22 @@ impl Opening {
         Some(DeskSettings {
             today: TODAY,
             members: self.members,
-            tick: TickSize::new(100)?,
+            tick: TickSize::new(TICK)?,
             reference: Price::new(self.reference)?,
             widths: self.widths,
             limit: JournalLimit::new(self.limit)?,
+            carried: Carried::none(),
+        })
+    }
+
+    /// The settings of a security of a segment.
+    pub fn security(self) -> Option<SecurityConfig> {
+        Some(SecurityConfig {
+            tick: TickSize::new(TICK)?,
+            reference: Price::new(self.reference)?,
+            widths: self.widths,
+            limit: JournalLimit::new(self.limit)?,
+            carried: Carried::none(),
         })
     }
 }

@@ -5,7 +5,7 @@ ghost use Rattle.xm_segment.specs.Names.{NamesSegment};
 use crate::flows::{Flow, OPENING, Shape};
 use crate::has_word;
 use crate::lines::{nanoseconds_since, now, tell_figure, tell_figures, tell_text};
-use crate::loads::{LoadFault, Loaded};
+use crate::loads::{LoadFault, Loaded, TODAY};
 use crate::sessions::{MEASURED, draw};
 use std::alloc::Global;
 use std::marker::{Brand, Model};
@@ -13,9 +13,7 @@ use std::rt::Clock;
 use std::sync::Wait;
 use xm_names::Storage;
 use xm_rules::{Command, Refusal, Reply};
-use xm_segment::{
-    Gathered, Naming, Opened, Seat, Securities, SecurityConfig, Segment, SegmentConfig, WatchRow,
-};
+use xm_segment::{Gathered, Naming, Opened, Seat, Securities, Segment, SegmentConfig, WatchRow};
 
 /// How often a desk and a segment take a day, in turn. The lowest times are told.
 const RUNS: u32 = 5;
@@ -179,22 +177,16 @@ fn submitted_named<S: Naming, R: AllocGlobal + Clock + Wait>(
 
 /// The settings of a segment whose securities are alike.
 fn config(alloc: Global, securities: u32) -> Result<SegmentConfig, LoadFault> {
-    let settings = OPENING.settings().ok_or(LoadFault)?;
     let mut alike = Vec::new(alloc);
     for _security in 0..securities {
-        let added = alike.push(SecurityConfig {
-            tick: settings.tick,
-            reference: settings.reference,
-            widths: settings.widths,
-            limit: settings.limit,
-        });
-        if added.is_err() {
+        let security = OPENING.security().ok_or(LoadFault)?;
+        if alike.push(security).is_err() {
             return Err(LoadFault);
         }
     }
     Ok(SegmentConfig {
-        today: settings.today,
-        members: settings.members,
+        today: TODAY,
+        members: OPENING.members,
         securities: Securities::new(alike),
     })
 }

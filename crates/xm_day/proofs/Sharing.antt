@@ -13,7 +13,7 @@ use Rattle.xm_day.specs.declared.faults.DayFault.{DayFault}
 use Rattle.xm_day.specs.declared.faults.DayFault.TheVariants.{OutOfMemory}
 use Rattle.xm_day.specs.declared.report.DayReport.{DayReport}
 use Rattle.xm_desk.specs.declared.opening.OpenFault.{OpenFault}
-use Rattle.xm_desk.specs.declared.opening.OpenFault.TheVariants.{BadWidths, NoSecurity, TooMany, OutOfMemory as NoMemory}
+use Rattle.xm_desk.specs.declared.opening.OpenFault.TheVariants.{BadCarried, BadWidths, NoSecurity, TooMany, OutOfMemory as NoMemory}
 use Rattle.xm_board.specs.Journals.{unnumbered}
 use Rattle.xm_rules.specs.Step.{Journal, replay}
 use Rattle.xm_rules.specs.declared.settings.DeskSettings.{DeskSettings}
@@ -38,6 +38,7 @@ opened-is config workers (Err (NoMemory _)) few settings seats sound refused mem
 opened-is config workers (Err NoSecurity) few settings seats sound refused memory = sym (opening-is config workers few) ∙ refused (λ same. cc)
 opened-is config workers (Err TooMany) few settings seats sound refused memory = sym (opening-is config workers few) ∙ refused (λ same. cc)
 opened-is config workers (Err BadWidths) few settings seats sound refused memory = sym (opening-is config workers few) ∙ refused (λ same. cc)
+opened-is config workers (Err BadCarried) few settings seats sound refused memory = sym (opening-is config workers few) ∙ refused (λ same. cc)
 
 -- it is want of memory
 pub shared-if_memory : (settings : List DeskSettings) (workers : ℕ) (config : SegmentConfig) (rows : List Row) (result : Result (List WorkerView) DayFault) → IsErrAnd result (λ fault. fault ≡ OutOfMemory tt) → segment_fault config ≡ None

@@ -1,5 +1,6 @@
 -- The worked example of a day: three buys below one another, two stops, and a sell that reaches both.
 use Rattle.std.specs.Prelude.{codes, ℕ, ◌+◌, List, [], ◌∷◌, ◌++◌, replicate}
+use Rattle.xm_rules.specs.Entries.{none_left}
 use Rattle.xm_rules.specs.Examples.{enter, order, trade}
 use Rattle.xm_rules.specs.State.{State}
 use Rattle.xm_rules.specs.declared.commands.Command.{Command}
@@ -33,7 +34,7 @@ example_names = record { members = codes "AAA" ∷ codes "BBB" ∷ []; securitie
 
 -- ticks of a cent
 abbrev pub example_security : SecurityConfig
-example_security = record { tick = 100; reference = 1000; widths = record { dynamic = 20; statics = 50; wide = 40 }; limit = 100 }
+example_security = record { tick = 100; reference = 1000; widths = record { dynamic = 20; statics = 50; wide = 40 }; limit = 100; carried = none_left }
 
 abbrev pub example_config : SegmentConfig
 example_config = record { today = 20260105; members = 2; securities = example_security ∷ [] }

@@ -1,5 +1,5 @@
 //! What the definitions give on worked examples. Each function promises one by its contract.
-#![tactic(auto, unfolding(xm_rules::specs::Refusals::refusal_of, xm_rules::specs::Step::step))]
+#![tactic(auto, unfolding(xm_rules::specs::Opening::opening, xm_rules::specs::Refusals::refusal_of, xm_rules::specs::Step::step))]
 
 ghost use Rattle.std.specs.Prelude.{◌≡◌, codes, map, negsuc, pos, false, true, Err, None, Some, [], ◌∷◌, ◌++◌};
 ghost use Rattle.xm_day.specs.Checks.{check_line};

@@ -28,6 +28,7 @@ abbrev pub open_name : OpenFault → List ℕ
 open_name opening.NoSecurity = codes "NoSecurity"
 open_name opening.TooMany = codes "TooMany"
 open_name opening.BadWidths = codes "BadWidths"
+open_name opening.BadCarried = codes "BadCarried"
 open_name (opening.OutOfMemory _) = codes "OutOfMemory"
 
 -- a fault of a file: the file, the line and the cause

@@ -102,6 +102,7 @@ fn open_name(fault: OpenFault) -> &'static str
         OpenFault::NoSecurity => "NoSecurity",
         OpenFault::TooMany => "TooMany",
         OpenFault::BadWidths => "BadWidths",
+        OpenFault::BadCarried => "BadCarried",
         OpenFault::OutOfMemory(_) => "OutOfMemory",
     }
 }
