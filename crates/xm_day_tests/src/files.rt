@@ -1,3 +1,4 @@
+mod carry_files;
 mod damaged_fields;
 pub(crate) mod fixtures;
 mod hurtful;

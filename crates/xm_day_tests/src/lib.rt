@@ -73,6 +73,16 @@ macro_rules! second_orders {
     };
 }
 
+/// A carry file of these orders and stops.
+macro_rules! carried {
+    ($entries:expr) => {
+        concat!(
+            "security,member,reference,side,kind,limit,trigger,quantity,validity,restriction\n",
+            $entries
+        )
+    };
+}
+
 #[cfg(test)]
 mod day;
 #[cfg(test)]

@@ -3,6 +3,7 @@
 //! each call in a test is proved.
 
 mod book_or_cancel;
+mod carried;
 mod cascades;
 mod day;
 mod growths;
@@ -10,7 +11,7 @@ mod opening;
 mod readers;
 
 use std::process::Abort;
-use xm_rules::{DeskSettings, Widths};
+use xm_rules::{Carried, DeskSettings, Widths};
 use xm_ticks::{JournalLimit, Price, TickSize};
 
 pub(crate) fn settings(rt: &impl Abort, limit: u32) -> DeskSettings {
@@ -25,5 +26,6 @@ pub(crate) fn settings(rt: &impl Abort, limit: u32) -> DeskSettings {
             wide: 40,
         },
         limit: JournalLimit::new(limit).expect(rt, "a limit"),
+        carried: Carried::none(),
     }
 }

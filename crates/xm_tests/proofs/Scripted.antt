@@ -9,6 +9,7 @@ use Rattle.xm_board.specs.Journals.{entry_of, grown, opening_of, quote_of, unnum
 use Rattle.xm_board.specs.declared.journal.Entry.{Entry}
 use Rattle.xm_board.specs.declared.journal.NumberedJournal.{NumberedJournal}
 use Rattle.xm_rules.proofs.Journals.{replay-push}
+use Rattle.xm_rules.specs.Opening.{opening}
 use Rattle.xm_rules.specs.Quote.{quote}
 use Rattle.xm_rules.specs.Refusals.{refusal_of}
 use Rattle.xm_rules.specs.State.{State, is_auction, last_auction_price, last_price}
@@ -143,12 +144,12 @@ abbrev pub called : NumberedJournal
 called = grown (opening_of script_settings) (entry_of 0 StartOpening)
 
 pub opened : Stands 0 0 (grown called (entry_of 0 Uncross))
-unfolding refusal_of replay step
+unfolding refusal_of replay step opening
 opened = record {
-  lawful = lawful-grown called (entry_of 0 Uncross) (starts script_settings) refl;
+  lawful = lawful-grown called (entry_of 0 Uncross) (starts script_settings refl) refl;
   there = record { trades = []; sweeps = 0; is = refl; last = refl; auction = refl; quantity = refl };
 }
 
 pub opened-quote : quote_before 0 0 ≡ quote_of (grown called (entry_of 0 Uncross))
-unfolding quote_of replay step
+unfolding quote_of replay step opening
 opened-quote = refl

@@ -2,6 +2,7 @@
 use Rattle.std.specs.Prelude.{◌≡◌, ℕ, ◌+◌, ◌*◌, ◌/◌, ◌%◌, ◌==◌, if◌then◌else◌, List, [], ◌∷◌, Option, Some, None}
 use Rattle.xm_board.specs.Journals.{IsLawful, unnumbered}
 use Rattle.xm_board.specs.declared.journal.NumberedJournal.{NumberedJournal}
+use Rattle.xm_rules.specs.Entries.{none_left}
 use Rattle.xm_rules.specs.State.{State, last_auction_price, last_price}
 use Rattle.xm_rules.specs.Step.{replay}
 use Rattle.xm_rules.specs.Sums.{total_quantity}
@@ -25,7 +26,7 @@ use Rattle.xm_rules.specs.declared.settings.DeskSettings.{DeskSettings}
 
 abbrev pub script_settings : DeskSettings
 script_settings =
-    record { today = 20260105; members = 2; tick = 100; reference = 1000; widths = record { dynamic = 20; statics = 50; wide = 40 }; limit = 30000 }
+    record { today = 20260105; members = 2; tick = 100; reference = 1000; widths = record { dynamic = 20; statics = 50; wide = 40 }; limit = 30000; carried = none_left }
 
 -- the limit of both orders of a turn's call
 abbrev pub call_limit : ℕ → ℕ

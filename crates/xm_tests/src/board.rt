@@ -1,6 +1,7 @@
 //! A board whose quotes are read: what is published is seen.
 ghost use Rattle.std.specs.Prelude.{◌≡◌, None};
 ghost use Rattle.xm_board.specs.Journals.{IsLawful, entry_of, grown, opening_of, quote_of};
+ghost use Rattle.xm_rules.specs.Entries.{none_left};
 ghost use Rattle.xm_rules.specs.declared.commands.Command.TheVariants.{StartOpening};
 
 mod script;
@@ -10,7 +11,7 @@ use std::marker::Brand;
 use std::process::Abort;
 use xm_board::{Board, BoardNaming, Opened};
 use xm_memory::OutOfMemory;
-use xm_rules::{Auction, CallStage, Command, DeskSettings, Phase, Quote, Widths};
+use xm_rules::{Auction, CallStage, Carried, Command, DeskSettings, Phase, Quote, Widths};
 use xm_ticks::{JournalLimit, Price, TickSize};
 
 /// What two watches read: both before the opening call was published, one after, and the other when it was told.
@@ -70,11 +71,13 @@ fn read_on<N: BoardNaming, A: Allocator + Copy>(
     }))
 }
 
-/// Opens a board for two watches, and reads on it.
+/// Opens a board for two watches, for settings that carry nothing, and reads on it.
 pub fn read<A: Allocator + Copy>(
     alloc: A,
     settings: &DeskSettings,
-) -> Result<Option<Seen>, OutOfMemory> {
+) -> Result<Option<Seen>, OutOfMemory>
+    requires { settings.now.carried ≡ none_left }
+{
     let quote = quote_in(settings, 0, Phase::PreTrading);
     let opened = Opened::new(alloc, settings, &quote)?;
     let first = quote_in(
@@ -86,7 +89,9 @@ pub fn read<A: Allocator + Copy>(
 }
 
 /// The settings of a security.
-pub fn settings(rt: &impl Abort) -> DeskSettings {
+pub fn settings(rt: &impl Abort) -> DeskSettings
+    ensures { result.carried ≡ none_left }
+{
     DeskSettings {
         today: 20260105,
         members: 2,
@@ -98,6 +103,7 @@ pub fn settings(rt: &impl Abort) -> DeskSettings {
             wide: 40,
         },
         limit: JournalLimit::new(100).expect(rt, "a limit"),
+        carried: Carried::none(),
     }
 }
 

@@ -89,7 +89,7 @@ fn worked(
         .as_slice()
         .first()
         .expect(rt, "a security");
-    let settings = config.settings_of(security);
+    let settings = config.settings_of(security).expect(rt, "memory");
     let mut desk = Desk::open(Storage::with_fixed_seed(rt.alloc()), settings).expect(rt, "a desk");
     let report = take(&mut desk, rows);
     (desk, report)

@@ -137,7 +137,7 @@ impl<A: Allocator + Copy> Day<A> {
     pub fn shows_as(&self, rt: &impl Abort, like: &Day<A>) -> bool {
         let (orders, others) = (self.orders(), like.orders());
         let (stops, held) = (self.stops(), like.stops());
-        self.settings() == like.settings()
+        are_alike(self.settings(), like.settings())
             && self.desk.quote() == like.desk.quote()
             && self.indicative() == like.indicative()
             && self.journal() == like.journal()
@@ -287,4 +287,16 @@ fn are_held(rt: &impl Abort, stops: &[Stop], held: &[Held]) {
     for (stop, held) in stops.iter().zip(held) {
         assert!(rt; is_held(stop, *held), "in place of {held:?}");
     }
+}
+
+/// Whether two settings open the same desk.
+pub(crate) fn are_alike(settings: &DeskSettings, other: &DeskSettings) -> bool {
+    settings.today == other.today
+        && settings.members == other.members
+        && settings.tick == other.tick
+        && settings.reference == other.reference
+        && settings.widths == other.widths
+        && settings.limit == other.limit
+        && settings.carried.orders() == other.carried.orders()
+        && settings.carried.stops() == other.carried.stops()
 }

@@ -1,4 +1,5 @@
 //! Growths of a desk that are refused.
+use super::carried::{HELD, LEFT, carrying};
 use super::cascades::{SELL, filled};
 use super::day::Day;
 use super::settings;
@@ -9,7 +10,10 @@ use xm_desk::OpenFault;
 use xm_memory::OutOfMemory;
 use xm_names::Storage;
 use xm_refusing::{Counted, Refusing, Tried, refuse_all};
-use xm_rules::{Command, Condition, Kind, Order, Refusal, Restriction, Side, Stop, Validity};
+use xm_rules::{
+    Carried, Command, Condition, DeskSettings, Kind, Order, Refusal, Restriction, Side, Stop,
+    Validity,
+};
 use xm_segment::{Securities, SecurityConfig, SegmentConfig, open_desks};
 
 /// A day of all kinds of commands.
@@ -55,6 +59,8 @@ enum Call {
     OpenDesks(usize),
     /// `Desk::open`, in place of the desk that there is.
     Open,
+    /// The same, with what earlier days left.
+    OpenCarrying,
     /// `Desk::reserve`, for so many commands.
     Reserve(usize),
     /// `Desk::apply`.
@@ -94,10 +100,11 @@ macro_rules! next {
 /// Where room was made ahead, commands ask for no more than their orders' places; where a sell and the journal have their room, a
 /// cascade of any length asks for nothing. A list first asks for room for its whole answer, and grows as it goes where it can't
 /// have that.
-const CALLS: [Counted<(Before, Call)>; 49] = [
+const CALLS: [Counted<(Before, Call)>; 50] = [
     ((Before::Commands(1), Call::OpenDesks(1)), 2, 0),
     ((Before::Commands(1), Call::OpenDesks(8)), 12, 0),
     ((Before::Commands(1), Call::Open), 1, 0),
+    ((Before::Commands(1), Call::OpenCarrying), 60, 0),
     (next!(Commands, 0), 23, 0),
     (next!(Commands, 1), 0, 0),
     (next!(Commands, 2), 5, 0),
@@ -199,6 +206,7 @@ fn segment(rt: &(impl Abort + AllocGlobal), securities: usize) -> SegmentConfig 
             reference: settings.reference,
             widths: settings.widths,
             limit: settings.limit,
+            carried: Carried::none(),
         };
         all.push(security).ok().expect(rt, "memory");
     }
@@ -244,8 +252,8 @@ impl<A: Allocator + Copy> Opened<A> {
         }
     }
 
-    fn open(&mut self, rt: &impl Abort) -> Result<(), OutOfMemory> {
-        match Day::opened(self.alloc, settings(rt, 100)) {
+    fn open(&mut self, rt: &impl Abort, settings: DeskSettings) -> Result<(), OutOfMemory> {
+        match Day::opened(self.alloc, settings) {
             Ok(day) => {
                 self.day = day;
                 Ok(())
@@ -278,7 +286,8 @@ impl<A: Allocator + Copy, R: Abort + AllocGlobal> Tried<A, R> for Opened<A> {
     fn make(&mut self, rt: &R, (_, call): &(Before, Call)) -> Result<(), OutOfMemory> {
         match *call {
             Call::OpenDesks(securities) => self.open_desks(rt, &segment(rt, securities)),
-            Call::Open => self.open(rt),
+            Call::Open => self.open(rt, settings(rt, 100)),
+            Call::OpenCarrying => self.open(rt, carrying(rt, &LEFT, &HELD)),
             Call::Reserve(commands) => self.day.reserve(commands),
             Call::Apply(command) => self.apply(rt, command),
             Call::Next(index) => {

@@ -55,5 +55,10 @@ fn texts_of_opening_faults(rt: HostRuntime) {
     has_text(&rt, OpenFault::NoSecurity, "no security");
     has_text(&rt, OpenFault::TooMany, "too many securities or members");
     has_text(&rt, OpenFault::BadWidths, "bad widths of the price ranges");
+    has_text(
+        &rt,
+        OpenFault::BadCarried,
+        "bad orders or stops of earlier days",
+    );
     has_text(&rt, refused_opening(&rt), "out of memory");
 }

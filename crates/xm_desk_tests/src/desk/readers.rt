@@ -1,5 +1,5 @@
 //! Calls of a desk that no file makes, each once after a short day, and refusals of commands that no order file gives.
-use super::day::{Day, Made, Step};
+use super::day::{Day, Made, Step, are_alike};
 use super::settings;
 use std::alloc::Global;
 use std::process::Abort;
@@ -26,7 +26,7 @@ const COMMANDS: [Command; 9] = [
 const MADE: [Made; 1] = [(1, 1000, 4, (0, 1), (1, 1))];
 
 fn shows_its_state(rt: &impl Abort, day: &Day<Global>) {
-    assert!(rt; *day.settings() == settings(rt, 100));
+    assert!(rt; are_alike(day.settings(), &settings(rt, 100)));
     assert!(rt; day.phase() == CLOSING);
     assert!(rt; day.journal() == COMMANDS.as_slice());
     day.has_made(rt, &MADE);

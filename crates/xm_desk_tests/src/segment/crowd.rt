@@ -198,7 +198,8 @@ impl Crowd {
 /// The quote of each version of a desk's journal.
 fn replayed<R: AllocGlobal + Abort>(rt: &R, desk: &Desk<Global>) -> Vec<Quote> {
     let storage = Storage::with_fixed_seed(rt.alloc());
-    let again = Desk::open(storage, *desk.settings());
+    let settings = desk.settings().copied().expect(rt, "memory");
+    let again = Desk::open(storage, settings);
     let mut again = again.ok().expect(rt, "a desk");
     let mut quotes = Vec::new(rt.alloc());
     quotes.push(again.quote()).ok().expect(rt, "memory");

@@ -8,7 +8,7 @@ use std::sync::Wait;
 use xm_desk::{Desk, OpenFault};
 use xm_memory::OutOfMemory;
 use xm_names::Storage;
-use xm_rules::{Command, Phase, Quote, Refusal, Reply, Widths};
+use xm_rules::{Carried, Command, Phase, Quote, Refusal, Reply, Widths};
 use xm_segment::{
     GatherFault, Gathered, Naming, Opened, Seat, Securities, SecurityConfig, Segment,
     SegmentConfig, WatchRow,
@@ -76,6 +76,7 @@ fn security(rt: &impl Abort, size: &Size, limit: u32) -> SecurityConfig {
             wide,
         },
         limit: JournalLimit::new(limit).expect(rt, "a limit"),
+        carried: Carried::none(),
     }
 }
 

@@ -13,8 +13,8 @@ use std::thread::{self, Threads};
 use xm_board::{Board, BoardNaming, Opened, Pen, Watch};
 use xm_memory::OutOfMemory;
 use xm_rules::{
-    Auction, CallStage, Command, Condition, DeskSettings, Kind, Phase, Quote, Restriction, Side,
-    Validity, Widths,
+    Auction, CallStage, Carried, Command, Condition, DeskSettings, Kind, Phase, Quote, Restriction,
+    Side, Validity, Widths,
 };
 use xm_ticks::{JournalLimit, Price, TickSize};
 
@@ -45,6 +45,7 @@ fn script_settings() -> DeskSettings
             wide: 40,
         },
         limit: JournalLimit::new(30_000).unwrap(),
+        carried: Carried::none(),
     }
 }
 

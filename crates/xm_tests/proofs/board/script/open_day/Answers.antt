@@ -1,4 +1,4 @@
-use Rattle.std.proofs.Common.{◌≡◌, ap, sym, ◌∙◌, subst}
+use Rattle.std.proofs.Common.{◌≡◌, refl, ap, sym, ◌∙◌, subst}
 use Rattle.xm_tests.proofs.Scripted.{called, opened, opened-quote}
 use Rattle.xm_tests.proofs.Starting.{second-quote, starts}
 use Rattle.xm_tests.specs.Script.{Stands, script_settings}
@@ -9,12 +9,12 @@ use Rattle.xm_rules.specs.declared.settings.DeskSettings.{DeskSettings}
 use Rattle.xm_tests.proofs.board.script.open_day.Goals as goal
 
 pub publish-requires-clause-lawful : goal.publish-requires-clause-lawful
-publish-requires-clause-lawful g c = subst (λ (j : NumberedJournal). IsLawful (grown j (entry_of 0 StartOpening))) (sym c.requires) (starts script_settings)
+publish-requires-clause-lawful g c = subst (λ (j : NumberedJournal). IsLawful (grown j (entry_of 0 StartOpening))) (sym c.requires) (starts script_settings refl)
 
 pub publish-requires-clause-quote : goal.publish-requires-clause-quote
 publish-requires-clause-quote g c =
     c.quote_in-first.ensures ∙ ap (λ (s : DeskSettings). record { version = 1; phase = _; best_buy = _; best_sell = _; ref1 = s.reference; ref2 = s.reference; quantity = 0 }) c.script_settings.ensures
-    ∙ second-quote script_settings ∙ ap (λ (j : NumberedJournal). quote_of (grown j (entry_of 0 StartOpening))) (sym c.requires)
+    ∙ second-quote script_settings refl ∙ ap (λ (j : NumberedJournal). quote_of (grown j (entry_of 0 StartOpening))) (sym c.requires)
 
 pub publish-requires-2-clause-lawful : goal.publish-requires-2-clause-lawful
 publish-requires-2-clause-lawful g c =
