@@ -1,5 +1,5 @@
 -- The rows of one record of an order file.
-use Rattle.std.specs.Prelude.{ℕ, Bool, true, false, ◌&&◌, ◌||◌, if◌then◌else◌, nat_le, ◌==◌, List, [], ◌∷◌, ◌++◌, length, map, Option, Some, None, option_map, get_or, slice_get, take, Result, Ok, Err, codes}
+use Rattle.std.specs.Prelude.{◌≡◌, ℕ, Bool, true, false, ◌&&◌, ◌||◌, if◌then◌else◌, nat_le, ◌==◌, List, [], ◌∷◌, ◌++◌, length, map, Option, Some, None, option_map, get_or, slice_get, Result, Ok, Err, codes}
 use Rattle.std.specs.List.{list_all, list_any, position_or_len, range_with_len}
 use Rattle.std.specs.Option.{option_map_or}
 use Rattle.std.specs.Str.{bytes_eq}
@@ -31,7 +31,6 @@ use Rattle.xm_files.specs.declared.entries.Word.TheVariants as word
 use Rattle.xm_files.specs.declared.fields.TheConstants.{MAX_TEXT}
 use Rattle.xm_files.specs.declared.order_format.OrderFormat.{OrderFormat}
 use Rattle.xm_files.specs.declared.order_format.OrderFormat.TheVariants.{First, Second, Carry}
-use Rattle.xm_files.specs.declared.records.Fields.{Fields}
 use Rattle.xm_segment.specs.declared.rows.Row.{Row}
 
 -- the columns of the first format
@@ -114,17 +113,22 @@ column_place columns column = position_or_len (λ other. column_index other == c
 abbrev pub by_column : List Column → List (List ℕ) → List (List ℕ)
 by_column columns fields = map (λ column. get_or fields (column_place columns column) []) every_column
 
--- the fields of a record, in the order of its format
-abbrev pub record_of : Fields → List (List ℕ)
-record_of f = take (length (columns_of f.format)) (map (λ text. text.now) f.texts)
-
--- the fields of a record, by column
-unfoldable pub texts_of : Fields → List (List ℕ)
-texts_of f = by_column (columns_of f.format) (record_of f)
-
 -- the field in a column, of those by column
 abbrev pub field : Column → List (List ℕ) → List ℕ
 field column fields = get_or fields (column_index column) []
+
+-- a record of a format: its fields, in the order of the format's columns
+pub record RecordFields : Type 0 where
+  pub format : OrderFormat
+  pub in_order : List (List ℕ)
+
+-- the same fields, by column
+unfoldable pub texts_of : RecordFields → List (List ℕ)
+texts_of fields = by_column (columns_of fields.format) fields.in_order
+
+-- of texts by column, each whose column isn't one of these is empty
+abbrev pub HasNoOthers : List Column → List (List ℕ) → Type 0
+HasNoOthers columns texts = (column : Column) → column_place columns column ≡ length columns → field column texts ≡ []
 
 -- the header has a field for each column, which is the column's title
 abbrev pub is_header : OrderFormat → List (List ℕ) → Bool

@@ -1,6 +1,8 @@
 //! The columns of the order file and the carry file.
-ghost use Rattle.std.specs.Prelude.{◌≡◌};
-ghost use Rattle.xm_files.specs.Rows.{carry_columns, column_index, column_place, title_of};
+ghost use Rattle.std.specs.Prelude.{◌≡◌, ◌<◌};
+ghost use Rattle.xm_files.specs.Rows.{column_index, title_of};
+
+use crate::order_format::MOST_COLUMNS;
 
 /// A column that a format may have.
 #[derive(Clone, Copy, PartialEq, Eq, Debug)]
@@ -71,7 +73,8 @@ impl Column {
     /// Where the column stands among all.
     #[inline(always)]
     pub(crate) fn index(self) -> usize
-        ensures { result ≡ column_index self }
+        ensures index { result ≡ column_index self }
+        ensures within { result < MOST_COLUMNS }
     {
         match self {
             Column::Command => 0,
@@ -87,26 +90,6 @@ impl Column {
             Column::Restriction => 10,
             Column::Condition => 11,
             Column::Text => 12,
-        }
-    }
-
-    /// Where the column stands in the carry file; the number of its columns where it isn't one of them.
-    #[inline(always)]
-    pub(crate) fn carry_index(self) -> usize
-        ensures { result ≡ column_place carry_columns self }
-    {
-        match self {
-            Column::Security => 0,
-            Column::Member => 1,
-            Column::Reference => 2,
-            Column::Side => 3,
-            Column::Kind => 4,
-            Column::Limit => 5,
-            Column::Trigger => 6,
-            Column::Quantity => 7,
-            Column::Validity => 8,
-            Column::Restriction => 9,
-            Column::Command | Column::Condition | Column::Text => 10,
         }
     }
 

@@ -33,21 +33,6 @@ pub(crate) enum Word {
     End,
 }
 
-impl Word {
-    /// Every command word.
-    pub(crate) const ALL: [Word; 9] = [
-        Word::Enter,
-        Word::Change,
-        Word::Cancel,
-        Word::CancelAll,
-        Word::Open,
-        Word::Intraday,
-        Word::Close,
-        Word::Uncross,
-        Word::End,
-    ];
-}
-
 /// Whether a text is the word of a command that a member gives.
 pub(crate) fn names_members_command(text: &[u8]) -> bool
     ensures { result ≡ names_members_command text.now }
@@ -69,25 +54,22 @@ pub(crate) fn parse_entry(
     if fields.text(Column::Text).len() > MAX_TEXT {
         return None;
     }
-    let word = parse_word(fields.text(Column::Command))?;
-    if !fields.format().has_word(word) {
-        return None;
-    }
-    match word {
+    match fields.format().kind_in(fields.text(Column::Command))? {
         Word::Enter => enter(fields, names, config.securities.as_slice()),
         Word::Change => change(fields, names, config.securities.as_slice()),
         Word::Cancel => cancel(fields, names),
         Word::CancelAll => cancel_all(fields, names),
-        Word::Open => phase(fields, names, Command::StartOpening),
-        Word::Intraday => phase(fields, names, Command::StartIntraday),
-        Word::Close => phase(fields, names, Command::StartClosing),
-        Word::Uncross => phase(fields, names, Command::Uncross),
-        Word::End => phase(fields, names, Command::EndDay),
+        Word::Open => phase(fields, names, &Command::StartOpening),
+        Word::Intraday => phase(fields, names, &Command::StartIntraday),
+        Word::Close => phase(fields, names, &Command::StartClosing),
+        Word::Uncross => phase(fields, names, &Command::Uncross),
+        Word::End => phase(fields, names, &Command::EndDay),
     }
 }
 
 /// The command word of a text.
-fn parse_word(text: &[u8]) -> Option<Word>
+#[inline(always)]
+pub(crate) fn parse_word(text: &[u8]) -> Option<Word>
     ensures { result ≡ word_of text.now }
 {
     if is_word(text, "enter") {
@@ -343,15 +325,15 @@ fn cancel_all(fields: &Fields, names: &SegmentNames) -> Option<RecordEntry>
 }
 
 /// The phase command that a record gives to one security, or by `*` to each.
-fn phase(fields: &Fields, names: &SegmentNames, command: Command) -> Option<RecordEntry>
-    ensures { result ≡ phase_entry command names.now (texts_of fields.now) }
+fn phase(fields: &Fields, names: &SegmentNames, command: &Command) -> Option<RecordEntry>
+    ensures { result ≡ phase_entry command.now names.now (texts_of fields.now) }
 {
     if !fields.are_empty(&[Column::Member, Column::Reference]) || !fields.are_empty(&CANCEL_BLANK) {
         return None;
     }
     if is_word(fields.text(Column::Security), "*") {
-        return Some(RecordEntry::Each(command));
+        return Some(RecordEntry::Each(*command));
     }
     let security = security(fields, names)?;
-    Some(RecordEntry::One(security, command))
+    Some(RecordEntry::One(security, *command))
 }

@@ -1,5 +1,5 @@
 //! The header of an order file, which says the format of its records, and that of a carry file.
-ghost use Rattle.std.specs.Prelude.{◌≡◌, ◌≢◌, ◌+◌, ◌≤◌, length, None, IfOk, IfErr, IfSome};
+ghost use Rattle.std.specs.Prelude.{◌≡◌, ◌≢◌, ◌+◌, ◌≤◌, length, None, IfOk, IfErr, IfSome, IsSome};
 ghost use Rattle.std.specs.Bool.{OnTrue};
 ghost use Rattle.csv.specs.Reading.{strip_bom};
 ghost use Rattle.csv.specs.Records.{fields_of};
@@ -77,6 +77,27 @@ fn wide_header(text: &[u8]) -> Option<()>
     Some(())
 }
 
+/// Reads the first record of a text by CSV, which then waits, unless it is seen to have more fields than any header.
+fn csv_first_record<'a>(alloc: Global, text: &'a [u8]) -> Result<CsvRecords<'a>, FileFault>
+    requires { 1 + length text.now ≤ MAX_LINES }
+    ensures records { IfOk result (λ csv. with_ahead csv.ahead csv.behind ≡ records_in text.now) }
+    ensures waits { IfOk result (λ csv. IsSome csv.ahead) }
+    ensures line { IfOk result (λ csv. csv.line ≡ 1) }
+    ensures orders { IfErr result (λ fault. fault.cause ≢ FileCause.OutOfMemory tt → NoHeader (records_in text.now) fault) }
+    ensures carry { IfErr result (λ fault. fault.cause ≢ FileCause.OutOfMemory tt → NoCarryHeader (records_in text.now) fault) }
+    ensures memory { IfErr result (λ fault. OnTrue (is_from_outside fault.cause) (fault.line ≡ 0)) }
+{
+    if wide_header(text).is_some() {
+        return Err(no_header());
+    }
+    let mut csv = CsvRecords::of(alloc, text, 1);
+    match csv.look_ahead() {
+        Ok(true) => Ok(csv),
+        Ok(false) => Err(no_header()),
+        Err(wanting) => Err(FileFault::from(wanting)),
+    }
+}
+
 /// Reads the header of a text by CSV, unless it is seen to have too many fields: its format, and the records behind it.
 #[inline(never)]
 pub(crate) fn csv_behind_header<'a>(
@@ -89,15 +110,7 @@ pub(crate) fn csv_behind_header<'a>(
     ensures err { IfErr result (λ fault. fault.cause ≢ FileCause.OutOfMemory tt → NoHeader (records_in text.now) fault) }
     ensures memory { IfErr result (λ fault. OnTrue (is_from_outside fault.cause) (fault.line ≡ 0)) }
 {
-    if wide_header(text).is_some() {
-        return Err(no_header());
-    }
-    let mut csv = CsvRecords::of(alloc, text, 1);
-    match csv.look_ahead() {
-        Ok(true) => {}
-        Ok(false) => return Err(no_header()),
-        Err(wanting) => return Err(FileFault::from(wanting)),
-    }
+    let mut csv = csv_first_record(alloc, text)?;
     match format_of(csv.row()) {
         Some(format) => {
             csv.take();
@@ -119,15 +132,7 @@ pub(crate) fn csv_behind_carry_header<'a>(
     ensures err { IfErr result (λ fault. fault.cause ≢ FileCause.OutOfMemory tt → NoCarryHeader (records_in text.now) fault) }
     ensures memory { IfErr result (λ fault. OnTrue (is_from_outside fault.cause) (fault.line ≡ 0)) }
 {
-    if wide_header(text).is_some() {
-        return Err(no_header());
-    }
-    let mut csv = CsvRecords::of(alloc, text, 1);
-    match csv.look_ahead() {
-        Ok(true) => {}
-        Ok(false) => return Err(no_header()),
-        Err(wanting) => return Err(FileFault::from(wanting)),
-    }
+    let mut csv = csv_first_record(alloc, text)?;
     if is_header(OrderFormat::Carry, csv.row()) {
         csv.take();
         Ok(csv)

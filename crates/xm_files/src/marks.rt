@@ -76,10 +76,7 @@ impl<'a> Marks<'a> {
         ensures next { IfSome result (IsNextMark self.old) }
         ensures read { IfSome result (λ at. self.new ≡ record self.old { at = at + 1 }) }
     {
-        let (block, bits) = self.ahead();
-        if bits == 0 {
-            return None;
-        }
+        let (block, bits) = self.ahead()?;
         let bit = bits.trailing_zeros() as usize;
         let at = block + bit;
         self.block = block;
@@ -88,17 +85,18 @@ impl<'a> Marks<'a> {
         Some(at)
     }
 
-    /// Where the block of the next mark begins, and a bit for each of its marks that isn't read yet. There is none where no
-    /// whole block has one.
+    /// Where the block of the next mark begins, and a bit for each of its marks that isn't read yet. It is `None` where no whole
+    /// block has one.
     #[inline(always)]
-    fn ahead(&self) -> (usize, u64)
-        ensures { IsMarked self.now.text self.now.at result.0 result.1 }
+    fn ahead(&self) -> Option<(usize, u64)>
+        ensures marked { IfSome result (λ ahead. IsMarked self.now.text self.now.at ahead.0 ahead.1) }
+        ensures some { IfSome result (λ ahead. 0 < ahead.1) }
     {
-        if self.bits == 0 {
-            marked_block(self.text, self.block)
-        } else {
-            (self.block, self.bits)
+        if self.bits != 0 {
+            return Some((self.block, self.bits));
         }
+        let (block, bits) = marked_block(self.text, self.block);
+        if bits == 0 { None } else { Some((block, bits)) }
     }
 }
 

@@ -1,12 +1,12 @@
 //! The formats of order files and of the carry file: the columns of each, and its kinds of commands.
 ghost use Rattle.std.specs.Prelude.{◌≡◌};
-ghost use Rattle.xm_files.specs.Rows.{columns_of, has_condition, has_word, kinds_of, column_place};
+ghost use Rattle.xm_files.specs.Rows.{columns_of, has_condition, kind_in};
 
 use crate::columns::Column;
-use crate::entries::Word;
+use crate::entries::{Word, parse_word};
 use xm_rules::Condition;
 
-/// The most columns that a format has.
+/// How many columns there are, which is the most that a format has.
 pub(crate) const MOST_COLUMNS: usize = 13;
 
 /// A format of order files, or that of the carry file. It says which columns a record has, in which order, and which commands
@@ -33,34 +33,15 @@ impl OrderFormat {
         }
     }
 
-    /// Where a column stands; the number of columns where it isn't one of them.
+    /// The kind of command that a text names, if records give it.
     #[inline(always)]
-    pub(crate) fn place(self, column: Column) -> usize
-        ensures { result ≡ column_place (columns_of self) column }
+    pub(crate) fn kind_in(self, text: &[u8]) -> Option<Word>
+        ensures { result ≡ kind_in self text.now }
     {
         match self {
-            OrderFormat::First | OrderFormat::Second => column.index(),
-            OrderFormat::Carry => column.carry_index(),
+            OrderFormat::First | OrderFormat::Second => parse_word(text),
+            OrderFormat::Carry => None,
         }
-    }
-
-    /// The kinds of commands, by their words.
-    #[inline(always)]
-    fn kinds(self) -> &'static [Word]
-        ensures { result.now ≡ kinds_of self }
-    {
-        match self {
-            OrderFormat::First | OrderFormat::Second => &Word::ALL,
-            OrderFormat::Carry => &[],
-        }
-    }
-
-    /// Whether records give the kind of command with this word.
-    #[inline(always)]
-    pub(crate) fn has_word(self, word: Word) -> bool
-        ensures { result ≡ has_word self word }
-    {
-        self.kinds().iter().any(|other| *other == word)
     }
 
     /// Whether orders may have this condition.

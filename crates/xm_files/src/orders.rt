@@ -9,7 +9,7 @@ ghost use Rattle.xm_files.specs.Names.{NameLists};
 ghost use Rattle.xm_files.specs.Orders.{IsHeaded, NoHeader, orders_of, records_in, rows_after, with_record, with_rows};
 ghost use Rattle.xm_files.specs.Parts.{IsFull, IsRound, ends_before, is_so_far};
 ghost use Rattle.xm_files.specs.Plain.{IsBehind, rest_of};
-ghost use Rattle.xm_files.specs.Rows.{columns_of, command_in, record_of, rows_of_entry, rows_of_record};
+ghost use Rattle.xm_files.specs.Rows.{columns_of, command_in, rows_of_entry, rows_of_record};
 ghost use Rattle.xm_files.specs.Unread.{csv_left};
 
 use crate::batch::Batch;
@@ -448,9 +448,9 @@ fn add_record(
     names: &SegmentNames,
     config: &SegmentConfig,
 ) -> Result<(), FileFault>
-    ensures ok { OnOk result (with_rows line (rows_so_far batch.old) (rows_of_record fields.now.format names.now config.now line (record_of fields.now)) ≡ Ok (rows_so_far batch.new)) }
+    ensures ok { OnOk result (with_rows line (rows_so_far batch.old) (rows_of_record fields.now.format names.now config.now line fields.now.in_order) ≡ Ok (rows_so_far batch.new)) }
     ensures earlier { OnOk result (batch.new.earlier ≡ batch.old.earlier) }
-    ensures err { IfErr result (λ fault. fault.cause ≢ FileCause.OutOfMemory tt → with_rows line (rows_so_far batch.old) (rows_of_record fields.now.format names.now config.now line (record_of fields.now)) ≡ Err fault) }
+    ensures err { IfErr result (λ fault. fault.cause ≢ FileCause.OutOfMemory tt → with_rows line (rows_so_far batch.old) (rows_of_record fields.now.format names.now config.now line fields.now.in_order) ≡ Err fault) }
     ensures memory { IfErr result (λ fault. OnTrue (is_from_outside fault.cause) (fault.line ≡ 0)) }
 {
     let entry = parse_entry(fields, names, config).ok_or(fault_at(line, FileCause::BadField))?;

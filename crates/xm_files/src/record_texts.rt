@@ -154,9 +154,9 @@ fn header_has_texts(alloc: Global, bytes: &[u8]) -> Result<bool, OutOfMemory>
     Ok(csv.look_ahead()? && is_header(OrderFormat::Second, csv.row()))
 }
 
-/// The text of a record of the second format.
+/// The text of a record of the second format, which has every column.
 fn text_in(row: &ByteRecord) -> &[u8]
     ensures { result.now ≡ text_in (fields_of row.now) }
 {
-    text_at(row, OrderFormat::Second.place(Column::Text))
+    text_at(row, Column::Text.index())
 }

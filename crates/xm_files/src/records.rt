@@ -4,36 +4,48 @@ ghost use Rattle.std.specs.List.{list_all};
 ghost use Rattle.std.specs.Str.{bytes_eq};
 ghost use Rattle.csv.specs.Records.{fields_of};
 ghost use Rattle.xm_files.specs.Plain.{IsBehind, ReadsLine, rest_of};
-ghost use Rattle.xm_files.specs.Rows.{are_empty, columns_of, field, is_header, record_of, texts_of, title_of};
+ghost use Rattle.xm_files.specs.Rows.{are_empty, columns_of, field, is_header, texts_of, title_of};
 
 use crate::columns::Column;
 use crate::marks::Marks;
 use crate::order_format::{MOST_COLUMNS, OrderFormat};
 use csv::ByteRecord;
+use std::marker::Model;
 
-/// The fields of a record of a format.
-#[derive(Clone, Copy)]
+/// The fields of a record of a format. A clause sees them in the order of the format's columns.
+#[derive(Drop)]
 pub(crate) struct Fields<'a> {
     format: OrderFormat,
-    // In the order of the format's columns; those behind them are no fields.
+    // By column, whatever the format, so that none is looked for. Those of columns that the format doesn't have are empty.
     texts: [&'a [u8]; MOST_COLUMNS],
+}
+
+impl<'a> Model for Fields<'a> {
+    ghost use Rattle.std.specs.Prelude.{map};
+    ghost use Rattle.xm_files.specs.Rows.{HasNoOthers, RecordFields, columns_of, field};
+
+    ghost Value = { RecordFields };
+
+    ghost view = { λ f. record { format = f.format; in_order = map (λ column. field column (map (λ text. text.now) f.texts)) (columns_of f.format) } };
+
+    ghost invariant = { λ f. HasNoOthers (columns_of f.format) (map (λ text. text.now) f.texts) };
 }
 
 impl<'a> Fields<'a> {
     /// The record that CSV read, if it has a field for each column.
     pub(crate) fn of(format: OrderFormat, row: &'a ByteRecord) -> Option<Fields<'a>>
-        ensures fields { option_map record_of result ≡ (if length (fields_of row.now) == length (columns_of format) then Some (fields_of row.now) else None) }
+        ensures fields { option_map (λ fields. fields.in_order) result ≡ (if length (fields_of row.now) == length (columns_of format) then Some (fields_of row.now) else None) }
         ensures format { IfSome result (λ fields. fields.format ≡ format) }
     {
-        let count = format.columns().len();
-        if row.len() != count {
+        let columns = format.columns();
+        if row.len() != columns.len() {
             return None;
         }
-        let mut fields = Fields::empty(format);
-        for place in 0..count {
-            fields.texts[place] = text_at(row, place);
+        let mut texts: [&[u8]; MOST_COLUMNS] = [&[]; MOST_COLUMNS];
+        for place in 0..columns.len() {
+            texts[columns[place].index()] = text_at(row, place);
         }
-        Some(fields)
+        Some(Fields { format, texts })
     }
 
     /// A record of empty fields.
@@ -53,8 +65,8 @@ impl<'a> Fields<'a> {
     pub(crate) fn read_line(&mut self, line: &mut Marks<'a>) -> Option<()>
         ensures text { line.new.text ≡ line.old.text }
         ensures format { self.new.format ≡ self.old.format }
-        ensures line { IfSome result (λ _. ReadsLine (rest_of line.old) (record_of self.new) (rest_of line.new)) }
-        ensures count { IfSome result (λ _. length (record_of self.new) ≡ length (columns_of self.old.format)) }
+        ensures line { IfSome result (λ _. ReadsLine (rest_of line.old) self.new.in_order (rest_of line.new)) }
+        ensures count { IfSome result (λ _. length self.new.in_order ≡ length (columns_of self.old.format)) }
         ensures behind { IfSome result (λ _. IsBehind 10 line.new) }
     {
         match self.format {
@@ -70,16 +82,17 @@ impl<'a> Fields<'a> {
         requires { self.old.format ≡ format }
         ensures text { line.new.text ≡ line.old.text }
         ensures format { self.new.format ≡ format }
-        ensures line { IfSome result (λ _. ReadsLine (rest_of line.old) (record_of self.new) (rest_of line.new)) }
-        ensures count { IfSome result (λ _. length (record_of self.new) ≡ length (columns_of format)) }
+        ensures line { IfSome result (λ _. ReadsLine (rest_of line.old) self.new.in_order (rest_of line.new)) }
+        ensures count { IfSome result (λ _. length self.new.in_order ≡ length (columns_of format)) }
         ensures behind { IfSome result (λ _. IsBehind 10 line.new) }
     {
-        let last = format.columns().len() - 1;
-        self.texts[0] = line.field(b',')?;
+        let columns = format.columns();
+        let last = columns.len() - 1;
+        self.texts[columns[0].index()] = line.field(b',')?;
         for place in 1..last {
-            self.texts[place] = line.field(b',')?;
+            self.texts[columns[place].index()] = line.field(b',')?;
         }
-        self.texts[last] = line.field(b'\n')?;
+        self.texts[columns[last].index()] = line.field(b'\n')?;
         Some(())
     }
 
@@ -96,12 +109,7 @@ impl<'a> Fields<'a> {
     pub(crate) fn text(&self, column: Column) -> &'a [u8]
         ensures { result.now ≡ field column (texts_of self.now) }
     {
-        let place = self.format.place(column);
-        if place < self.format.columns().len() {
-            self.texts[place]
-        } else {
-            &[]
-        }
+        self.texts[column.index()]
     }
 
     /// Whether the fields in these columns are empty.
@@ -114,7 +122,7 @@ impl<'a> Fields<'a> {
 
     /// Whether it is the header: the field of each column is the column's title.
     pub(crate) fn is_header(&self) -> bool
-        ensures { result ≡ is_header self.now.format (record_of self.now) }
+        ensures { result ≡ is_header self.now.format self.now.in_order }
     {
         has_titles(self, self.format.columns())
     }

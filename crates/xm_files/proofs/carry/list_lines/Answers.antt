@@ -3,7 +3,7 @@ use Rattle.xm_files.proofs.LineRecords.{line-shorter}
 use Rattle.xm_files.proofs.Listing.{listing-begins, listing-ends, listing-fault, listing-more}
 use Rattle.xm_files.specs.Carry.{listed_in, with_listed}
 use Rattle.xm_files.specs.Plain.{rest_of}
-use Rattle.xm_files.specs.Rows.{by_column, carry_columns, columns_of, record_of, texts_of}
+use Rattle.xm_files.specs.Rows.{by_column, carry_columns, columns_of, texts_of}
 use Rattle.xm_files.specs.declared.order_format.OrderFormat.{OrderFormat}
 use Rattle.xm_files.proofs.carry.list_lines.Goals as goal
 
@@ -23,7 +23,7 @@ pub returns-in-Err-clause-err : goal.returns-in-Err-clause-err
 unfolding texts_of
 returns-in-Err-clause-err c = λ h.
     let read = c.in-Some-read_line in
-    let fields = record_of c.read_line.new.self in
+    let fields = c.read_line.new.self.in_order in
     let same = read.ensures.format ∙ c.lines.invariant.format in
     let count : length fields ≡ 10 = read.ensures.count ∙ ap (λ (f : OrderFormat). length (columns_of f)) c.lines.invariant.format in
     let bad : with_listed c.lines.line c.lines.lists (listed_in c.args.names.now c.args.securities.now (by_column carry_columns fields)) ≡ Err c.in-Err.fault =
@@ -31,13 +31,13 @@ returns-in-Err-clause-err c = λ h.
     listing-fault c.args.names.now c.args.securities.now _ (rest_of c.lines.marks) (rest_of c.read_line.new.line) c.lines.line c.lines.lists fields c.in-Err.fault c.lines.invariant.read read.ensures.line count bad
 
 pub lines-smaller : goal.lines-smaller
-lines-smaller c = line-shorter (rest_of c.lines.marks) (rest_of c.read_line.new.line) (record_of c.read_line.new.self) c.in-Some-read_line.ensures.line
+lines-smaller c = line-shorter (rest_of c.lines.marks) (rest_of c.read_line.new.line) c.read_line.new.self.in_order c.in-Some-read_line.ensures.line
 
 pub lines-preserved : goal.lines-preserved
 unfolding texts_of
 lines-preserved c =
     let read = c.in-Some-read_line in
-    let fields = record_of c.read_line.new.self in
+    let fields = c.read_line.new.self.in_order in
     let same = read.ensures.format ∙ c.lines.invariant.format in
     let count : length fields ≡ 10 = read.ensures.count ∙ ap (λ (f : OrderFormat). length (columns_of f)) c.lines.invariant.format in
     let onward = c.lines.invariant.onward in

@@ -7,7 +7,7 @@ use Rattle.xm_files.specs.Batches.{rows_so_far, text_left}
 use Rattle.xm_files.specs.Orders.{with_rows}
 use Rattle.xm_files.specs.Parts.{ends_before}
 use Rattle.xm_files.specs.Plain.{rest_of}
-use Rattle.xm_files.specs.Rows.{columns_of, command_in, field, record_of, rows_of_record, texts_of}
+use Rattle.xm_files.specs.Rows.{columns_of, command_in, field, rows_of_record, texts_of}
 use Rattle.xm_files.specs.declared.columns.Column.TheVariants as column
 use Rattle.xm_files.specs.declared.order_format.OrderFormat.{OrderFormat}
 use Rattle.xm_files.proofs.orders.add_lines.Goals as goal
@@ -42,7 +42,7 @@ pub returns-then-ends_before-clause-round : goal.returns-then-ends_before-clause
 unfolding texts_of
 returns-then-ends_before-clause-round c = λ round ended.
     let read = c.in-Some-read_line in
-    let fields = record_of c.read_line.new.self in
+    let fields = c.read_line.new.self.in_order in
     let same = read.ensures.format ∙ c.lines.invariant.format in
     let count = read.ensures.count ∙ ap (λ (f : OrderFormat). length (columns_of f)) c.lines.invariant.format in
     let text = ap (λ (f : OrderFormat). command_in f fields) same in
@@ -57,18 +57,18 @@ returns-in-Err-clause-err c =
     let same = read.ensures.format ∙ c.lines.invariant.format in
     let count = read.ensures.count ∙ ap (λ (f : OrderFormat). length (columns_of f)) c.lines.invariant.format in
     let fault = c.in-Err.fault in
-    λ h. lines-fault c.args.names.now c.args.config.now c.args.format c.read_line.new.self.format _ (rest_of c.lines.marks) (rest_of c.read_line.new.line) c.lines.line (rows_so_far c.lines.batch) (record_of c.read_line.new.self) fault c.lines.invariant.read read.ensures.line same count (c.in-Err.ensures.err h)
+    λ h. lines-fault c.args.names.now c.args.config.now c.args.format c.read_line.new.self.format _ (rest_of c.lines.marks) (rest_of c.read_line.new.line) c.lines.line (rows_so_far c.lines.batch) c.read_line.new.self.in_order fault c.lines.invariant.read read.ensures.line same count (c.in-Err.ensures.err h)
 
 pub lines-smaller : goal.lines-smaller
 lines-smaller c =
     let read = c.in-Some-read_line in
-    line-shorter (rest_of c.lines.marks) (rest_of c.read_line.new.line) (record_of c.read_line.new.self) read.ensures.line
+    line-shorter (rest_of c.lines.marks) (rest_of c.read_line.new.line) c.read_line.new.self.in_order read.ensures.line
 
 pub lines-preserved : goal.lines-preserved
 unfolding texts_of
 lines-preserved c =
     let read = c.in-Some-read_line in
-    let fields = record_of c.read_line.new.self in
+    let fields = c.read_line.new.self.in_order in
     let same = read.ensures.format ∙ c.lines.invariant.format in
     let count = read.ensures.count ∙ ap (λ (f : OrderFormat). length (columns_of f)) c.lines.invariant.format in
     let onward = c.lines.invariant.onward in
@@ -92,14 +92,14 @@ returns-then-is_whole_part-clause-ok c =
     let read = c.in-Some-read_line in
     let same = read.ensures.format ∙ c.lines.invariant.format in
     let count = read.ensures.count ∙ ap (λ (f : OrderFormat). length (columns_of f)) c.lines.invariant.format in
-    let more = lines-more c.args.names.now c.args.config.now c.args.format c.read_line.new.self.format _ (rest_of c.lines.marks) (rest_of c.read_line.new.line) c.lines.line (rows_so_far c.lines.batch) (rows_so_far c.add_record.new.batch) (record_of c.read_line.new.self) c.lines.invariant.read read.ensures.line same count
+    let more = lines-more c.args.names.now c.args.config.now c.args.format c.read_line.new.self.format _ (rest_of c.lines.marks) (rest_of c.read_line.new.line) c.lines.line (rows_so_far c.lines.batch) (rows_so_far c.add_record.new.batch) c.read_line.new.self.in_order c.lines.invariant.read read.ensures.line same count
     c.in-Ok.ensures.ok in
     lines-end c.args.names.now c.args.config.now c.args.format _ c.left.result.now (rest_of c.read_line.new.line) (c.lines.line + 1) (rows_so_far c.add_record.new.batch) more (c.left.ensures ∙ read.ensures.behind)
 
 pub returns-then-is_whole_part-clause-lines : goal.returns-then-is_whole_part-clause-lines
 returns-then-is_whole_part-clause-lines c =
     let read = c.in-Some-read_line in
-    let more = line-shorter (rest_of c.lines.marks) (rest_of c.read_line.new.line) (record_of c.read_line.new.self) read.ensures.line in
+    let more = line-shorter (rest_of c.lines.marks) (rest_of c.read_line.new.line) c.read_line.new.self.in_order read.ensures.line in
     let left = ap length (c.left.ensures ∙ read.ensures.behind) in
     let lines = c.lines.invariant.read.lines in
     let onward = c.lines.invariant.onward in
