@@ -29,3 +29,7 @@ mod CsvParts
 mod Advances
 mod TextsOf
 mod WideRecords
+pub mod WrittenNumbers
+pub mod WrittenLines
+pub mod WrittenFields
+pub mod ReadBack
