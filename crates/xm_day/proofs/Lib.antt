@@ -1,7 +1,10 @@
 pub mod Lines
 pub mod Days
 pub mod Endings
+pub mod Written
 mod CashSums
+mod Cutting
+mod Leaving
 mod SharedOut
 mod Sharing
 mod Crosses
@@ -12,3 +15,6 @@ mod Stands
 mod Worked
 mod Tells
 mod Feeding
+mod LeftInRange
+mod CarryTexts
+mod CarriedBack

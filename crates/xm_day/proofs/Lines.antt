@@ -9,7 +9,7 @@ use Rattle.xm_rules.specs.declared.orders.Order.{Order}
 use Rattle.xm_rules.specs.declared.orders.Stop.{Stop}
 use Rattle.xm_rules.specs.declared.orders.Trade.{Trade}
 use Rattle.xm_files.specs.Names.{NameLists}
-use Rattle.xm_day.specs.Statement.{heading_text, member_indices, name_at, net_line, order_line, securities_text, security_text, stop_line, today_of, total_text, trade_line}
+use Rattle.xm_day.specs.Statement.{each_text, heading_text, member_indices, name_at, net_line, order_line, security_text, stop_line, today_of, total_text, trade_line}
 
 -- one more number of a range
 pub range_with_len-more : (from n : ℕ) → range_with_len from (n + 1) ≡ range_with_len from n ++ (from + n) ∷ []
@@ -26,14 +26,14 @@ lines-more line text n =
     flat_map_more line text (range_with_len 0 n) n ∙ ap (λ (ks : List ℕ). text ++ flat_map line ks) (sym (range_with_len-more 0 n ∙ ap (λ (k : ℕ). range_with_len 0 n ++ k ∷ []) last))
 
 -- one more security
-pub securities_text-more : (names : NameLists) (index : ℕ) (states : List State) (s : State) → securities_text names index (states ++ s ∷ []) ≡ securities_text names index states ++ security_text names (index + length states) s
-securities_text-more names index [] s =
+each_text-more : (text_of : ℕ → State → List ℕ) (index : ℕ) (states : List State) (s : State) → each_text text_of index (states ++ s ∷ []) ≡ each_text text_of index states ++ text_of (index + length states) s
+each_text-more text_of index [] s =
     let same : index ≡ index + 0 = omega arith in
-    append-nil (security_text names index s) ∙ ap (λ (k : ℕ). security_text names k s) same
-securities_text-more names index (t ∷ ts) s =
+    append-nil (text_of index s) ∙ ap (λ (k : ℕ). text_of k s) same
+each_text-more text_of index (t ∷ ts) s =
     let same : index + 1 + length ts ≡ index + length (t ∷ ts) = omega arith in
-    ap (λ (text : List ℕ). security_text names index t ++ text) (securities_text-more names (index + 1) ts s ∙ ap (λ (k : ℕ). securities_text names (index + 1) ts ++ security_text names k s) same)
-    ∙ sym (append_assoc (security_text names index t) (securities_text names (index + 1) ts) (security_text names (index + length (t ∷ ts)) s))
+    ap (λ (text : List ℕ). text_of index t ++ text) (each_text-more text_of (index + 1) ts s ∙ ap (λ (k : ℕ). each_text text_of (index + 1) ts ++ text_of k s) same)
+    ∙ sym (append_assoc (text_of index t) (each_text text_of (index + 1) ts) (text_of (index + length (t ∷ ts)) s))
 
 parts : (text heading trades orders stops nets total : List ℕ)
     → (((((text ++ heading) ++ trades) ++ orders) ++ stops) ++ nets) ++ total ≡ text ++ (((((heading ++ trades) ++ orders) ++ stops) ++ nets) ++ total)
@@ -64,15 +64,24 @@ security-written names index s size trades orders stops text t1 t2 t3 t4 t5 t6 a
     (flat_map (stop_line names tick) s.stops) (flat_map (net_line names s) (member_indices names)) (total_text tick (total_quantity s.trades) (total_money s.trades))
 
 -- the securities up to one, and it
-pub securities-taken : (names : NameLists) (js : List Journal) (i : ℕ) (j : Journal) → i < length js → j ≡ get_or js i j
-    → securities_text names 0 (map replay (take (i + 1) js)) ≡ securities_text names 0 (map replay (take i js)) ++ security_text names i (replay j)
-securities-taken names js i j within is =
+each-taken : (text_of : ℕ → State → List ℕ) (js : List Journal) (i : ℕ) (j : Journal) → i < length js → j ≡ get_or js i j
+    → each_text text_of 0 (map replay (take (i + 1) js)) ≡ each_text text_of 0 (map replay (take i js)) ++ text_of i (replay j)
+each-taken text_of js i j within is =
     let more = take_more js i j within ∙ ap (λ (k : Journal). take i js ++ k ∷ []) (sym is) in
     let place : 0 + length (map replay (take i js)) ≡ i = simp (length-map, length-take) (omega arith) in
-    ap (λ (ks : List Journal). securities_text names 0 (map replay ks)) more
-    ∙ ap (securities_text names 0) (map-append replay (take i js) (j ∷ []))
-    ∙ securities_text-more names 0 (map replay (take i js)) (replay j)
-    ∙ ap (λ (k : ℕ). securities_text names 0 (map replay (take i js)) ++ security_text names k (replay j)) place
+    ap (λ (ks : List Journal). each_text text_of 0 (map replay ks)) more
+    ∙ ap (each_text text_of 0) (map-append replay (take i js) (j ∷ []))
+    ∙ each_text-more text_of 0 (map replay (take i js)) (replay j)
+    ∙ ap (λ (k : ℕ). each_text text_of 0 (map replay (take i js)) ++ text_of k (replay j)) place
+
+-- one security's text more, behind what came before them all
+pub each-more : (text_of : ℕ → State → List ℕ) (begun old new : List ℕ) (js : List Journal) (i : ℕ) (j : Journal) → i < length js → j ≡ get_or js i j
+    → old ≡ begun ++ each_text text_of 0 (map replay (take i js)) → new ≡ old ++ text_of i (replay j) → new ≡ begun ++ each_text text_of 0 (map replay (take (i + 1) js))
+each-more text_of begun old new js i j within is so_far next =
+    next
+    ∙ ap (λ (text : List ℕ). text ++ text_of i (replay j)) so_far
+    ∙ append_assoc begun (each_text text_of 0 (map replay (take i js))) (text_of i (replay j))
+    ∙ ap (λ (text : List ℕ). begun ++ text) (sym (each-taken text_of js i j within is))
 
 -- four parts of a text that was empty
 pub four_parts : (t t1 t2 t3 t4 a b c d : List ℕ) → t ≡ [] → t1 ≡ t ++ a → t2 ≡ t1 ++ b → t3 ≡ t2 ++ c → t4 ≡ t3 ++ d → t4 ≡ a ++ b ++ c ++ d

@@ -19,7 +19,7 @@ use Rattle.xm_day.specs.declared.report.DayReport.{DayReport}
 use Rattle.xm_day.specs.declared.report.ToldDay.{ToldDay}
 use Rattle.xm_day.specs.declared.told.Told.{Told}
 use Rattle.xm_day.specs.declared.faults.DayFault.{DayFault}
-use Rattle.xm_day.specs.declared.faults.DayFault.TheVariants.{Segment, Orders, Open, OutOfMemory, WriteFailed}
+use Rattle.xm_day.specs.declared.faults.DayFault.TheVariants.{Segment, Carry, Orders, Open, OutOfMemory, WriteFailed}
 use Rattle.xm_files.specs.declared.file_faults.FileFault.{FileFault}
 use Rattle.xm_segment.specs.declared.rows.Row.{Row}
 use Rattle.xm_desk.specs.declared.opening.OpenFault.{OpenFault}
@@ -105,19 +105,35 @@ abbrev pub RowsRun : {A : Type 0} → (SegmentConfig → List Row → A → Type
 RowsRun taken config names file (Ok day) = (rows : List Row) × (rows_from names config file [] ≡ Ok rows) × taken config rows day
 RowsRun taken config names file (Err fault) = OnFalse (is_from_outside fault.cause) (rows_from names config file [] ≡ Err fault) × OnTrue (is_from_outside fault.cause) (fault.line ≡ 0)
 
--- how the rows of an order file are run that has no fault, where they may have these days
-abbrev pub RowsEnd : (SegmentConfig → List Row → Day → Type 0) → SegmentConfig → NameLists → List Row → Option (List ℕ) → Option (List ℕ) → Result DayReport DayFault → Type 0
-RowsEnd days config names rows old new (Ok report) = (segment_fault config ≡ None) × WritesDay (days config rows) names report old new
-RowsEnd days config names rows old new (Err (Open fault)) = IsOpenFault config fault
-RowsEnd days config names rows old new (Err (OutOfMemory _)) = segment_fault config ≡ None
-RowsEnd days config names rows old new (Err WriteFailed) = (segment_fault config ≡ None) × WritesPart (days config rows) names old new
-RowsEnd days config names rows old new (Err (Segment fault)) = ⊥
-RowsEnd days config names rows old new (Err (Orders fault)) = ⊥
+-- what has taken the rows of an order file, or the fault of the file
+abbrev pub FileRun : {A : Type 0} → (List ℕ → SegmentConfig → List Row → Result A DayFault → Type 0) → SegmentConfig → NameLists → Option (List ℕ) → Result A DayFault → Type 0
+FileRun taken config names orders (Err (Orders fault)) = IsFileFault (orders_of names config) orders fault
+FileRun taken config names orders result =
+    (bytes : List ℕ) × IfSome orders (λ known. bytes ≡ known) × (rows : List Row) × (orders_of names config bytes ≡ Ok rows) × taken bytes config rows result
 
--- how the day ends of a segment file that has no fault
+-- how the statement of one of these days is written
+abbrev pub StatementEnds : Option (List ℕ) → Option (List ℕ) → NameLists → (Day → Type 0) → Result DayReport DayFault → Type 0
+StatementEnds old new names days (Ok report) = WritesDay days names report old new
+StatementEnds old new names days (Err fault) = WritesPart days names old new
+
+-- how the rows of an order file are run that has no fault, where they may have these days, and what is written of a day
+abbrev pub RowsEnd : (NameLists → (Day → Type 0) → Result DayReport DayFault → Type 0) → (SegmentConfig → List Row → Day → Type 0) → SegmentConfig → NameLists → List Row → Result DayReport DayFault → Type 0
+RowsEnd Written days config names rows (Ok report) = (segment_fault config ≡ None) × Written names (days config rows) (Ok report)
+RowsEnd Written days config names rows (Err (Open fault)) = IsOpenFault config fault
+RowsEnd Written days config names rows (Err (OutOfMemory _)) = segment_fault config ≡ None
+RowsEnd Written days config names rows (Err WriteFailed) = (segment_fault config ≡ None) × Written names (days config rows) (Err WriteFailed)
+RowsEnd Written days config names rows (Err (Segment fault)) = ⊥
+RowsEnd Written days config names rows (Err (Carry fault)) = ⊥
+RowsEnd Written days config names rows (Err (Orders fault)) = ⊥
+
+-- how the day of a segment ends whose rows are those of an order file
+abbrev pub DayOfRowsEnds : (NameLists → (Day → Type 0) → Result DayReport DayFault → Type 0) → (SegmentConfig → List Row → Day → Type 0) → SegmentConfig → NameLists → Option (List ℕ) → Result DayReport DayFault → Type 0
+DayOfRowsEnds Written days config names orders (Err (Orders fault)) = IsFileFault (orders_of names config) orders fault
+DayOfRowsEnds Written days config names orders result = (rows : List Row) × AreRowsOf orders config names rows × RowsEnd Written days config names rows result
+
+-- how the day of a segment file ends that has no fault
 abbrev pub OrdersEnd : (SegmentConfig → List Row → Day → Type 0) → SegmentConfig → NameLists → Option (List ℕ) → Option (List ℕ) → Option (List ℕ) → Result DayReport DayFault → Type 0
-OrdersEnd days config names orders old new (Err (Orders fault)) = IsFileFault (orders_of names config) orders fault
-OrdersEnd days config names orders old new result = (rows : List Row) × AreRowsOf orders config names rows × RowsEnd days config names rows old new result
+OrdersEnd days config names orders old new result = DayOfRowsEnds (StatementEnds old new) days config names orders result
 
 -- how the day of two files ends
 abbrev pub DayEnds : (SegmentConfig → List Row → Day → Type 0) → Option (List ℕ) → Option (List ℕ) → Option (List ℕ) → Option (List ℕ) → Result DayReport DayFault → Type 0

@@ -5,7 +5,7 @@ use Rattle.std.specs.Fmt.{decimal}
 use Rattle.std.specs.Io.KnownBytes.{Appends}
 use Rattle.xm_day.specs.Answers.{IsFileFault, IsOpenFault, IsSegmentOf}
 use Rattle.xm_day.specs.declared.faults.DayFault.{DayFault}
-use Rattle.xm_day.specs.declared.faults.DayFault.TheVariants.{Segment, Orders, Open, OutOfMemory, WriteFailed}
+use Rattle.xm_day.specs.declared.faults.DayFault.TheVariants.{Segment, Carry, Orders, Open, OutOfMemory, WriteFailed}
 use Rattle.xm_files.specs.Names.{NameLists}
 use Rattle.xm_files.specs.Segment.{segment_of}
 use Rattle.xm_segment.specs.Opening.{segment_fault}
@@ -23,6 +23,7 @@ OpeningEnds config old new (Err (Open fault)) = IsOpenFault config fault
 OpeningEnds config old new (Err (OutOfMemory _)) = segment_fault config ≡ None
 OpeningEnds config old new (Err WriteFailed) = (segment_fault config ≡ None) × AppendsPrefix old new (check_line config)
 OpeningEnds config old new (Err (Segment fault)) = ⊥
+OpeningEnds config old new (Err (Carry fault)) = ⊥
 OpeningEnds config old new (Err (Orders fault)) = ⊥
 
 -- how the check of a segment file ends

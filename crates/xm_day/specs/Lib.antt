@@ -1,4 +1,6 @@
 pub mod Answers
+pub mod CarriedDays
+pub mod Carry
 pub mod Checks
 pub mod Day
 pub mod Examples

@@ -132,10 +132,13 @@ security_text names index s =
     ++ flat_map (net_line names s) (member_indices names)
     ++ total_text s.settings.tick (total_quantity s.trades) (total_money s.trades)
 
--- the securities from this index on
-abbrev pub securities_text : NameLists → ℕ → List State → List ℕ
-securities_text names index [] = []
-securities_text names index (s ∷ ss) = security_text names index s ++ securities_text names (index + 1) ss
+-- a text of each security, from this index on
+abbrev pub each_text : (ℕ → State → List ℕ) → ℕ → List State → List ℕ
+each_text text_of index [] = []
+each_text text_of index (s ∷ ss) = text_of index s ++ each_text text_of (index + 1) ss
+
+abbrev pub securities_text : NameLists → List State → List ℕ
+securities_text names states = each_text (security_text names) 0 states
 
 -- a member's cash over all securities
 abbrev pub total_cash : List State → ℕ → ℤ
@@ -162,4 +165,4 @@ rows_line accepted refused = codes "ROWS " ++ decimal accepted ++ codes " " ++ d
 -- the statement of the securities' states, after so many rows were accepted and refused
 abbrev pub statement : NameLists → List State → ℕ → ℕ → List ℕ
 statement names states accepted refused =
-    day_line (today_of states) ++ securities_text names 0 states ++ flat_map (member_line names states) (member_indices names) ++ rows_line accepted refused
+    day_line (today_of states) ++ securities_text names states ++ flat_map (member_line names states) (member_indices names) ++ rows_line accepted refused

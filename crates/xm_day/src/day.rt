@@ -7,15 +7,14 @@ ghost use Rattle.xm_day.specs.Workers.{IsShared};
 ghost use Rattle.xm_segment.specs.declared.opening.TheConstants.{MAX_WORKERS};
 
 use crate::faults::DayFault;
+use crate::order_file::{share_orders, take_orders};
 use crate::report::{AskedTexts, DayReport, ToldDay};
-use crate::runs::run_rows;
-use crate::shared_day::run_shared;
 use crate::statements::statement;
 use std::alloc::Global;
 use std::io;
 use std::sync::Wait;
 use std::thread::Threads;
-use xm_files::{SegmentNames, read_orders, read_segment};
+use xm_files::{SegmentNames, read_segment};
 use xm_names::Storage;
 use xm_segment::{Gate, SegmentConfig};
 
@@ -59,14 +58,7 @@ fn tell_orders<R: io::Read, W: io::Write>(
     ensures depth { IfOk result (λ day. IsAsked (IsTextOfRows (λ names config bytes rows. depth_text names config rows) (R.remaining orders.old) config.now names.now) asked.depth day.depth.items) }
     ensures untouched { IfErr result (λ fault. fault ≢ DayFault.WriteFailed → out.new ≡ out.old) }
 {
-    let bytes = match read_orders(storage.alloc, orders) {
-        Ok(bytes) => bytes,
-        Err(fault) => return Err(DayFault::Orders(fault)),
-    };
-    let day = match run_rows(storage, config, names, bytes, asked) {
-        Ok(day) => day?,
-        Err(fault) => return Err(DayFault::Orders(fault)),
-    };
+    let day = take_orders(storage, config, names, orders, asked)?;
     statement(storage.alloc, day.desks.as_slice(), names, &day.report, out)?;
     Ok(ToldDay {
         report: day.report,
@@ -167,14 +159,7 @@ fn run_shared_orders<T: Threads + Wait + Sync, G: Gate + Sync, R: io::Read, W: i
     ensures ends { OrdersEnd (IsShared workers) config.now names.now (R.remaining orders.old) (W.contents out.old) (W.contents out.new) result }
     ensures untouched { IfErr result (λ fault. fault ≢ DayFault.WriteFailed → out.new ≡ out.old) }
 {
-    let bytes = match read_orders(storage.alloc, orders) {
-        Ok(bytes) => bytes,
-        Err(fault) => return Err(DayFault::Orders(fault)),
-    };
-    let day = match run_shared(rt, gate, workers, storage, config, names, bytes) {
-        Ok(day) => day?,
-        Err(fault) => return Err(DayFault::Orders(fault)),
-    };
+    let day = share_orders(rt, gate, workers, storage, config, names, orders)?;
     statement(storage.alloc, day.desks.as_slice(), names, &day.report, out)?;
     Ok(day.report)
 }

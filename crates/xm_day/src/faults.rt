@@ -13,6 +13,9 @@ pub enum DayFault {
     /// The segment file has a fault.
     #[error("segment file, {0}")]
     Segment(FileFault),
+    /// The carry file has a fault.
+    #[error("carry file, {0}")]
+    Carry(FileFault),
     /// The order file has a fault.
     #[error("order file, {0}")]
     Orders(FileFault),

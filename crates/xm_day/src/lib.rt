@@ -2,12 +2,17 @@
 #![tactic(auto)]
 
 mod answers;
+mod both_texts;
+mod carried_days;
+mod carry_file;
 mod checks;
 mod day;
 mod depth;
 mod desks;
 pub mod examples;
 mod faults;
+pub mod laws;
+mod order_file;
 mod remaining;
 mod report;
 mod runs;
@@ -22,6 +27,8 @@ mod traded;
 mod words;
 mod worker;
 
+pub use crate::carried_days::{carry_alone, carry_day};
+pub use crate::carry_file::carry;
 pub use crate::checks::check;
 pub use crate::day::{run_alone, run_day, run_orders, run_told};
 pub use crate::faults::DayFault;

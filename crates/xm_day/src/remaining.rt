@@ -81,7 +81,7 @@ fn push_stop<A: Allocator>(
     push_space(text)?;
     push_text(text, side_word(stop.side))?;
     push_space(text)?;
-    push_trigger(text, stop.trigger, tick)?;
+    push_ticks(text, stop.trigger, tick)?;
     push_space(text)?;
     push_limit(text, stop.becomes, tick)?;
     push_space(text)?;
@@ -91,15 +91,15 @@ fn push_stop<A: Allocator>(
     push_text(text, "\n")
 }
 
-/// The price of a trigger in ticks.
-fn push_trigger<A: Allocator>(
+/// A price of so many ticks.
+pub(crate) fn push_ticks<A: Allocator>(
     text: &mut Vec<u8, A>,
-    trigger: u32,
+    price: u32,
     tick: TickSize,
 ) -> Result<(), OutOfMemory>
-    ensures { OnOk result (text.new.items ≡ text.old.items ++ price_text trigger tick) }
+    ensures { OnOk result (text.new.items ≡ text.old.items ++ price_text price tick) }
 {
-    push_money(text, i128::from(trigger) * i128::from(tick.get()))
+    push_money(text, i128::from(price) * i128::from(tick.get()))
 }
 
 /// The limit of an order, if it has one.
@@ -117,7 +117,10 @@ fn push_limit<A: Allocator>(
 }
 
 /// How long an order is valid.
-fn push_validity<A: Allocator>(text: &mut Vec<u8, A>, validity: Validity) -> Result<(), OutOfMemory>
+pub(crate) fn push_validity<A: Allocator>(
+    text: &mut Vec<u8, A>,
+    validity: Validity,
+) -> Result<(), OutOfMemory>
     ensures { OnOk result (text.new.items ≡ text.old.items ++ validity_text validity) }
 {
     match validity {

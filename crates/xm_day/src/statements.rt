@@ -9,7 +9,7 @@ ghost use Rattle.xm_ticks.specs.Writing.{AppendsPrefix};
 use crate::faults::DayFault;
 use crate::remaining::{push_date, push_orders, push_stops};
 use crate::report::DayReport;
-use crate::texts::{push_number, push_price, push_space, push_text, security_name};
+use crate::texts::{push_number, push_price, push_space, push_text, security_name, write_text};
 use crate::traded::{push_members, push_nets, push_total, push_trades};
 use crate::words::phase_word;
 use std::alloc::Allocator;
@@ -18,7 +18,7 @@ use xm_desk::Desk;
 use xm_files::SegmentNames;
 use xm_memory::OutOfMemory;
 use xm_rules::Phase;
-use xm_ticks::{Price, TickSize, write_whole};
+use xm_ticks::{Price, TickSize};
 
 /// A line of a trade seldom has more bytes.
 const BYTES_OF_A_TRADE: usize = 64;
@@ -44,14 +44,11 @@ pub fn statement<A: Allocator, B: Allocator + Copy, W: io::Write>(
     ensures faults { IfErr result IsOfWriting }
 {
     let text = statement_text(alloc, desks, names, report)?;
-    match write_whole(out, text.as_slice()) {
-        Ok(()) => Ok(()),
-        Err(_) => Err(DayFault::WriteFailed),
-    }
+    write_text(out, text.as_slice())
 }
 
 /// The text of the statement.
-fn statement_text<A: Allocator, B: Allocator + Copy>(
+pub(crate) fn statement_text<A: Allocator, B: Allocator + Copy>(
     alloc: A,
     desks: &[Desk<B>],
     names: &SegmentNames,
@@ -105,7 +102,7 @@ fn push_securities<A: Allocator, B: Allocator + Copy>(
     names: &SegmentNames,
 ) -> Result<(), OutOfMemory>
     requires { length names.now.securities ≡ length desks.now }
-    ensures text { OnOk result (text.new.items ≡ text.old.items ++ securities_text names.now 0 (map replay desks.now)) }
+    ensures text { OnOk result (text.new.items ≡ text.old.items ++ securities_text names.now (map replay desks.now)) }
     ensures few { OnOk result (length desks.now < 2 ^ 32) }
 {
     for index in 0..names.securities() {

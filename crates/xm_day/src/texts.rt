@@ -1,18 +1,20 @@
-//! The pieces that the lines of the statement are put together from.
-ghost use Rattle.std.specs.Prelude.{◌≡◌, ◌++◌, Ok, OnOk, codes};
+//! The pieces that the lines of the statement and of the carry file are put together from.
+ghost use Rattle.std.specs.Prelude.{◌≡◌, ◌++◌, IfErr, Ok, OnErr, OnOk, codes};
 ghost use Rattle.std.specs.Fmt.{decimal};
+ghost use Rattle.std.specs.Io.KnownBytes.{Appends};
 ghost use Rattle.xm_day.specs.RowAnswers.{byte_in_quotes, quoted_field};
 ghost use Rattle.std.specs.List.{flat_map, list_any};
 ghost use Rattle.xm_day.specs.Statement.{name_at, party_text};
 ghost use Rattle.xm_files.specs.Plain.{is_mark};
-ghost use Rattle.xm_ticks.specs.Writing.{money_text, price_text};
+ghost use Rattle.xm_ticks.specs.Writing.{AppendsPrefix, money_text, price_text};
 
+use crate::faults::DayFault;
 use itoa::Buffer;
 use std::alloc::Allocator;
 use std::io;
 use xm_files::SegmentNames;
 use xm_memory::OutOfMemory;
-use xm_ticks::{Price, TickSize, write_money, write_price};
+use xm_ticks::{Price, TickSize, write_money, write_price, write_whole};
 
 /// The quotation mark of CSV.
 const QUOTE: u8 = b'"';
@@ -158,6 +160,18 @@ pub(crate) fn push_text<A: Allocator>(text: &mut Vec<u8, A>, more: &str) -> Resu
 {
     text.extend_from_slice(more.as_bytes())?;
     Ok(())
+}
+
+/// Writes a text.
+pub(crate) fn write_text<W: io::Write>(out: &mut W, text: &[u8]) -> Result<(), DayFault>
+    ensures ok { OnOk result (Appends (W.contents out.old) (W.contents out.new) text.now) }
+    ensures failed { OnErr result (AppendsPrefix (W.contents out.old) (W.contents out.new) text.now) }
+    ensures fault { IfErr result (λ fault. fault ≡ DayFault.WriteFailed) }
+{
+    match write_whole(out, text) {
+        Ok(()) => Ok(()),
+        Err(_) => Err(DayFault::WriteFailed),
+    }
 }
 
 /// The name of a member, or no text where there is none.

@@ -1,9 +1,10 @@
-//! The words of the statement and of the answers.
+//! The words of the statement, of the carry file and of the answers.
 ghost use Rattle.std.specs.Prelude.{◌≡◌};
+ghost use Rattle.xm_day.specs.Carry.{kind_word};
 ghost use Rattle.xm_day.specs.RowAnswers.{refusal_word};
 ghost use Rattle.xm_day.specs.Statement.{phase_word, restriction_word, side_word, trade_word};
 
-use xm_rules::{Auction, CallStage, Phase, Refusal, Restriction, Side, TradeKind};
+use xm_rules::{Auction, CallStage, OrderKind, Phase, Refusal, Restriction, Side, TradeKind};
 
 /// The word of a phase.
 pub(crate) fn phase_word(phase: Phase) -> &'static str
@@ -47,6 +48,22 @@ pub(crate) fn side_word(side: Side) -> &'static str
     match side {
         Side::Buy => "buy",
         Side::Sell => "sell",
+    }
+}
+
+/// The word of the kind of an order, or of the stop with this trigger that becomes one.
+pub(crate) fn kind_word(trigger: Option<u32>, kind: OrderKind) -> &'static str
+    ensures { result.now ≡ kind_word trigger kind }
+{
+    match trigger {
+        None => match kind {
+            OrderKind::Market => "market",
+            OrderKind::Limit(_) => "limit",
+        },
+        Some(_) => match kind {
+            OrderKind::Market => "stop-market",
+            OrderKind::Limit(_) => "stop-limit",
+        },
     }
 }
 

@@ -1,9 +1,8 @@
 use Rattle.std.proofs.Common.{List, Result, Err, ap, sym, subst}
 use Rattle.xm_rules.specs.Step.{Journal}
-use Rattle.xm_day.proofs.Endings.{OrdersEnd-of_writing}
+use Rattle.xm_day.proofs.Endings.{rows-of-file, unwritten-ends}
 use Rattle.xm_files.proofs.PassedErrors.{is_passed}
-use Rattle.xm_files.proofs.WholeFiles.{orders-read}
-use Rattle.xm_day.specs.Answers.{DesksEnd, OrdersEnd}
+use Rattle.xm_day.specs.Answers.{OrdersEnd, StatementEnds}
 use Rattle.xm_day.specs.Day.{day_of}
 use Rattle.xm_day.specs.Workers.{IsShared}
 use Rattle.xm_day.specs.declared.faults.DayFault.{DayFault}
@@ -15,13 +14,12 @@ returns-in_err-statement-clause-ends g c =
     let config = c.args.config.now in
     let names = c.args.names.now in
     let shared = IsShared c.args.workers in
-    let ran = c.in-Ok-run_shared.ensures in
-    let report = c.in_ok-day-in-Ok-run_shared.day.report in
-    let ends = subst (DesksEnd shared config ran.0) c.in_ok-day-in-Ok-run_shared.was ran.2 in
+    let run = c.in_ok-day.ensures in
+    let report = c.in_ok-day.day.report in
     let lent = ap (λ (js : List Journal). day_of js report.accepted report.refused) c.as_slice.ensures.value in
-    let read = orders-read names config _ c.in-Ok.bytes.items _ c.in-Ok.ensures.bytes c.in-Ok.ensures.short ran.1 in
+    let read = rows-of-file (g.R.Read.remaining c.args.orders.now) config names run.0 run.2 run.1 run.3 in
     let fault = c.in_err-statement.field-0.0 in
     let Ends : Result DayReport DayFault → Type 0 = λ r. OrdersEnd shared config names (g.R.Read.remaining c.args.orders.now) (g.W.Write.contents c.args.out.now) (g.W.Write.contents c.statement.new.out) r in
     subst Ends (sym (is_passed c.from_residual-in_err-statement.result fault c.from_residual-in_err-statement.ensures.1))
-    (OrdersEnd-of_writing shared config names ran.0 _ _ _ fault read ends.0 c.in_err-statement.ensures.faults
-    (λ failed. record { day = day_of c.as_slice.result.now report.accepted report.refused; is_of_rows = subst (shared config ran.0) (sym lent) ends.2; written = c.in_err-statement.ensures.failed (ap Err failed) }))
+    (unwritten-ends (StatementEnds (g.W.Write.contents c.args.out.now) (g.W.Write.contents c.statement.new.out)) shared config names run.2 _ fault read run.4.0 c.in_err-statement.ensures.faults
+    (λ failed. record { day = day_of c.as_slice.result.now report.accepted report.refused; is_of_rows = subst (shared config run.2) (sym lent) run.4.2; written = c.in_err-statement.ensures.failed (ap Err failed) }))

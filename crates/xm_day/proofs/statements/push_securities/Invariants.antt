@@ -4,4 +4,4 @@ use Rattle.xm_day.specs.Statement.{securities_text}
 use Rattle.xm_day.proofs.statements.push_securities.Given as goal
 
 abbrev pub invariant-loop-index : goal.invariant-loop-index
-invariant-loop-index g l = l.text.items ≡ l.initial.text.items ++ securities_text l.names 0 (map replay (take l.index l.desks))
+invariant-loop-index g l = l.text.items ≡ l.initial.text.items ++ securities_text l.names (map replay (take l.index l.desks))

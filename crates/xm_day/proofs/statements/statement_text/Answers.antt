@@ -12,7 +12,7 @@ returns g c =
     let states = map replay c.args.desks.now in
     let today = ap (λ (settings : DeskSettings). settings.today) c.settings.ensures.kept ∙ today_of-first c.args.desks.now c.index-desks-0.result c.requires.some c.index-desks-0.is in
     four_parts c.in_ok-text.text.items c.push_day.new.text.items c.push_securities.new.text.items c.push_members.new.text.items c.push_rows.new.text.items
-    (day_line (today_of states)) (securities_text names 0 states) (flat_map (member_line names states) (member_indices names)) (rows_line c.args.report.now.accepted c.args.report.now.refused)
+    (day_line (today_of states)) (securities_text names states) (flat_map (member_line names states) (member_indices names)) (rows_line c.args.report.now.accepted c.args.report.now.refused)
     c.in_ok-text.ensures.items
     (c.in_ok-push_day.ensures ∙ ap (λ (date : ℕ). c.in_ok-text.text.items ++ day_line date) today)
     c.in_ok-push_securities.ensures.text

@@ -1,0 +1,62 @@
+//! The desks of a segment that have taken an order file.
+ghost use Rattle.std.specs.Prelude.{◌≡◌, ◌≤◌, length};
+ghost use Rattle.xm_day.specs.Answers.{DesksEnd, FileRun, HasTaken};
+ghost use Rattle.xm_day.specs.Workers.{IsShared};
+ghost use Rattle.xm_segment.specs.declared.opening.TheConstants.{MAX_WORKERS};
+
+use crate::desks::OpenDay;
+use crate::faults::DayFault;
+use crate::report::AskedTexts;
+use crate::runs::run_rows;
+use crate::shared_day::run_shared;
+use std::alloc::Global;
+use std::io::Read;
+use std::sync::Wait;
+use std::thread::Threads;
+use xm_files::{SegmentNames, read_orders};
+use xm_names::Storage;
+use xm_segment::{Gate, SegmentConfig};
+
+/// Reads an order file, and has the desks of a segment take its rows in their order, which tell the texts that are asked for.
+pub(crate) fn take_orders<R: Read>(
+    storage: Storage<Global>,
+    config: &SegmentConfig,
+    names: &SegmentNames,
+    orders: &mut R,
+    asked: AskedTexts,
+) -> Result<OpenDay, DayFault>
+    ensures { FileRun (HasTaken asked names.now) config.now names.now (R.remaining orders.old) result }
+{
+    let bytes = match read_orders(storage.alloc, orders) {
+        Ok(bytes) => bytes,
+        Err(fault) => return Err(DayFault::Orders(fault)),
+    };
+    match run_rows(storage, config, names, bytes, asked) {
+        Ok(day) => day,
+        Err(fault) => Err(DayFault::Orders(fault)),
+    }
+}
+
+/// Reads an order file, and has so many workers take its rows, round by round, each those of its members.
+pub(crate) fn share_orders<T: Threads + Wait + Sync, G: Gate + Sync, R: Read>(
+    rt: &T,
+    gate: &G,
+    workers: u32,
+    storage: Storage<Global>,
+    config: &SegmentConfig,
+    names: &SegmentNames,
+    orders: &mut R,
+) -> Result<OpenDay, DayFault>
+    requires some { 1 ≤ workers }
+    requires few { workers ≤ MAX_WORKERS }
+    ensures { FileRun (λ bytes. DesksEnd (IsShared workers)) config.now names.now (R.remaining orders.old) result }
+{
+    let bytes = match read_orders(storage.alloc, orders) {
+        Ok(bytes) => bytes,
+        Err(fault) => return Err(DayFault::Orders(fault)),
+    };
+    match run_shared(rt, gate, workers, storage, config, names, bytes) {
+        Ok(day) => day,
+        Err(fault) => Err(DayFault::Orders(fault)),
+    }
+}
