@@ -4,7 +4,7 @@ use Rattle.clap.specs.Values.{kind_of}
 use Rattle.clap.specs.Words.{Kinds}
 use Rattle.clap.specs.declared.error.Error.{Error}
 use Rattle.xm_day.specs.declared.faults.DayFault.{DayFault}
-use Rattle.xm_day.specs.declared.faults.DayFault.TheVariants.{Segment, Orders, Open, OutOfMemory, WriteFailed}
+use Rattle.xm_day.specs.declared.faults.DayFault.TheVariants.{Segment, Carry, Orders, Open, OutOfMemory, WriteFailed}
 use Rattle.xm_program.specs.Ends.{AskedEnds, AsksHelp, HasDone, IsDone}
 use Rattle.xm_program.specs.Requests.{AnswersWords, Asked, IsTold}
 use Rattle.xm_program.specs.declared.requests.Failure.{Failure}
@@ -31,6 +31,7 @@ module _ (faults : Kinds) (asked : Option Asked) (what : Asked) (old new : Optio
   -- it met a fault
   pub fault-done : (fault : DayFault) → faults ≡ [] → asked ≡ Some what → AskedEnds what old new (Err fault) → (fault ≢ WriteFailed → new ≡ old) → IsDone faults asked old new (Err (Day fault))
   fault-done (Segment of_file) none named ends kept = (has-done (Err (Segment of_file)) none named ends, kept (λ e. absurd (cc)))
+  fault-done (Carry of_file) none named ends kept = (has-done (Err (Carry of_file)) none named ends, kept (λ e. absurd (cc)))
   fault-done (Orders of_file) none named ends kept = (has-done (Err (Orders of_file)) none named ends, kept (λ e. absurd (cc)))
   fault-done (Open opening) none named ends kept = (has-done (Err (Open opening)) none named ends, kept (λ e. absurd (cc)))
   fault-done (OutOfMemory _) none named ends kept = kept (λ e. absurd (cc))

@@ -1,39 +1,67 @@
 -- What the matches of a subcommand ask for.
-use Rattle.std.proofs.Common.{◌≡◌, ℕ, List, Option, Some, None, Bool, true, false, codes, refl, option_map, option_and_then}
+use Rattle.std.proofs.Common.{◌≡◌, ◌∙◌, ℕ, List, Option, Some, None, Bool, true, false, codes, refl, sym, option_map, option_and_then}
 use Rattle.std.specs.Str.{bytes_eq}
-use Rattle.clap.specs.Words.{Row, Text, first_of, one_of, subcommand_name_of, subcommand_rows_of}
+use Rattle.clap.proofs.WalkLemmas.{first_value-rows}
+use Rattle.clap.specs.Words.{Row, Text, first_of, first_value, one_of, rows_of, subcommand_name_of, subcommand_rows_of}
 use Rattle.clap.specs.declared.parser.matches.ArgMatches.{ArgMatches}
 use Rattle.clap.specs.declared.parser.matches.ArgMatches.TheViews.{out-ArgMatches}
-use Rattle.xm_program.specs.Requests.{asked_in, check, run_of, workers_in}
+use Rattle.clap.specs.declared.parser.matches.Found.{Found}
+use Rattle.xm_program.specs.Requests.{Asked, asked_in, carry_to, check, run_in, run_of, run_to, workers_in}
 
 -- a subcommand with this name and these rows is the one that was met
-pub subcommand-met : (m : ArgMatches) (name : Text) (rows : List Row) → Some name ≡ subcommand_name_of m → Some rows ≡ option_map (λ p. p.1) (subcommand_rows_of m) → subcommand_rows_of m ≡ Some (name, rows)
+subcommand-met : (m : ArgMatches) (name : Text) (rows : List Row) → Some name ≡ subcommand_name_of m → Some rows ≡ option_map (λ p. p.1) (subcommand_rows_of m) → subcommand_rows_of m ≡ Some (name, rows)
 subcommand-met m name rows = go (out-ArgMatches m).subcommand refl
   where
     go : (o : Option _) → (out-ArgMatches m).subcommand ≡ o → Some name ≡ subcommand_name_of m → Some rows ≡ option_map (λ p. p.1) (subcommand_rows_of m) → subcommand_rows_of m ≡ Some (name, rows)
     go None e n r = let bad : Some name ≡ None = rw e at n in absurd (cc)
     go (Some b) e n r = rw e (let name_is = rw e at n in let rows_are = rw e at r in cc)
 
-module _ (o : Option (Text × List Row)) (name : Text) (rows : List Row) (met : o ≡ Some (name, rows)) where
+-- what values give
+values-met : (to : Text → Text → ℕ → Option Text → Option Text → Option Asked) (first second : Text) (rows : List Row) (segment orders : Option Text) (workers : Option ℕ)
+    → first_of (codes "SEGMENT") rows ≡ segment → first_of (codes "ORDERS") rows ≡ orders → option_and_then workers_in (one_of (codes "workers") rows) ≡ workers
+    → run_in to first second rows ≡ run_of to segment orders workers (first_of first rows) (first_of second rows)
+values-met to first second rows segment orders workers has_segment has_orders has_workers = rw (has_segment, has_orders, has_workers) refl
+
+-- without a segment file a run is none
+no-run : (to : Text → Text → ℕ → Option Text → Option Text → Option Asked) (first second : Text) (rows : List Row) → first_of (codes "SEGMENT") rows ≡ None → run_in to first second rows ≡ None
+no-run to first second rows none = rw none refl
+
+-- the subcommand that was met, by its name and its values
+module _ (m : ArgMatches) (name : Text) (values : Found) (has_name : Some name ≡ subcommand_name_of m) (has_rows : Some (rows_of values) ≡ option_map (λ p. p.1) (subcommand_rows_of m)) where
+  met : subcommand_rows_of m ≡ Some (name, rows_of values)
+  met = subcommand-met m name (rows_of values) has_name has_rows
+
+  first : (id : Text) (value : Option Text) → value ≡ first_value values id → first_of id (rows_of values) ≡ value
+  first id value is = sym (is ∙ first_value-rows values id)
+
   -- what the values of a `run` give
-  pub run-met : (segment orders : Option Text) (workers : Option ℕ) (answers depth : Option Text) → bytes_eq name (codes "run") ≡ true → first_of (codes "SEGMENT") rows ≡ segment → first_of (codes "ORDERS") rows ≡ orders
-      → option_and_then workers_in (one_of (codes "workers") rows) ≡ workers → first_of (codes "answers") rows ≡ answers → first_of (codes "depth") rows ≡ depth
-      → asked_in o ≡ run_of segment orders workers answers depth
-  run-met segment orders workers answers depth is_run has_segment has_orders has_workers has_answers has_depth = rw (met, is_run, has_segment, has_orders, has_workers, has_answers, has_depth) refl
+  pub run-met : (segment orders : Option Text) (workers : Option ℕ) → bytes_eq name (codes "run") ≡ true → segment ≡ first_value values (codes "SEGMENT") → orders ≡ first_value values (codes "ORDERS")
+      → workers ≡ option_and_then workers_in (one_of (codes "workers") (rows_of values))
+      → asked_in (subcommand_rows_of m) ≡ run_of run_to segment orders workers (first_of (codes "answers") (rows_of values)) (first_of (codes "depth") (rows_of values))
+  run-met segment orders workers is_run has_segment has_orders has_workers =
+      rw (met, is_run) (values-met run_to (codes "answers") (codes "depth") (rows_of values) segment orders workers (first (codes "SEGMENT") segment has_segment) (first (codes "ORDERS") orders has_orders) (sym has_workers))
+
+  -- what the values of a `carry` give
+  pub carry-met : (segment orders : Option Text) (workers : Option ℕ) → bytes_eq name (codes "run") ≡ false → bytes_eq name (codes "carry") ≡ true → segment ≡ first_value values (codes "SEGMENT")
+      → orders ≡ first_value values (codes "ORDERS") → workers ≡ option_and_then workers_in (one_of (codes "workers") (rows_of values))
+      → asked_in (subcommand_rows_of m) ≡ run_of carry_to segment orders workers (first_of (codes "IN") (rows_of values)) (first_of (codes "OUT") (rows_of values))
+  carry-met segment orders workers no_run is_carry has_segment has_orders has_workers =
+      rw (met, no_run, is_carry) (values-met carry_to (codes "IN") (codes "OUT") (rows_of values) segment orders workers (first (codes "SEGMENT") segment has_segment) (first (codes "ORDERS") orders has_orders) (sym has_workers))
 
   -- what the values of a `check` give
-  pub check-met : (segment : Option Text) → bytes_eq name (codes "run") ≡ false → bytes_eq name (codes "check") ≡ true → first_of (codes "SEGMENT") rows ≡ segment → asked_in o ≡ option_map check segment
-  check-met segment no_run is_check has_segment = rw (met, no_run, is_check, has_segment) refl
-
-  -- another subcommand asks for nothing
-  pub other-met : bytes_eq name (codes "run") ≡ false → bytes_eq name (codes "check") ≡ false → asked_in o ≡ None
-  other-met no_run no_check = rw (met, no_run, no_check) refl
+  pub check-met : (segment : Option Text) → bytes_eq name (codes "run") ≡ false → bytes_eq name (codes "carry") ≡ false → bytes_eq name (codes "check") ≡ true → segment ≡ first_value values (codes "SEGMENT")
+      → asked_in (subcommand_rows_of m) ≡ option_map check segment
+  check-met segment no_run no_carry is_check has_segment = rw (met, no_run, no_carry, is_check, first (codes "SEGMENT") segment has_segment) refl
 
   -- without a segment file nothing is asked for
-  pub no-segment : first_of (codes "SEGMENT") rows ≡ None → asked_in o ≡ None
-  no-segment none = go (bytes_eq name (codes "run")) (bytes_eq name (codes "check")) refl refl
+  pub no-segment : None ≡ first_value values (codes "SEGMENT") → asked_in (subcommand_rows_of m) ≡ None
+  no-segment has_none = go (bytes_eq name (codes "run")) (bytes_eq name (codes "carry")) (bytes_eq name (codes "check")) refl refl refl
     where
-      go : (r k : Bool) → bytes_eq name (codes "run") ≡ r → bytes_eq name (codes "check") ≡ k → asked_in o ≡ None
-      go true k is_run is_check = rw (met, is_run, none) refl
-      go false true is_run is_check = rw (met, is_run, is_check, none) refl
-      go false false is_run is_check = rw (met, is_run, is_check) refl
+      none : first_of (codes "SEGMENT") (rows_of values) ≡ None
+      none = first (codes "SEGMENT") None has_none
+
+      go : (r k q : Bool) → bytes_eq name (codes "run") ≡ r → bytes_eq name (codes "carry") ≡ k → bytes_eq name (codes "check") ≡ q → asked_in (subcommand_rows_of m) ≡ None
+      go true k q is_run is_carry is_check = rw (met, is_run) (no-run run_to (codes "answers") (codes "depth") (rows_of values) none)
+      go false true q is_run is_carry is_check = rw (met, is_run, is_carry) (no-run carry_to (codes "IN") (codes "OUT") (rows_of values) none)
+      go false false true is_run is_carry is_check = rw (met, is_run, is_carry, is_check, none) refl
+      go false false false is_run is_carry is_check = rw (met, is_run, is_carry, is_check) refl

@@ -1,5 +1,5 @@
 -- Words that ask for a run or a check are answered with it.
-use Rattle.std.proofs.Common.{ℕ, pos, ◌≡◌, ◌≤◌, ◌&&◌, unwrap_or, slice_get, ◌==◌, if◌then◌else◌, List, [], ◌∷◌, Option, Some, None, Err, true, false, not, codes, refl, sym, ap, ◌∙◌, Bool, Result, Ok, IfErr, IsErrAnd, inl, inr, ◌⊎◌}
+use Rattle.std.proofs.Common.{ℕ, suc, pos, ◌≡◌, ◌≤◌, ◌&&◌, unwrap_or, slice_get, ◌==◌, if◌then◌else◌, List, [], ◌∷◌, Option, Some, None, Err, true, false, not, codes, refl, sym, ap, ◌∙◌, Bool, Result, Ok, IfErr, IsErrAnd, inl, inr, ◌⊎◌}
 use Rattle.std.specs.Str.{bytes_eq}
 use Rattle.clap.specs.Lexer.{strip_byte, without_minus}
 use Rattle.clap.specs.ValueTests.{is_signed_in}
@@ -15,11 +15,12 @@ use Rattle.clap.specs.declared.error.Error.{Error}
 use Rattle.clap.specs.declared.error.kind.ErrorKind.{ErrorKind}
 use Rattle.clap.specs.declared.error.kind.ErrorKind.TheVariants as kind
 use Rattle.clap.proofs.OnLiterals.{clap_on_literals}
+use Rattle.clap.proofs.WalkLemmas.{both}
 use Rattle.xm_day.specs.declared.faults.DayFault.TheVariants as day
 use Rattle.xm_program.specs.declared.requests.Failure.TheVariants.{Day}
 use Rattle.xm_program.specs.declared.requests.Request.{Request}
-use Rattle.xm_program.specs.declared.requests.Request.TheVariants.{Run, RunTold, Check, Help}
-use Rattle.xm_program.specs.Requests.{AnswersWords, Asked, Asks, IsRequest, IsOfWords, answer_at, answer_of, asked_in, asked_of, can_tell, check, day_app, is_mistake, is_plain_word, run, run_of, run_told, workers_in, workers_words}
+use Rattle.xm_program.specs.declared.requests.Request.TheVariants.{Run, RunTold, Carry, Check, Help}
+use Rattle.xm_program.specs.Requests.{AnswersWords, Asked, Asks, IsRequest, IsOfWords, answer_at, answer_of, asked_in, asked_of, can_tell, carry, carry_to, check, day_app, is_mistake, is_plain_word, run, run_of, run_to, run_told, workers_in, workers_words}
 use Rattle.xm_program.proofs.Numbers.{number-text}
 
 false_of : (b : Bool) → not b ≡ true → b ≡ false
@@ -54,31 +55,40 @@ no_dash (x ∷ word) h = rw (false_of (x == 45) h) refl
 plain : (word : Text) → is_plain_word word ≡ true → IsPlain word
 plain word h = record { no_hyphen = no_hyphen word h; no_hyphens = no_hyphens word h }
 
--- the command line of a run, as it is built
+-- the command lines of both runs, as they are built
 abbrev run_shape : Shape
 run_shape = unwrap_or (slice_get (built day_app).subs 0) day_app.top
+
+abbrev carry_shape : Shape
+carry_shape = unwrap_or (slice_get (built day_app).subs 1) day_app.top
 
 -- a value that the words give
 abbrev given : Text → Text → Row
 given id value = record { id = id; values = value ∷ []; count = None; source = Some CommandLine; reading = AsWritten }
 
--- where the walk over two paths, and words behind them, stands that gave these values, and last this one
-abbrev walked_to : List Row → Text → Text → Walk
-walked_to rows id value = record {
+-- where the walk over so many paths, and words behind them, stands that gave these values, and last this one
+abbrev walked_over : ℕ → List Row → Text → Text → Walk
+walked_over paths rows id value = record {
   held = record { rows = rows; pending = Some (id, value ∷ []); skip = 0 };
   waiting = idle;
-  position = 3;
+  position = suc paths;
   is_trailing = false;
   stopped = None;
 }
 
+abbrev walked_to : List Row → Text → Text → Walk
+walked_to rows id value = walked_over 2 rows id value
+
 abbrev two_paths : Text → Text → List Row
 two_paths s o = given (codes "SEGMENT") s ∷ given (codes "ORDERS") o ∷ []
 
--- what a run is asked after the walk over its words
+-- what a subcommand is asked after the walk over its words
+abbrev shape_passes : Shape → Held → Bool
+shape_passes shape end =
+    settle_passes shape.rules shape.args_override_self end && (list_all default_passes shape.rules && is_valid shape (finished shape.rules end) false)
+
 abbrev end_passes : Held → Bool
-end_passes end =
-    settle_passes run_shape.rules run_shape.args_override_self end && (list_all default_passes run_shape.rules && is_valid run_shape (finished run_shape.rules end) false)
+end_passes end = shape_passes run_shape end
 
 both-true : (p q : Bool) → p ≡ true → q ≡ true → (p && q) ≡ true
 both-true p q h k = rw (h, k) refl
@@ -138,7 +148,7 @@ module _ (program s o : Text) (a : strip_byte 45 s ≡ None) (b : bytes_eq s (45
     unfolding clap_on_literals
     asks-run-by number same is =
         ap (λ (w : Walk). asked_in (Some (codes "run", finished run_shape.rules w.held))) numbered-walked
-        ∙ ap (λ (text : Text). run_of (Some s) (Some o) (workers_in text) None None) same ∙ ap (λ (workers : Option ℕ). run_of (Some s) (Some o) workers None None) is
+        ∙ ap (λ (text : Text). run_of run_to (Some s) (Some o) (workers_in text) None None) same ∙ ap (λ (workers : Option ℕ). run_of run_to (Some s) (Some o) workers None None) is
 
     abbrev answered_words : List Text
     answered_words = s ∷ o ∷ codes "--answers" ∷ n ∷ []
@@ -225,6 +235,73 @@ module _ (program s o : Text) (a : strip_byte 45 s ≡ None) (b : bytes_eq s (45
       unfolding clap_on_literals
       asks-both can = ap (λ (w : Walk). asked_in (Some (codes "run", finished run_shape.rules w.held))) both-walked ∙ both-asked ∙ rw can refl
 
+-- four paths that are taken as they stand
+module _ (program s i o k : Text) (p : IsPlain s) (q : IsPlain i) (r : IsPlain o) (u : IsPlain k) where
+  abbrev four_paths : List Text
+  four_paths = s ∷ i ∷ o ∷ k ∷ []
+
+  abbrev three_given : List Row
+  three_given = given (codes "SEGMENT") s ∷ given (codes "IN") i ∷ given (codes "ORDERS") o ∷ []
+
+  -- what the walk over these words has come to
+  carry-walked : walk carry_shape.rules [] nothing_held four_paths ≡ walked_over 4 three_given (codes "OUT") k
+  unfolding clap_on_literals
+  carry-walked = simp (p.no_hyphen, p.no_hyphens, q.no_hyphen, q.no_hyphens, r.no_hyphen, r.no_hyphens, u.no_hyphen, u.no_hyphens)
+
+  carry-pass : walk_passes carry_shape [] (walk_from nothing_held) four_paths ≡ true
+  unfolding clap_on_literals
+  carry-pass = simp (p.no_hyphen, p.no_hyphens, q.no_hyphen, q.no_hyphens, r.no_hyphen, r.no_hyphens, u.no_hyphen, u.no_hyphens)
+
+  carry-level : level_passes carry_shape [] nothing_held four_paths false ≡ true
+  unfolding clap_on_literals
+  carry-level = both-true _ _ carry-pass (ap (λ (w : Walk). shape_passes carry_shape w.held) carry-walked)
+
+  takes-carry : takes day_app (program ∷ codes "carry" ∷ four_paths) ≡ true
+  unfolding clap_on_literals
+  takes-carry = both-true _ _ carry-level refl
+
+  -- what the values of these words ask for
+  carry-asked : bytes_eq k (codes "-") ≡ false → asked_in (Some (codes "carry", finished carry_shape.rules (walked_over 4 three_given (codes "OUT") k).held)) ≡ Some (carry s i o k 1)
+  unfolding clap_on_literals
+  carry-asked file = simp file
+
+  asks-carry : bytes_eq k (codes "-") ≡ false → asked_of (program ∷ codes "carry" ∷ four_paths) ≡ Some (carry s i o k 1)
+  unfolding clap_on_literals
+  asks-carry file = ap (λ (w : Walk). asked_in (Some (codes "carry", finished carry_shape.rules w.held))) carry-walked ∙ carry-asked file
+
+  module _ (n : Text) (t : IsPlain n) where
+    abbrev numbered_paths : List Text
+    numbered_paths = s ∷ i ∷ o ∷ k ∷ codes "--workers" ∷ n ∷ []
+
+    abbrev four_given : List Row
+    four_given = given (codes "SEGMENT") s ∷ given (codes "IN") i ∷ given (codes "ORDERS") o ∷ given (codes "OUT") k ∷ []
+
+    -- what the walk over these words has come to
+    carry-by-walked : walk carry_shape.rules [] nothing_held numbered_paths ≡ walked_over 4 four_given (codes "workers") n
+    unfolding clap_on_literals
+    carry-by-walked = simp (p.no_hyphen, p.no_hyphens, q.no_hyphen, q.no_hyphens, r.no_hyphen, r.no_hyphens, u.no_hyphen, u.no_hyphens, t.no_hyphen, t.no_hyphens)
+
+    carry-by-pass : walk_passes carry_shape [] (walk_from nothing_held) numbered_paths ≡ true
+    unfolding clap_on_literals
+    carry-by-pass = simp (p.no_hyphen, p.no_hyphens, q.no_hyphen, q.no_hyphens, r.no_hyphen, r.no_hyphens, u.no_hyphen, u.no_hyphens, t.no_hyphen, t.no_hyphens)
+
+    carry-by-level : is_signed_in (pos 1) (pos 64) n ≡ true → level_passes carry_shape [] nothing_held numbered_paths false ≡ true
+    unfolding clap_on_literals
+    carry-by-level passes =
+        both-true _ _ carry-by-pass
+        (ap (λ (w : Walk). shape_passes carry_shape w.held) carry-by-walked ∙ both-true _ _ (both-true _ _ passes refl) refl)
+
+    takes-carry-by : is_signed_in (pos 1) (pos 64) n ≡ true → takes day_app (program ∷ codes "carry" ∷ numbered_paths) ≡ true
+    unfolding clap_on_literals
+    takes-carry-by passes = both-true _ _ (carry-by-level passes) refl
+
+    asks-carry-by : bytes_eq k (codes "-") ≡ false → (number : ℕ) → without_minus n ≡ n → workers_in n ≡ Some number → asked_of (program ∷ codes "carry" ∷ numbered_paths) ≡ Some (carry s i o k number)
+    unfolding clap_on_literals
+    asks-carry-by file number same is =
+        ap (λ (w : Walk). asked_in (Some (codes "carry", finished carry_shape.rules w.held))) carry-by-walked
+        ∙ ap (λ (text : Text). run_of carry_to (Some s) (Some o) (workers_in text) (Some i) (Some k)) same ∙ ap (λ (workers : Option ℕ). run_of carry_to (Some s) (Some o) workers (Some i) (Some k)) is
+        ∙ rw file refl
+
 -- the words that ask for it are taken
 taken-run : (words : List Text) (program s o : Text) (number : Option ℕ) → words ≡ program ∷ codes "run" ∷ s ∷ o ∷ workers_words number → IsPlain s → IsPlain o → 1 ≤ unwrap_or number 1 → unwrap_or number 1 ≤ 64 → IsTaken words (run s o (unwrap_or number 1))
 taken-run words program s o None are p q some few =
@@ -240,9 +317,26 @@ taken-run words program s o (Some k) are p q some few =
       asks = asks-run-by program s o p.no_hyphen p.no_hyphens q.no_hyphen q.no_hyphens (decimal k) t.no_hyphen t.no_hyphens k n.as_it_stands n.is_in;
     })
 
+taken-carry : (words : List Text) (program s i o k : Text) (number : Option ℕ) → words ≡ program ∷ codes "carry" ∷ s ∷ i ∷ o ∷ k ∷ workers_words number → IsPlain s → IsPlain i → IsPlain o → IsPlain k
+    → bytes_eq k (codes "-") ≡ false → 1 ≤ unwrap_or number 1 → unwrap_or number 1 ≤ 64 → IsTaken words (carry s i o k (unwrap_or number 1))
+taken-carry words program s i o k None are p q r u file some few =
+    rw are (record {
+      taken = takes-carry program s i o k p q r u;
+      asks = asks-carry program s i o k p q r u file;
+    })
+taken-carry words program s i o k (Some m) are p q r u file some few =
+    let n = number-text m some few in
+    let t = plain (decimal m) n.is_plain in
+    rw are (record {
+      taken = takes-carry-by program s i o k p q r u (decimal m) t n.passes;
+      asks = asks-carry-by program s i o k p q r u (decimal m) t file m n.as_it_stands n.is_in;
+    })
+
 pub taken : (words : List Text) (asked : Asked) → Asks words asked → IsTaken words asked
 taken words (run segment orders workers) asks =
-    rw asks.workers_are (taken-run words asks.program segment orders asks.number asks.words_are (plain segment asks.segment_is_plain) (plain orders asks.orders_is_plain) (rw asks.workers_are at asks.some) (rw asks.workers_are at asks.few))
+    let a = both _ _ asks.are_plain in
+    let b = both _ _ a.1 in
+    rw asks.workers_are (taken-run words asks.program segment orders asks.number asks.words_are (plain segment a.0) (plain orders b.0) (rw asks.workers_are at asks.some) (rw asks.workers_are at asks.few))
 taken words (run_told segment orders None None) asks = let none : false ≡ true = asks.some in absurd (cc)
 taken words (run_told segment orders (Some answers) None) asks =
     let p = plain segment asks.segment_is_plain in
@@ -273,6 +367,13 @@ taken words (run_told segment orders (Some answers) (Some depth)) asks =
       taken = takes-both asks.program segment orders p.no_hyphen p.no_hyphens q.no_hyphen q.no_hyphens answers r.no_hyphen r.no_hyphens depth t.no_hyphen t.no_hyphens;
       asks = asks-both asks.program segment orders p.no_hyphen p.no_hyphens q.no_hyphen q.no_hyphens answers r.no_hyphen r.no_hyphens depth t.no_hyphen t.no_hyphens can;
     })
+taken words (carry segment carried orders keep workers) asks =
+    let a = both _ _ asks.are_plain in
+    let b = both _ _ a.1 in
+    let c = both _ _ b.1 in
+    let d = both _ _ c.1 in
+    rw asks.workers_are (taken-carry words asks.program segment carried orders keep asks.number asks.words_are (plain segment a.0) (plain carried b.0) (plain orders c.0) (plain keep d.0) (no_dash keep d.0)
+    (rw asks.workers_are at asks.some) (rw asks.workers_are at asks.few))
 taken words (check segment) asks =
     let p = plain segment asks.segment_is_plain in
     rw asks.words_are (record {
@@ -319,5 +420,6 @@ err_from (Err e) v P h p = rw h p
 pub requested : (faults : Kinds) (asked : Option Asked) (request : Request) → faults ≡ [] → IsRequest asked request → AnswersWords faults asked (Ok request)
 requested faults asked (Run segment orders workers) none is = (none, is)
 requested faults asked (RunTold segment orders answers depth) none is = (none, is)
+requested faults asked (Carry segment carried orders keep workers) none is = (none, is)
 requested faults asked (Check segment) none is = (none, is)
 requested faults asked (Help error) none is = absurd is

@@ -1,21 +1,25 @@
 -- What was written before all of it was sent out.
-use Rattle.std.proofs.Common.{◌≡◌, ◌≢◌, ◌∙◌, ℕ, List, Option, Some, None, Result, Ok, Err, OnErr, OnOk, subst, sym}
-use Rattle.std.specs.Io.KnownBytes.{Appends, Keeps}
+use Rattle.std.proofs.Common.{◌≡◌, ◌≢◌, ◌∙◌, ℕ, List, Option, Result, Ok, Err, OnErr, OnOk, subst, sym}
+use Rattle.std.specs.Io.KnownBytes.{Keeps}
+use Rattle.xm_day.proofs.Written.{appended}
 use Rattle.xm_day.specs.Answers.{DayEnds, InFileOrder}
+use Rattle.xm_day.specs.CarriedDays.{CarriedDayEnds}
 use Rattle.xm_day.specs.Checks.{CheckEnds}
 use Rattle.xm_day.specs.Day.{Day}
 use Rattle.xm_day.specs.Workers.{IsShared}
 use Rattle.xm_day.specs.declared.report.DayReport.{DayReport}
 use Rattle.xm_day.specs.declared.faults.DayFault.{DayFault}
-use Rattle.xm_program.specs.Days.{DayEndsBy}
+use Rattle.xm_program.specs.Days.{EndsBy}
 use Rattle.xm_segment.specs.declared.config.SegmentConfig.{SegmentConfig}
 use Rattle.xm_segment.specs.declared.rows.Row.{Row}
 
-pub appended : (old mid new : Option (List ℕ)) (text : List ℕ) → Appends old mid text → Keeps mid new → Appends old new text
-appended None mid new text a k = tt
-appended (Some xs) None new text a k = absurd a
-appended (Some xs) (Some ys) None text a k = absurd k
-appended (Some xs) (Some ys) (Some zs) text a k = k ∙ a
+-- how a day ended, by another way to end that follows for either number of workers
+pub ends-by : (workers asked : ℕ) (Before After : (SegmentConfig → List Row → Day → Type 0) → Type 0) → asked ≡ workers → ((days : SegmentConfig → List Row → Day → Type 0) → Before days → After days)
+    → (asked ≡ 1 → Before InFileOrder) → (asked ≢ 1 → Before (IsShared asked)) → EndsBy workers After
+ends-by workers asked Before After is follows alone shared = record {
+  alone = λ one. follows InFileOrder (alone (is ∙ one));
+  shared = λ more. follows (IsShared workers) (subst (λ (n : ℕ). Before (IsShared n)) is (shared (λ one. more (sym is ∙ one))));
+}
 
 module _ (segment old mid new : Option (List ℕ)) {Same : Type 0} (same : Same → new ≡ mid) where
   -- a check whose line was sent out
@@ -24,16 +28,19 @@ module _ (segment old mid new : Option (List ℕ)) {Same : Type 0} (same : Same 
   check-sent (Err fault) kept untouched ends = subst (λ (o : Option (List ℕ)). CheckEnds segment old o (Err fault)) (sym (same untouched)) ends
 
   module _ (orders : Option (List ℕ)) where
+    -- a day whose statement was sent out
     pub day-sent : (days : SegmentConfig → List Row → Day → Type 0) (end : Result DayReport DayFault) → OnOk end (Keeps mid new) → OnErr end Same → DayEnds days segment orders old mid end → DayEnds days segment orders old new end
     day-sent days (Ok report) kept untouched ends =
         let w = ends.3.2.1 in
         (ends.0, ends.1, ends.2, (ends.3.0, ends.3.1, (ends.3.2.0, record { day = w.day; is_of_rows = w.is_of_rows; written = appended old mid new _ w.written kept; accepted = w.accepted; refused = w.refused })))
     day-sent days (Err fault) kept untouched ends = subst (λ (o : Option (List ℕ)). DayEnds days segment orders old o (Err fault)) (sym (same untouched)) ends
 
-    -- a day whose statement was sent out
-    pub run-sent : (workers asked : ℕ) (end : Result DayReport DayFault) → asked ≡ workers → OnOk end (Keeps mid new) → OnErr end Same → (asked ≡ 1 → DayEnds InFileOrder segment orders old mid end) → (asked ≢ 1 → DayEnds (IsShared asked) segment orders old mid end)
-        → DayEndsBy workers segment orders old new end
-    run-sent workers asked end is kept untouched alone shared = record {
-      alone = λ one. day-sent InFileOrder end kept untouched (alone (is ∙ one));
-      shared = λ more. day-sent (IsShared workers) end kept untouched (subst (λ (n : ℕ). DayEnds (IsShared n) segment orders old mid end) is (shared (λ one. more (sym is ∙ one))));
-    }
+    -- a day whose carry file was sent out
+    pub carry-sent : (carried statement_old statement_new : Option (List ℕ)) (days : SegmentConfig → List Row → Day → Type 0) (end : Result DayReport DayFault) → OnOk end (Keeps mid new) → OnErr end Same
+        → CarriedDayEnds days segment carried orders (record { old = statement_old; new = statement_new; kept_old = old; kept_new = mid }) end
+        → CarriedDayEnds days segment carried orders (record { old = statement_old; new = statement_new; kept_old = old; kept_new = new }) end
+    carry-sent carried statement_old statement_new days (Ok report) kept untouched ends =
+        let w = ends.3.2.1 in
+        (ends.0, ends.1, ends.2, (ends.3.0, ends.3.1, (ends.3.2.0, record { day = w.day; is_of_rows = w.is_of_rows; written = w.written; kept = appended old mid new _ w.kept kept; accepted = w.accepted; refused = w.refused })))
+    carry-sent carried statement_old statement_new days (Err fault) kept untouched ends =
+        subst (λ (o : Option (List ℕ)). CarriedDayEnds days segment carried orders (record { old = statement_old; new = statement_new; kept_old = old; kept_new = o }) (Err fault)) (sym (same untouched)) ends

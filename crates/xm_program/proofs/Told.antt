@@ -3,6 +3,7 @@ use Rattle.std.proofs.Common.{◌≡◌, ℕ, List, [], length, Option, Some, No
 use Rattle.std.proofs.Math.Seq.{take-length}
 use Rattle.std.proofs.lemmas.List.{append-nil}
 use Rattle.std.specs.Io.KnownBytes.{Appends, Keeps}
+use Rattle.xm_day.proofs.Written.{appended}
 use Rattle.xm_day.specs.Answers.{DayEnds, InFileOrder}
 use Rattle.xm_day.specs.declared.report.DayReport.{DayReport}
 use Rattle.xm_day.specs.declared.faults.DayFault.{DayFault}
@@ -10,7 +11,7 @@ use Rattle.xm_day.specs.declared.faults.DayFault.TheVariants.{WriteFailed}
 use Rattle.xm_day.specs.declared.report.AskedTexts.{AskedTexts}
 use Rattle.xm_program.specs.Days.{AppendsBeginning, AreTexts, BeginsBoth, ToldRunEnds}
 use Rattle.xm_program.specs.FaultLines.{told}
-use Rattle.xm_program.proofs.Sent.{appended, day-sent}
+use Rattle.xm_program.proofs.Sent.{day-sent}
 use Rattle.xm_ticks.specs.Writing.{AppendsPrefix}
 
 pub some-map : {A B : Type 0} (f : A → B) (o : Option A) → is_some (option_map f o) ≡ is_some o

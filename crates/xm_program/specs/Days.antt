@@ -1,8 +1,10 @@
--- How a run and a check end, as the program tells it.
+-- How a run, one that hands on what its day leaves, and a check end, as the program tells it.
 use Rattle.std.specs.Prelude.{◌≡◌, ◌≢◌, ◌≤◌, ◌⊎◌, ℕ, List, length, take, Option, Result, Ok, Err, OnOk}
 use Rattle.std.specs.Io.KnownBytes.{Appends}
 use Rattle.xm_day.specs.Answers.{DayEnds, InFileOrder, IsAsked, IsTextOfFiles}
+use Rattle.xm_day.specs.CarriedDays.{CarriedDayEnds, Outputs}
 use Rattle.xm_day.specs.Checks.{CheckEnds}
+use Rattle.xm_day.specs.Day.{Day}
 use Rattle.xm_day.specs.MarketDepth.{depth_text}
 use Rattle.xm_day.specs.RowAnswers.{answers_text}
 use Rattle.xm_day.specs.Workers.{IsShared}
@@ -11,6 +13,8 @@ use Rattle.xm_day.specs.declared.report.DayReport.{DayReport}
 use Rattle.xm_day.specs.declared.faults.DayFault.{DayFault}
 use Rattle.xm_day.specs.declared.faults.DayFault.TheVariants.{WriteFailed}
 use Rattle.xm_program.specs.FaultLines.{told}
+use Rattle.xm_segment.specs.declared.config.SegmentConfig.{SegmentConfig}
+use Rattle.xm_segment.specs.declared.rows.Row.{Row}
 
 module _ {A : Type 0} where
   -- what is told of what ended so; where all was written, but may not have gone out whole, that the writing failed
@@ -28,16 +32,27 @@ module _ {A : Type 0} where
   abbrev pub TellsEnd : (Result A DayFault → Type 0) → Result (Unit {0}) DayFault → Type 0
   TellsEnd Ends result = (end : Result A DayFault) × Ends end × IsEnd end result
 
--- how the day of two files ends whose rows so many workers take
-pub record DayEndsBy (workers : ℕ) (segment orders old new : Option (List ℕ)) (end : Result DayReport DayFault) : Type 0 where
+-- how a day ends whose rows so many workers take, by how it ends where the rows have such days
+pub record EndsBy (workers : ℕ) (Ends : (SegmentConfig → List Row → Day → Type 0) → Type 0) : Type 0 where
   -- one worker takes them in their order
-  pub alone : workers ≡ 1 → DayEnds InFileOrder segment orders old new end
+  pub alone : workers ≡ 1 → Ends InFileOrder
   -- several take each member's in their order
-  pub shared : workers ≢ 1 → DayEnds (IsShared workers) segment orders old new end
+  pub shared : workers ≢ 1 → Ends (IsShared workers)
 
 -- how the run of two files ends by so many workers
 abbrev pub RunEnds : ℕ → Option (List ℕ) → Option (List ℕ) → Option (List ℕ) → Option (List ℕ) → Result (Unit {0}) DayFault → Type 0
-RunEnds workers segment orders old new = TellsEnd (DayEndsBy workers segment orders old new)
+RunEnds workers segment orders old new = TellsEnd (λ end. EndsBy workers (λ days. DayEnds days segment orders old new end))
+
+-- how the run of a segment file, a carry file and an order file ends by so many workers, which hands on what its day leaves
+abbrev pub CarryEnds : ℕ → Option (List ℕ) → Option (List ℕ) → Option (List ℕ) → Outputs → Result (Unit {0}) DayFault → Type 0
+CarryEnds workers segment carried orders out = TellsEnd (λ end. EndsBy workers (λ days. CarriedDayEnds days segment carried orders out end))
+
+-- the same where the file for what is left may be none that can be made, which is a failed write before anything is written
+abbrev pub CarryFilesEnd : ℕ → Option (List ℕ) → Option (List ℕ) → Result (Unit {0}) DayFault → Type 0
+CarryFilesEnd workers old new result =
+    ((segment carried orders kept_old kept_new : Option (List ℕ))
+    × CarryEnds workers segment carried orders (record { old = old; new = new; kept_old = kept_old; kept_new = kept_new }) result)
+    ⊎ ((result ≡ Err WriteFailed) × (new ≡ old))
 
 -- the texts that are told beside the statement of two files, each of which is empty where it isn't asked for
 pub record AreTexts (asked : AskedTexts) (segment orders : Option (List ℕ)) (answers depth : List ℕ) : Type 0 where

@@ -6,9 +6,9 @@ use Rattle.clap.specs.Words.{IsAmong, Kinds}
 use Rattle.clap.specs.declared.error.kind.ErrorKind.{ErrorKind}
 use Rattle.xm_day.specs.declared.faults.DayFault.{DayFault}
 use Rattle.xm_day.specs.declared.faults.DayFault.TheVariants.{OutOfMemory, WriteFailed}
-use Rattle.xm_program.specs.Days.{FileCheckEnds, FilesEnd, RunEnds}
+use Rattle.xm_program.specs.Days.{CarryFilesEnd, FileCheckEnds, FilesEnd, RunEnds}
 use Rattle.xm_program.specs.FaultLines.{fault_line}
-use Rattle.xm_program.specs.Requests.{Asked, IsOfWords, asked_texts, check, end_status, is_mistake, run, run_told}
+use Rattle.xm_program.specs.Requests.{Asked, IsOfWords, asked_texts, carry, check, end_status, is_mistake, run, run_told}
 use Rattle.xm_program.specs.declared.requests.Failure.{Failure}
 use Rattle.xm_program.specs.declared.requests.Failure.TheVariants.{Day, Words}
 use Rattle.xm_ticks.specs.Writing.{AppendsPrefix}
@@ -17,9 +17,10 @@ use Rattle.xm_ticks.specs.Writing.{AppendsPrefix}
 abbrev pub AskedEnds : Asked → Option (List ℕ) → Option (List ℕ) → Result (Unit {0}) DayFault → Type 0
 AskedEnds (run segment orders workers) old new end = (segment_bytes order_bytes : Option (List ℕ)) × RunEnds workers segment_bytes order_bytes old new end
 AskedEnds (run_told segment orders answers depth) old new end = FilesEnd (asked_texts answers depth) old new end
+AskedEnds (carry segment carried orders keep workers) old new end = CarryFilesEnd workers old new end
 AskedEnds (check segment) old new end = (segment_bytes : Option (List ℕ)) × FileCheckEnds segment_bytes old new end
 
--- the words have no fault and ask for a run or a check, which ended so
+-- the words have no fault and ask for what can be done, which ended so
 pub record HasDone (faults : Kinds) (asked : Option Asked) (old new : Option (List ℕ)) (end : Result (Unit {0}) DayFault) : Type 0 where
   pub faultless : faults ≡ []
   pub what : Asked
@@ -32,8 +33,8 @@ pub record AsksHelp (faults : Kinds) : Type 0 where
   pub is_help : is_mistake kind ≡ false
   pub among : IsAmong kind faults
 
--- what words with these faults, which ask for this, lead to on standard output: a run writes the statement of its day, a check
--- the line of its segment, and nothing else; after a mistake, and after a fault, nothing was written, but where writing failed
+-- what words with these faults, which ask for this, lead to on standard output: a run, also one that hands on what its day leaves,
+-- writes the statement of its day, a check the line of its segment, and nothing else; after a mistake, and after a fault, nothing was written, but where writing failed
 abbrev pub IsDone : Kinds → Option Asked → Option (List ℕ) → Option (List ℕ) → Result (Unit {0}) Failure → Type 0
 IsDone faults asked old new (Ok done) = HasDone faults asked old new (Ok done) ⊎ AsksHelp faults
 IsDone faults asked old new (Err (Day (OutOfMemory _))) = new ≡ old

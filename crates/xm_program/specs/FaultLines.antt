@@ -38,6 +38,7 @@ file_line file fault = file ++ codes ": line " ++ decimal fault.line ++ codes ":
 -- what is said of a fault
 abbrev pub fault_text : DayFault → List ℕ
 fault_text (day.Segment fault) = file_line (codes "segment") fault
+fault_text (day.Carry fault) = file_line (codes "carry") fault
 fault_text (day.Orders fault) = file_line (codes "orders") fault
 fault_text (day.Open fault) = codes "open: " ++ open_name fault
 fault_text (day.OutOfMemory _) = codes "out of memory"
@@ -54,6 +55,7 @@ told_for fault _ = fault
 
 abbrev pub told : DayFault → DayFault
 told (day.Segment fault) = told_for (day.Segment fault) fault.cause
+told (day.Carry fault) = told_for (day.Carry fault) fault.cause
 told (day.Orders fault) = told_for (day.Orders fault) fault.cause
 told (day.Open (opening.OutOfMemory _)) = day.OutOfMemory tt
 told fault = fault

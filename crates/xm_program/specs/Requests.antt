@@ -1,6 +1,7 @@
 -- How the words of a command line are answered.
 use Rattle.std.specs.Prelude.{◌≡◌, ◌≤◌, ◌==◌, ℕ, pos, Bool, false, true, ◌&&◌, ◌||◌, not, if◌then◌else◌, ◌⊎◌, List, [], ◌∷◌, ◌++◌, Option, Some, None, IfSome, is_some, Result, Ok, Err, ⊤, codes, option_and_then, option_map, unwrap_or}
 use Rattle.std.specs.Fmt.{decimal}
+use Rattle.std.specs.List.{list_all}
 use Rattle.std.specs.Str.{bytes_eq}
 use Rattle.std.specs.Str.Parse.{digits_value, without_leading_plus}
 use Rattle.clap.specs.Values.{kind_of}
@@ -18,7 +19,7 @@ use Rattle.xm_day.specs.declared.faults.DayFault.TheVariants as day
 use Rattle.xm_day.specs.declared.report.AskedTexts.{AskedTexts}
 use Rattle.xm_segment.specs.Opening.{max_workers}
 use Rattle.xm_program.specs.declared.requests.Request.{Request}
-use Rattle.xm_program.specs.declared.requests.Request.TheVariants.{Run, RunTold, Check, Help}
+use Rattle.xm_program.specs.declared.requests.Request.TheVariants.{Run, RunTold, Carry, Check, Help}
 use Rattle.xm_program.specs.declared.requests.Failure.{Failure}
 use Rattle.xm_program.specs.declared.requests.Failure.TheVariants.{Day, Words}
 
@@ -48,22 +49,30 @@ run_app =
     with_rule (with_rule (with_rule (with_rule (with_rule (new_app (codes "run")) (path_rule (codes "SEGMENT"))) (path_rule (codes "ORDERS"))) workers_rule)
     (file_rule (codes "answers"))) (file_rule (codes "depth"))
 
+-- `carry SEGMENT IN ORDERS OUT --workers N`
+abbrev pub carry_app : App
+carry_app =
+    with_rule (with_rule (with_rule (with_rule (with_rule (new_app (codes "carry")) (path_rule (codes "SEGMENT"))) (path_rule (codes "IN")))
+    (path_rule (codes "ORDERS"))) (path_rule (codes "OUT"))) workers_rule
+
 -- `check SEGMENT`
 abbrev pub check_app : App
 check_app = with_rule (new_app (codes "check")) (path_rule (codes "SEGMENT"))
 
 -- `xetra-day`, with a subcommand
 abbrev pub day_app : App
-day_app = with_subcommand (with_subcommand (on_top (λ s. record s { has_version = true; subcommand_required = true; arg_required_else_help = true })
-    (new_app (codes "xetra-day"))) run_app.top) check_app.top
+day_app = with_subcommand (with_subcommand (with_subcommand (on_top (λ s. record s { has_version = true; subcommand_required = true; arg_required_else_help = true })
+    (new_app (codes "xetra-day"))) run_app.top) carry_app.top) check_app.top
 
 -- ---- what the words ask for
 
 -- the run of a segment file and an order file by so many workers, or by one that also writes the answers, the levels or both to
--- files, or the check of a segment file
+-- files; the run of a segment file, a carry file and an order file that also writes, to the last of four files, the carry file of the
+-- next day, by so many workers; or the check of a segment file
 pub data Asked : Type 0 where
   run : Text → Text → ℕ → Asked
   run_told : Text → Text → Option Text → Option Text → Asked
+  carry : Text → Text → Text → Text → ℕ → Asked
   check : Text → Asked
 
 -- a number of workers, by its decimal digits
@@ -93,20 +102,33 @@ run_to segment orders workers None None = Some (run segment orders workers)
 run_to segment orders workers None (Some depth) = told_run segment orders workers None (Some depth)
 run_to segment orders workers (Some answers) depth = told_run segment orders workers (Some answers) depth
 
--- the run that the values of a subcommand ask for
-abbrev pub run_of : Option Text → Option Text → Option ℕ → Option Text → Option Text → Option Asked
-run_of (Some segment) (Some orders) (Some workers) answers depth = run_to segment orders workers answers depth
-run_of (Some segment) (Some orders) None answers depth = None
-run_of (Some segment) None workers answers depth = None
-run_of None orders workers answers depth = None
+-- the run of two files that opens with a carry file, and hands on what its day leaves to a file, not to standard output
+abbrev pub carry_to : Text → Text → ℕ → Option Text → Option Text → Option Asked
+carry_to segment orders workers (Some carried) (Some keep) = if is_file (Some keep) then Some (carry segment carried orders keep workers) else None
+carry_to segment orders workers (Some carried) None = None
+carry_to segment orders workers None keep = None
+
+-- the run that the values of a subcommand ask for, by the paths of both files, the number of workers and two paths more
+abbrev pub run_of : (Text → Text → ℕ → Option Text → Option Text → Option Asked) → Option Text → Option Text → Option ℕ → Option Text → Option Text → Option Asked
+run_of to (Some segment) (Some orders) (Some workers) first second = to segment orders workers first second
+run_of to (Some segment) (Some orders) None first second = None
+run_of to (Some segment) None workers first second = None
+run_of to None orders workers first second = None
+
+-- the run that these values ask for, where the two paths more are values with these names
+abbrev pub run_in : (Text → Text → ℕ → Option Text → Option Text → Option Asked) → Text → Text → List Row → Option Asked
+run_in to first second rows =
+    run_of to (first_of (codes "SEGMENT") rows) (first_of (codes "ORDERS") rows) (option_and_then workers_in (one_of (codes "workers") rows))
+    (first_of first rows) (first_of second rows)
 
 abbrev pub asked_in : Option (Text × List Row) → Option Asked
 asked_in None = None
 asked_in (Some p) =
     if bytes_eq p.0 (codes "run")
-    then run_of (first_of (codes "SEGMENT") p.1) (first_of (codes "ORDERS") p.1) (option_and_then workers_in (one_of (codes "workers") p.1))
-    (first_of (codes "answers") p.1) (first_of (codes "depth") p.1)
-    else (if bytes_eq p.0 (codes "check") then option_map check (first_of (codes "SEGMENT") p.1) else None)
+    then run_in run_to (codes "answers") (codes "depth") p.1
+    else (if bytes_eq p.0 (codes "carry")
+    then run_in carry_to (codes "IN") (codes "OUT") p.1
+    else (if bytes_eq p.0 (codes "check") then option_map check (first_of (codes "SEGMENT") p.1) else None))
 
 -- the run or the check that the words ask for
 abbrev pub asked_of : List Text → Option Asked
@@ -122,13 +144,12 @@ abbrev pub workers_words : Option ℕ → List Text
 workers_words None = []
 workers_words (Some workers) = codes "--workers" ∷ decimal workers ∷ []
 
--- the words are the program's name, `run`, two paths and, if a number of workers is asked for, `--workers` and it
-pub record AsksRun (words : List Text) (segment orders : Text) (workers : ℕ) : Type 0 where
+-- the words are the program's name, a subcommand, these paths and, if a number of workers is asked for, `--workers` and it
+pub record AsksBy (words : List Text) (subcommand : Text) (paths : List Text) (workers : ℕ) : Type 0 where
   pub program : Text
   pub number : Option ℕ
-  pub words_are : words ≡ program ∷ codes "run" ∷ segment ∷ orders ∷ workers_words number
-  pub segment_is_plain : is_plain_word segment ≡ true
-  pub orders_is_plain : is_plain_word orders ≡ true
+  pub words_are : words ≡ program ∷ subcommand ∷ (paths ++ workers_words number)
+  pub are_plain : list_all is_plain_word paths ≡ true
   pub workers_are : workers ≡ unwrap_or number 1
   pub some : 1 ≤ workers
   pub few : workers ≤ max_workers
@@ -161,8 +182,9 @@ pub record AsksCheck (words : List Text) (segment : Text) : Type 0 where
 
 -- the words ask for it in a form that is always taken
 abbrev pub Asks : List Text → Asked → Type 0
-Asks words (run segment orders workers) = AsksRun words segment orders workers
+Asks words (run segment orders workers) = AsksBy words (codes "run") (segment ∷ orders ∷ []) workers
 Asks words (run_told segment orders answers depth) = AsksTexts words segment orders answers depth
+Asks words (carry segment carried orders keep workers) = AsksBy words (codes "carry") (segment ∷ carried ∷ orders ∷ keep ∷ []) workers
 Asks words (check segment) = AsksCheck words segment
 
 -- ---- the answer
@@ -171,6 +193,7 @@ Asks words (check segment) = AsksCheck words segment
 abbrev pub IsRequest : Option Asked → Request → Type 0
 IsRequest asked (Run segment orders workers) = asked ≡ Some (run segment.now orders.now workers)
 IsRequest asked (RunTold segment orders answers depth) = asked ≡ Some (run_told segment.now orders.now (option_map (λ s. s.now) answers) (option_map (λ s. s.now) depth))
+IsRequest asked (Carry segment carried orders keep workers) = asked ≡ Some (carry segment.now carried.now orders.now keep.now workers)
 IsRequest asked (Check segment) = asked ≡ Some (check segment.now)
 IsRequest asked (Help error) = ⊥
 

@@ -17,6 +17,7 @@ pub fn fault_line(fault: DayFault) -> ArrayVec<u8, 64>
     push_text(&mut line, "xetra-day: ");
     match fault {
         DayFault::Segment(of_file) => push_file_fault(&mut line, "segment", of_file),
+        DayFault::Carry(of_file) => push_file_fault(&mut line, "carry", of_file),
         DayFault::Orders(of_file) => push_file_fault(&mut line, "orders", of_file),
         DayFault::Open(fault) => {
             push_text(&mut line, "open: ");
@@ -66,10 +67,12 @@ fn want_of_memory(fault: &DayFault) -> Option<OutOfMemory>
     ensures { told fault.now ≡ unwrap_or (option_map (λ error. DayFault.OutOfMemory error) result) fault.now }
 {
     match fault {
-        DayFault::Segment(of_file) | DayFault::Orders(of_file) => match of_file.cause {
-            FileCause::OutOfMemory(error) => Some(error),
-            _ => None,
-        },
+        DayFault::Segment(of_file) | DayFault::Carry(of_file) | DayFault::Orders(of_file) => {
+            match of_file.cause {
+                FileCause::OutOfMemory(error) => Some(error),
+                _ => None,
+            }
+        }
         DayFault::Open(OpenFault::OutOfMemory(error)) => Some(*error),
         _ => None,
     }

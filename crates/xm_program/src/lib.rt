@@ -1,5 +1,5 @@
-//! What the program `xetra-day` does with its command line: it runs a day of two files, checks a segment file,
-//! or prints its help.
+//! What the program `xetra-day` does with its command line: it runs a day of two files, also one that opens with
+//! what earlier days left, checks a segment file, or prints its help.
 #![tactic(auto)]
 
 mod complaints;
@@ -13,6 +13,6 @@ mod workers;
 pub use crate::fault_lines::fault_line;
 pub use crate::inputs::{Input, open_input};
 pub use crate::outputs::Output;
-pub use crate::program::{check, run, run_program, run_told, run_words};
+pub use crate::program::{carry_over, check, run, run_program, run_told, run_words};
 pub use crate::requests::{Failure, Request, read_words};
 pub use crate::workers::Workers;

@@ -3,7 +3,7 @@ ghost use Rattle.std.specs.Prelude.{◌≡◌, ◌≢◌, ◌≤◌, ℕ, List, 
 ghost use Rattle.std.specs.Io.KnownBytes.{Appends, Keeps};
 ghost use Rattle.std.specs.Process.{exit_status};
 ghost use Rattle.clap.specs.Words.{fault_of};
-ghost use Rattle.xm_program.specs.Days.{AppendsBeginning, BeginsBoth, FileCheckEnds, FilesEnd, IsEnd, RunEnds, ToldRunEnds};
+ghost use Rattle.xm_program.specs.Days.{AppendsBeginning, BeginsBoth, CarryEnds, CarryFilesEnd, FileCheckEnds, FilesEnd, IsEnd, RunEnds, ToldRunEnds};
 ghost use Rattle.xm_program.specs.Ends.{CallEnds, IsDone, IsToldAs};
 ghost use Rattle.xm_program.specs.Requests.{RefusesBytes, asked_of, asked_texts, day_app, end_status};
 
@@ -21,7 +21,7 @@ use std::rt::{Env, Files};
 use std::sync::Wait;
 use std::thread::Threads;
 use std::{env, fs, io};
-use xm_day::{AskedTexts, DayFault, run_day};
+use xm_day::{AskedTexts, DayFault, carry_day, run_day};
 use xm_memory::OutOfMemory;
 use xm_names::{Seed, Storage};
 use xm_segment::NoGate;
@@ -75,6 +75,13 @@ fn answer<R: AllocGlobal + Files + RandomSource + Threads + Wait + Sync, W: Writ
             answers,
             depth,
         } => Ok(tell_files(rt, segment, orders, answers, depth, out)?),
+        Request::Carry {
+            segment,
+            carried,
+            orders,
+            keep,
+            workers,
+        } => Ok(carry_files(rt, segment, carried, orders, keep, workers, out)?),
         Request::Check { segment } => Ok(check_file(rt, segment, out)?),
         Request::Help(text) => Ok(print_help(text, out)?),
     }
@@ -135,6 +142,39 @@ fn tell_files<R: AllocGlobal + Files + RandomSource, W: Write>(
     )
 }
 
+/// Writes the statement of the day in the files at two paths, which opens with the carry file at another, and the carry file of the
+/// next day to that at the last, which is made before any is read.
+fn carry_files<R: AllocGlobal + Files + RandomSource + Threads + Wait + Sync, W: Write>(
+    rt: &R,
+    segment: &str,
+    carried: &str,
+    orders: &str,
+    keep: &str,
+    workers: Workers,
+    out: &mut W,
+) -> Result<(), DayFault>
+    ensures ends { CarryFilesEnd workers (W.contents out.old) (W.contents out.new) result }
+    ensures untouched { IfErr result (λ fault. fault ≢ DayFault.WriteFailed → out.new ≡ out.old) }
+{
+    let (mut keep, _) = match outputs::make_files(rt, Some(keep), None, [segment, orders]) {
+        Ok(files) => files,
+        Err(_) => return Err(DayFault::WriteFailed),
+    };
+    let mut segment = inputs::open_input(|path| fs::open(rt, path), segment);
+    let mut carried = inputs::open_input(|path| fs::open(rt, path), carried);
+    let mut orders = inputs::open_input(|path| fs::open(rt, path), orders);
+    carry_over(
+        rt,
+        storage(rt),
+        &mut segment,
+        &mut carried,
+        &mut orders,
+        workers,
+        out,
+        &mut keep,
+    )
+}
+
 /// Checks the segment file at a path, and writes its line.
 fn check_file<R: AllocGlobal + Files + RandomSource, W: Write>(
     rt: &R,
@@ -188,6 +228,31 @@ pub fn run<R: Threads + Wait + Sync, S: Read, O: Read, W: Write>(
 {
     let ended = run_day(rt, storage, segment, orders, out, workers.get(), &NoGate);
     sent_out(ended, out)
+}
+
+/// Writes the statement of the day in two files that opens with a carry file, whose rows so many workers take, sees that all of it
+/// went out, and then does so with the carry file of the next day.
+///
+/// `WriteFailed` tells that one of both writers failed. The second got nothing unless the whole statement was written.
+pub fn carry_over<R: Threads + Wait + Sync, S: Read, C: Read, O: Read, W: Write, K: Write>(
+    rt: &R,
+    storage: Storage<Global>,
+    segment: &mut S,
+    carried: &mut C,
+    orders: &mut O,
+    workers: Workers,
+    out: &mut W,
+    keep: &mut K,
+) -> Result<(), DayFault>
+    ensures ends { CarryEnds workers (S.remaining segment.old) (C.remaining carried.old) (O.remaining orders.old)
+        (record { old = W.contents out.old; new = W.contents out.new; kept_old = K.contents keep.old; kept_new = K.contents keep.new }) result }
+    ensures untouched { IfErr result (λ fault. fault ≢ DayFault.WriteFailed → (out.new ≡ out.old) × (keep.new ≡ keep.old)) }
+{
+    let number = workers.get();
+    let ended = carry_day(
+        rt, storage, segment, carried, orders, out, keep, number, &NoGate,
+    );
+    sent_out(ended, keep)
 }
 
 /// Writes the statement of the day in two files, sees that all of it went out, and then does so with the answers to its rows and

@@ -3,7 +3,7 @@ ghost use Rattle.std.specs.Prelude.{◌≡◌, [], IfOk, IfErr, IfSome, IsSome, 
 ghost use Rattle.clap.specs.Words.{app_of, fault_of, first_of, found_of, kind_of, one_of, rows_of, rule_of, subcommand_rows_of, takes};
 ghost use Rattle.clap.specs.declared.builder.command.Command.TheViews.{out-Command as fields_of};
 ghost use Rattle.clap.specs.declared.error.kind.ErrorKind.TheVariants as kind;
-ghost use Rattle.xm_program.specs.Requests.{AnswersWords, Asked, Asks, IsGranted, IsOfWords, IsRequest, IsTold, IsUnread, answer_of, asked_in, asked_of, can_tell, check_app, day_app, failure_status, file_rule, is_file, is_one_path, path_rule, run_app, run_to, told_run, workers_in, workers_rule};
+ghost use Rattle.xm_program.specs.Requests.{AnswersWords, Asked, Asks, IsGranted, IsOfWords, IsRequest, IsTold, IsUnread, answer_of, asked_in, asked_of, can_tell, carry_app, carry_to, check_app, day_app, failure_status, file_rule, is_file, is_one_path, path_rule, run_app, run_to, told_run, workers_in, workers_rule};
 
 use crate::workers::Workers;
 use clap::error::ErrorKind;
@@ -19,18 +19,29 @@ const VERSION: &str = "0.1.0";
 
 const RUN: &str = "run";
 
+const CARRY: &str = "carry";
+
 const CHECK: &str = "check";
 
 const SEGMENT: &str = "SEGMENT";
 
+const CARRIED: &str = "IN";
+
 const ORDERS: &str = "ORDERS";
+
+const KEEP: &str = "OUT";
 
 const WORKERS: &str = "workers";
 
 const SEGMENT_HELP: &str = "The segment file (TOML): the date, the members and the securities";
 
+const CARRIED_HELP: &str = "The carry file (CSV): the orders and stops that earlier days left";
+
 const ORDERS_HELP: &str =
     "The order file (CSV): a header, then one command a row, in the order of the day";
+
+const KEEP_HELP: &str =
+    "The carry file (CSV) of the next day, which is written behind the statement";
 
 const DAY_HELP: &str = "Replays a trading day of a segment of securities and writes its statement.
 
@@ -64,6 +75,21 @@ orders.csv
   uncross,,,*,,,,,,,,
   end,,,*,,,,,,,,";
 
+const CARRY_HELP: &str =
+    "Runs the day of two files with what earlier days left, and writes what it leaves.
+
+The statement goes to standard output, and then the carry file of the next day to OUT: the orders
+and stops that are valid beyond the day. OUT is made, empty, before any file is read, so IN is
+another file. docs/FORMATS.md tells all of the files that are read and written. Two days in a row:
+
+none.csv
+  security,member,reference,side,kind,limit,trigger,quantity,validity,restriction
+
+  xetra-day carry monday.toml none.csv monday.csv left.csv
+  xetra-day carry tuesday.toml left.csv tuesday.csv left_again.csv
+
+The segment file of the second day has its date, and its reference prices.";
+
 const ANSWERS: &str = "answers";
 
 const DEPTH: &str = "depth";
@@ -73,6 +99,8 @@ const STANDARD_OUTPUT: &str = "-";
 
 const CANNOT_TELL: &str =
     "--answers and --depth go with one worker, and with a file each: standard output has the statement";
+
+const CANNOT_KEEP: &str = "OUT is a file: standard output has the statement";
 
 const ANSWERS_SHORT: &str =
     "Writes the answer to each row, and the market after it, to this file (CSV)";
@@ -126,6 +154,14 @@ pub enum Request<'a> {
         orders: &'a str,
         answers: Option<&'a str>,
         depth: Option<&'a str>,
+    },
+    /// The statement of the day in two files that opens with a carry file, and, in a file of its own, the carry file of the next day.
+    Carry {
+        segment: &'a str,
+        carried: &'a str,
+        orders: &'a str,
+        keep: &'a str,
+        workers: Workers,
     },
     /// The check of a segment file, which is given by its path.
     Check {
@@ -214,7 +250,16 @@ fn read_request<'a>(mut command: Command<'a>, words: &'a [String]) -> Result<Req
     let matches = command.try_get_matches_from_mut(words)?;
     match request_in(&matches) {
         Some(request) => Ok(request),
-        None => Err(command.error(ErrorKind::ArgumentConflict, CANNOT_TELL)?),
+        None => Err(command.error(ErrorKind::ArgumentConflict, why_not(&matches))?),
+    }
+}
+
+/// Why nothing can be done that was met.
+fn why_not(matches: &ArgMatches<'_>) -> &'static str {
+    if matches.subcommand_name() == Some(CARRY) {
+        CANNOT_KEEP
+    } else {
+        CANNOT_TELL
     }
 }
 
@@ -227,6 +272,12 @@ fn request_in<'a>(matches: &ArgMatches<'a>) -> Option<Request<'a>>
     let segment = values.get_str(SEGMENT)?;
     match name {
         RUN => run_in(
+            values,
+            segment,
+            values.get_str(ORDERS)?,
+            workers_in(values)?,
+        ),
+        CARRY => carry_in(
             values,
             segment,
             values.get_str(ORDERS)?,
@@ -293,6 +344,47 @@ fn told_run<'a>(
             orders,
             answers,
             depth,
+        })
+    } else {
+        None
+    }
+}
+
+/// The run of two files among the values of a run that opens with a carry file, and writes one.
+fn carry_in<'a>(
+    values: &ArgMatches<'a>,
+    segment: &'a str,
+    orders: &'a str,
+    workers: Workers,
+) -> Option<Request<'a>>
+    ensures some { IfSome result (IsRequest (carry_to segment.now orders.now workers (first_of (codes "IN") (rows_of (found_of values.now))) (first_of (codes "OUT") (rows_of (found_of values.now))))) }
+    ensures none { result ≡ None → carry_to segment.now orders.now workers (first_of (codes "IN") (rows_of (found_of values.now))) (first_of (codes "OUT") (rows_of (found_of values.now))) ≡ None }
+{
+    let carried = values.get_str(CARRIED);
+    let keep = values.get_str(KEEP);
+    carry_to(segment, orders, workers, carried, keep)
+}
+
+/// The run of two files that opens with a carry file and writes one, if there are paths for these.
+fn carry_to<'a>(
+    segment: &'a str,
+    orders: &'a str,
+    workers: Workers,
+    carried: Option<&'a str>,
+    keep: Option<&'a str>,
+) -> Option<Request<'a>>
+    ensures some { IfSome result (IsRequest (carry_to segment.entry.now orders.entry.now workers (option_map (λ s. s.now) carried.entry) (option_map (λ s. s.now) keep.entry))) }
+    ensures none { result ≡ None → carry_to segment.entry.now orders.entry.now workers (option_map (λ s. s.now) carried.entry) (option_map (λ s. s.now) keep.entry) ≡ None }
+{
+    let carried = carried?;
+    let keep = keep?;
+    if is_file(Some(keep)) {
+        Some(Request::Carry {
+            segment,
+            carried,
+            orders,
+            keep,
+            workers,
         })
     } else {
         None
@@ -371,6 +463,7 @@ fn command_line<'a>(alloc: Global) -> Result<Command<'a>, OutOfMemory>
         .subcommand_required(true)
         .arg_required_else_help(true)
         .subcommand(run_command(alloc)?)?
+        .subcommand(carry_command(alloc)?)?
         .subcommand(check_command(alloc)?)?;
     Ok(command)
 }
@@ -389,6 +482,23 @@ fn run_command<'a>(alloc: Global) -> Result<Command<'a>, OutOfMemory>
         .arg(workers(alloc))?
         .arg(file(alloc, ANSWERS, ANSWERS_SHORT, ANSWERS_HELP))?
         .arg(file(alloc, DEPTH, DEPTH_SHORT, DEPTH_HELP))?;
+    Ok(command)
+}
+
+/// The part of the command line that runs a day with a carry file, and writes one.
+fn carry_command<'a>(alloc: Global) -> Result<Command<'a>, OutOfMemory>
+    ensures app { IfOk result (λ command. app_of command ≡ carry_app) }
+    ensures local { IfOk result (λ command. (fields_of command).has_globals ≡ false) }
+{
+    let command = Command::new(alloc, CARRY)
+        .about("Runs the day of two files with what earlier days left, and writes what it leaves")
+        .long_about(CARRY_HELP)
+        .after_help(STATUS_HELP)
+        .arg(path(alloc, SEGMENT).help(SEGMENT_HELP))?
+        .arg(path(alloc, CARRIED).help(CARRIED_HELP))?
+        .arg(path(alloc, ORDERS).help(ORDERS_HELP))?
+        .arg(path(alloc, KEEP).help(KEEP_HELP))?
+        .arg(workers(alloc))?;
     Ok(command)
 }
 

@@ -1,9 +1,9 @@
 use Rattle.std.proofs.Common.{rules, ap, ◌≡◌, Ok, Err, inr, map, option_map, string_bytes}
 use Rattle.clap.specs.Words.{fault_of}
 use Rattle.xm_day.specs.declared.faults.DayFault.TheVariants.{WriteFailed}
-use Rattle.xm_program.specs.Requests.{AnswersWords, asked_of, check, day_app, run, run_told}
+use Rattle.xm_program.specs.Requests.{AnswersWords, asked_of, carry, check, day_app, run, run_told}
 use Rattle.xm_program.specs.declared.requests.Failure.TheVariants.{Day}
-use Rattle.xm_program.specs.declared.requests.Request.TheVariants.{Run, RunTold, Check, Help}
+use Rattle.xm_program.specs.declared.requests.Request.TheVariants.{Run, RunTold, Carry, Check, Help}
 use Rattle.xm_program.proofs.Ends.{all-done, asks-help, fault-done, refused-done}
 use Rattle.xm_program.proofs.program.answer.Goals as goal
 
@@ -28,6 +28,15 @@ returns-in_err-tell_files-in-RunTold g c =
     let answered : AnswersWords (fault_of day_app words) (asked_of words) (Ok (RunTold it.segment it.orders it.answers it.depth)) = search rules in
     let is : c.from_residual-in_err-tell_files-in-RunTold.result ≡ Err (Day met.field-0.0) = search rules in
     rw is (fault-done _ _ (run_told it.segment.now it.orders.now (option_map (λ s. s.now) it.answers) (option_map (λ s. s.now) it.depth)) _ _ met.field-0.0 answered.0 answered.1 met.ensures.ends (λ h. ap g.W.Write.contents (met.ensures.untouched h)))
+
+pub returns-in_err-carry_files-in-Carry : goal.returns-in_err-carry_files-in-Carry
+returns-in_err-carry_files-in-Carry g c =
+    let words = map string_bytes c.args.words.now in
+    let met = c.in_err-carry_files-in-Carry in
+    let it = c.in-Carry in
+    let answered : AnswersWords (fault_of day_app words) (asked_of words) (Ok (Carry it.segment it.carried it.orders it.keep it.workers)) = search rules in
+    let is : c.from_residual-in_err-carry_files-in-Carry.result ≡ Err (Day met.field-0.0) = search rules in
+    rw is (fault-done _ _ (carry it.segment.now it.carried.now it.orders.now it.keep.now it.workers) _ _ met.field-0.0 answered.0 answered.1 met.ensures.ends (λ h. ap g.W.Write.contents (met.ensures.untouched h)))
 
 pub returns-in_err-check_file-in-Check : goal.returns-in_err-check_file-in-Check
 returns-in_err-check_file-in-Check g c =
@@ -56,6 +65,13 @@ returns-in_ok-tell_files-in-RunTold g c =
     let it = c.in-RunTold in
     let answered : AnswersWords (fault_of day_app words) (asked_of words) (Ok (RunTold it.segment it.orders it.answers it.depth)) = search rules in
     all-done _ _ (run_told it.segment.now it.orders.now (option_map (λ s. s.now) it.answers) (option_map (λ s. s.now) it.depth)) _ _ answered.0 answered.1 c.in_ok-tell_files-in-RunTold.ensures.ends
+
+pub returns-in_ok-carry_files-in-Carry : goal.returns-in_ok-carry_files-in-Carry
+returns-in_ok-carry_files-in-Carry g c =
+    let words = map string_bytes c.args.words.now in
+    let it = c.in-Carry in
+    let answered : AnswersWords (fault_of day_app words) (asked_of words) (Ok (Carry it.segment it.carried it.orders it.keep it.workers)) = search rules in
+    all-done _ _ (carry it.segment.now it.carried.now it.orders.now it.keep.now it.workers) _ _ answered.0 answered.1 c.in_ok-carry_files-in-Carry.ensures.ends
 
 pub returns-in_ok-check_file-in-Check : goal.returns-in_ok-check_file-in-Check
 returns-in_ok-check_file-in-Check g c =

@@ -1,7 +1,7 @@
 use Rattle.std.proofs.Common.{rules, ap, ap₂, ◌≡◌, ◌∙◌, true, codes}
 use Rattle.clap.specs.Words.{App, app_of, new_app, shape_of, with_subcommand}
 use Rattle.clap.specs.Simple.{app_of_fields, on_top}
-use Rattle.xm_program.specs.Requests.{check_app, run_app}
+use Rattle.xm_program.specs.Requests.{carry_app, check_app, run_app}
 use Rattle.xm_program.proofs.requests.command_line.Goals as goal
 
 abbrev with_version : App → App
@@ -21,6 +21,8 @@ returns c =
     let required : app_of c.subcommand_required.result ≡ with_subcommand_required (with_version (new_app (codes "xetra-day"))) = ap app_of_fields c.subcommand_required.ensures ∙ ap with_subcommand_required told in
     let top : app_of c.arg_required_else_help.result ≡ with_help (with_subcommand_required (with_version (new_app (codes "xetra-day")))) = ap app_of_fields c.arg_required_else_help.ensures ∙ ap with_help required in
     let run : shape_of c.in_ok-run_command.field-0 ≡ run_app.top = ap (λ (app : App). app.top) c.in_ok-run_command.ensures.app in
+    let carry : shape_of c.in_ok-carry_command.field-0 ≡ carry_app.top = ap (λ (app : App). app.top) c.in_ok-carry_command.ensures.app in
     let check : shape_of c.in_ok-check_command.field-0 ≡ check_app.top = ap (λ (app : App). app.top) c.in_ok-check_command.ensures.app in
     let first = c.in_ok-subcommand.ensures.shape c.in_ok-run_command.ensures.local ∙ ap₂ with_subcommand top run in
-    c.in_ok-command.ensures.shape c.in_ok-check_command.ensures.local ∙ ap₂ with_subcommand first check
+    let second = c.in_ok-subcommand-2.ensures.shape c.in_ok-carry_command.ensures.local ∙ ap₂ with_subcommand first carry in
+    c.in_ok-command.ensures.shape c.in_ok-check_command.ensures.local ∙ ap₂ with_subcommand second check
