@@ -3,13 +3,71 @@
 use crate::differences;
 use crate::texts::{self, CaseFault};
 use std::fs;
+use std::io::Read;
 use std::rt::Files;
+use std::sync::Wait;
+use std::thread::Threads;
 use xm_day::{AskedTexts, DayFault};
 use xm_names::Storage;
-use xm_program::{Input, fault_line, open_input, run_told};
+use xm_program::{Input, Workers, carry_over, fault_line, open_input, run_told};
 
 /// Runs the day of a case, prints whether it gives what is stored, and tells it.
-pub fn is_as_stored<R: AllocGlobal + Files + Print>(rt: &R, name: &str) -> Result<bool, CaseFault> {
+pub fn is_as_stored<R: AllocGlobal + Files + Print + Threads + Wait + Sync>(
+    rt: &R,
+    name: &str,
+) -> Result<bool, CaseFault> {
+    let path = texts::path(rt, name, "in.csv")?;
+    match open_input(|path| fs::open(rt, path), path.as_str()) {
+        Input::Opened(mut file) => is_carry_as_stored(rt, name, &mut file),
+        Input::Unopened => is_run_as_stored(rt, name),
+    }
+}
+
+/// The same of a day that opens with a carry file.
+fn is_carry_as_stored<R: AllocGlobal + Files + Print + Threads + Wait + Sync, C: Read>(
+    rt: &R,
+    name: &str,
+    carried: &mut C,
+) -> Result<bool, CaseFault> {
+    let mut statement = Vec::new(rt.alloc());
+    let mut keep = Vec::new(rt.alloc());
+    let ended = carry_day(rt, name, carried, &mut statement, &mut keep)?;
+    match ended {
+        Ok(()) => {
+            let left = differences::is_stored(rt, name, "out.csv", keep.as_slice())?;
+            compare(rt, name, b"", statement.as_slice(), b"", left)
+        }
+        Err(fault) => compare(rt, name, fault_line(fault).as_slice(), b"", b"", true),
+    }
+}
+
+/// Writes the statement of the day of a case that opens with a carry file, and what it leaves.
+fn carry_day<R: AllocGlobal + Files + Threads + Wait + Sync, C: Read>(
+    rt: &R,
+    name: &str,
+    carried: &mut C,
+    statement: &mut Vec<u8>,
+    keep: &mut Vec<u8>,
+) -> Result<Result<(), DayFault>, CaseFault> {
+    let Some(workers) = Workers::new(1) else {
+        return Err(CaseFault);
+    };
+    let (mut segment, mut orders) = open_files(rt, name)?;
+    let storage = Storage::with_fixed_seed(rt.alloc());
+    Ok(carry_over(
+        rt,
+        storage,
+        &mut segment,
+        carried,
+        &mut orders,
+        workers,
+        statement,
+        keep,
+    ))
+}
+
+/// The same of a day of two files.
+fn is_run_as_stored<R: AllocGlobal + Files + Print>(rt: &R, name: &str) -> Result<bool, CaseFault> {
     let mut statement = Vec::new(rt.alloc());
     let mut answers = Vec::new(rt.alloc());
     let mut depth = Vec::new(rt.alloc());
@@ -38,10 +96,7 @@ fn run_day<R: AllocGlobal + Files>(
     answers: &mut Vec<u8>,
     depth: &mut Vec<u8>,
 ) -> Result<Result<(), DayFault>, CaseFault> {
-    let own = texts::path(rt, name, "segment.toml")?;
-    let orders = texts::path(rt, name, "orders.csv")?;
-    let mut segment = open_segment(rt, own.as_str());
-    let mut orders = open_input(|path| fs::open(rt, path), orders.as_str());
+    let (mut segment, mut orders) = open_files(rt, name)?;
     let storage = Storage::with_fixed_seed(rt.alloc());
     let asked = AskedTexts {
         answers: true,
@@ -58,6 +113,20 @@ fn run_day<R: AllocGlobal + Files>(
     ))
 }
 
+/// The segment file and the order file of a case.
+fn open_files<R: AllocGlobal + Files>(
+    rt: &R,
+    name: &str,
+) -> Result<(Input<R::File>, Input<R::File>), CaseFault> {
+    let own = texts::path(rt, name, "segment.toml")?;
+    let orders = texts::path(rt, name, "orders.csv")?;
+    let segment = open_segment(rt, own.as_str());
+    Ok((
+        segment,
+        open_input(|path| fs::open(rt, path), orders.as_str()),
+    ))
+}
+
 /// The segment file of a case: its own, or the one that all others have.
 fn open_segment<R: Files>(rt: &R, own: &str) -> Input<R::File> {
     match open_input(|path| fs::open(rt, path), own) {
@@ -66,19 +135,19 @@ fn open_segment<R: Files>(rt: &R, own: &str) -> Input<R::File> {
     }
 }
 
-/// Compares what a case gives with what is stored, of which each text may be empty. Whether its levels are is known.
+/// Compares what a case gives with what is stored, of which each text may be empty. Whether what it gives beside them is, is known.
 fn compare<R: AllocGlobal + Files + Print>(
     rt: &R,
     name: &str,
     fault: &[u8],
     statement: &[u8],
     answers: &[u8],
-    levels_as_stored: bool,
+    others_as_stored: bool,
 ) -> Result<bool, CaseFault> {
     let faults = differences::is_stored(rt, name, "fault", fault)?;
     let statements = differences::is_stored(rt, name, "statement", statement)?;
     let answers = differences::is_stored(rt, name, "answers.csv", answers)?;
-    if faults && statements && answers && levels_as_stored {
+    if faults && statements && answers && others_as_stored {
         texts::said(println!(rt; "{name} as stored"))?;
         return Ok(true);
     }

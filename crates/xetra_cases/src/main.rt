@@ -10,6 +10,8 @@ use crate::texts::CaseFault;
 use std::env;
 use std::process::ExitCode;
 use std::rt::{Env, Files};
+use std::sync::Wait;
+use std::thread::Threads;
 
 fn main(rt: HostRuntime) -> ExitCode {
     match run(&rt) {
@@ -19,7 +21,9 @@ fn main(rt: HostRuntime) -> ExitCode {
 }
 
 /// Runs the cases that the command line names, and tells whether each gives what is stored.
-fn run<R: Env + AllocGlobal + Files + Print>(rt: &R) -> Result<bool, CaseFault> {
+fn run<R: Env + AllocGlobal + Files + Print + Threads + Wait + Sync>(
+    rt: &R,
+) -> Result<bool, CaseFault> {
     let words: Result<Vec<String>, _> = match env::args(rt) {
         Ok(words) => words.collect(rt.alloc()),
         Err(_) => return Err(CaseFault),
@@ -31,7 +35,10 @@ fn run<R: Env + AllocGlobal + Files + Print>(rt: &R) -> Result<bool, CaseFault> 
 }
 
 /// Runs the cases that words name, of which the first is the program's name.
-fn run_cases<R: AllocGlobal + Files + Print>(rt: &R, words: &[String]) -> Result<bool, CaseFault> {
+fn run_cases<R: AllocGlobal + Files + Print + Threads + Wait + Sync>(
+    rt: &R,
+    words: &[String],
+) -> Result<bool, CaseFault> {
     let mut count: u64 = 0;
     let mut differ: u64 = 0;
     for name in words.iter().skip(1) {
