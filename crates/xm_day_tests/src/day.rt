@@ -1,3 +1,5 @@
+mod carried_days;
+mod chain;
 mod growths;
 mod workers;
 
@@ -259,11 +261,12 @@ const BAD_FIELD: FileFault = FileFault {
     cause: FileCause::BadField,
 };
 
-const TEXTS: [(DayFault, &str); 4] = [
+const TEXTS: [(DayFault, &str); 5] = [
     (
         DayFault::Segment(BAD_FIELD),
         "segment file, line 3: BadField",
     ),
+    (DayFault::Carry(BAD_FIELD), "carry file, line 3: BadField"),
     (DayFault::Orders(BAD_FIELD), "order file, line 3: BadField"),
     (DayFault::Open(OpenFault::NoSecurity), "no security"),
     (DayFault::WriteFailed, "write failed"),

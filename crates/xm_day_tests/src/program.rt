@@ -33,7 +33,7 @@ mod runtime;
 
 use crate::files::fixtures::{CASCADE, HEADER, SEGMENT};
 use crate::memory::want_of_memory;
-use ends::{CANNOT_TELL, Printed};
+use ends::{CANNOT_KEEP, CANNOT_TELL, Printed};
 use std::alloc::Global;
 use std::fs::File;
 use std::io::{Read, Write};
@@ -83,10 +83,12 @@ fn has_line(rt: &impl Abort, fault: DayFault, expected: &str) {
     );
 }
 
-/// Compares the lines by which the program tells of a fault in either file.
+/// Compares the lines by which the program tells of a fault in each file.
 fn has_lines(rt: &(impl Abort + AllocGlobal), fault: &FileFault, end: &str) {
     let line = (format!(in rt.alloc(); "xetra-day: segment: {end}")).expect(rt, "memory");
     has_line(rt, DayFault::Segment(*fault), line.as_str());
+    let line = (format!(in rt.alloc(); "xetra-day: carry: {end}")).expect(rt, "memory");
+    has_line(rt, DayFault::Carry(*fault), line.as_str());
     let line = (format!(in rt.alloc(); "xetra-day: orders: {end}")).expect(rt, "memory");
     has_line(rt, DayFault::Orders(*fault), line.as_str());
 }
@@ -144,6 +146,18 @@ fn answer_to(rt: &(impl Abort + AllocGlobal), line: &[String]) -> String {
         ) => {
             let (answers, depth) = (answers.unwrap_or("nowhere"), depth.unwrap_or("nowhere"));
             format!(in alloc; "run {segment} and {orders}, answers to {answers}, levels to {depth}")
+        }
+        Ok(
+            Request::Carry {
+                segment,
+                carried,
+                orders,
+                keep,
+                workers,
+            },
+        ) => {
+            let workers = workers.get();
+            format!(in alloc; "carry {segment}, {carried} and {orders} to {keep} by {workers}")
         }
         Ok(Request::Check { segment }) => format!(in alloc; "check {segment}"),
         Ok(Request::Help(text)) => format!(in alloc; "help {text}"),
@@ -210,6 +224,29 @@ const RUNS: [Answered; 11] = [
             "2",
         ],
         CANNOT_TELL,
+    ),
+];
+
+const CARRIES: [Answered; 3] = [
+    (
+        &["carry", "day.toml", "in.csv", "day.csv", "out.csv"],
+        Printed::Text("carry day.toml, in.csv and day.csv to out.csv by 1"),
+    ),
+    (
+        &[
+            "carry",
+            "--workers",
+            "64",
+            "day.toml",
+            "a file",
+            "day.csv",
+            "a file",
+        ],
+        Printed::Text("carry day.toml, a file and day.csv to a file by 64"),
+    ),
+    (
+        &["carry", "day.toml", "in.csv", "day.csv", "-"],
+        CANNOT_KEEP,
     ),
 ];
 
@@ -345,6 +382,7 @@ fn are_answered(rt: &(impl Abort + AllocGlobal), answers: &[Answered]) {
 #[test]
 fn words_of_command_lines(rt: HostRuntime) {
     are_answered(&rt, &RUNS);
+    are_answered(&rt, &CARRIES);
     are_answered(&rt, &CHECKS);
     are_answered(&rt, &NUMBERS);
     are_answered(&rt, &MISTAKES);

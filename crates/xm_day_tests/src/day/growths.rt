@@ -1,10 +1,11 @@
-//! A statement whose growths are refused.
+//! A statement and a carry file whose growths are refused.
 use super::CASCADE_STATEMENT;
+use super::carried_days::CASCADE_LEFT;
 use super::workers::ORDERS_STATEMENT;
 use crate::files::fixtures::{CASCADE, ORDERS, SEGMENT};
 use std::alloc::Global;
 use std::process::Abort;
-use xm_day::{DayFault, DayReport, statement};
+use xm_day::{DayFault, DayReport, carry, statement};
 use xm_desk::Desk;
 use xm_files::{SegmentNames, read_rows, read_segment};
 use xm_names::Storage;
@@ -26,7 +27,14 @@ fn take(desk: &mut Desk<Global>, rows: &[Row]) -> DayReport {
     report
 }
 
-/// Compares what was written of a statement with one request for memory refused, or with none: all of it, or nothing for
+/// Which text of a day is written.
+#[derive(Clone, Copy)]
+enum Text {
+    Statement,
+    Carry,
+}
+
+/// Compares what was written of a text with one request for memory refused, or with none: all of it, or nothing for
 /// want of memory.
 fn is_whole_or_nothing(
     rt: &impl Abort,
@@ -44,9 +52,10 @@ fn is_whole_or_nothing(
     }
 }
 
-/// Whether a request is refused where a statement is written with the one of this number refused.
+/// Whether a request is refused where a text is written with the one of this number refused.
 fn is_refused(
     rt: &(impl Abort + AllocGlobal),
+    kind: Text,
     desks: &[Desk<Global>],
     names: &SegmentNames,
     report: &DayReport,
@@ -56,14 +65,18 @@ fn is_refused(
     let refusing = Refusing::new(rt.alloc(), nth);
     let mut out = Vec::new(rt.alloc());
     assert!(rt; desks.len() == 1 && names.securities() == 1);
-    let answer = statement(&refusing, desks, names, report, &mut out);
+    let answer = match kind {
+        Text::Statement => statement(&refusing, desks, names, report, &mut out),
+        Text::Carry => carry(&refusing, desks, names, &mut out),
+    };
     is_whole_or_nothing(rt, answer, refusing.has_refused(), out.as_slice(), text);
     refusing.has_refused()
 }
 
-/// Refuses each request of a statement in turn, of which there are at least so many.
+/// Refuses each request of a text in turn, of which there are at least so many.
 fn refuse_each(
     rt: &(impl Abort + AllocGlobal),
+    kind: Text,
     desks: &[Desk<Global>],
     names: &SegmentNames,
     report: &DayReport,
@@ -71,7 +84,7 @@ fn refuse_each(
     least: u64,
 ) {
     for nth in 1..u64::MAX {
-        if !is_refused(rt, desks, names, report, text, nth) {
+        if !is_refused(rt, kind, desks, names, report, text, nth) {
             assert!(rt; nth > least);
             return;
         }
@@ -95,10 +108,11 @@ fn worked(
     (desk, report)
 }
 
-/// Compares what is written of the statement of the day of two texts, with each request for memory refused in turn, of which
+/// Compares what is written of a text of the day of two files, with each request for memory refused in turn, of which
 /// there are at least so many.
 fn is_refused_in_turn(
     rt: &(impl Abort + AllocGlobal),
+    kind: Text,
     segment: &str,
     orders: &str,
     text: &str,
@@ -107,12 +121,17 @@ fn is_refused_in_turn(
     let (config, names) = read_segment(rt.alloc(), &mut segment.as_bytes()).expect(rt, "a segment");
     let rows = read_rows(rt.alloc(), &mut orders.as_bytes(), &names, &config).expect(rt, "rows");
     let (desk, report) = worked(rt, &config, rows.as_slice());
-    refuse_each(rt, &[desk], &names, &report, text, least);
+    refuse_each(rt, kind, &[desk], &names, &report, text, least);
 }
 
 #[test]
 fn refused_growths_of_a_statement(rt: HostRuntime) {
     // The text is told of its trades, and grows behind them; without trades it grows from nothing.
-    is_refused_in_turn(&rt, SEGMENT, CASCADE, CASCADE_STATEMENT, 2);
-    is_refused_in_turn(&rt, SEGMENT, ORDERS, ORDERS_STATEMENT, 6);
+    is_refused_in_turn(&rt, Text::Statement, SEGMENT, CASCADE, CASCADE_STATEMENT, 2);
+    is_refused_in_turn(&rt, Text::Statement, SEGMENT, ORDERS, ORDERS_STATEMENT, 6);
+}
+
+#[test]
+fn refused_growths_of_a_carry_file(rt: HostRuntime) {
+    is_refused_in_turn(&rt, Text::Carry, SEGMENT, CASCADE, CASCADE_LEFT, 2);
 }

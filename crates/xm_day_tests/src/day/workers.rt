@@ -16,7 +16,7 @@ use xm_segment::{Gate, MAX_WORKERS, NoGate};
 const TURNS: u64 = 100_000_000;
 
 /// A segment of two securities and two members.
-const TWO: &str = securities!("\"M0\", \"M1\"", "A" => 20, "B" => 20);
+pub(super) const TWO: &str = securities!("\"M0\", \"M1\"", "A" => 20, "B" => 20);
 
 /// Each of two members enters an order on a security of its own.
 const ONE_EACH: &str = orders!(
@@ -53,7 +53,7 @@ enter,M7,1,H,buy,limit,9.90,,5,,,
 
 /// A day of `TWO` in which no security has rows of two members in one round. The first round has phase rows alone, and the
 /// fifth rows of one member alone; in the others both members trade or rest, each on the security that the other one leaves.
-const APART: &str = orders!(
+pub(super) const APART: &str = orders!(
     "open,,,*,,,,,,,,
 enter,M0,1,A,sell,limit,10.10,,5,,,
 enter,M1,1,B,sell,limit,10.10,,5,,,
@@ -79,7 +79,7 @@ end,,,*,,,,,,,,
 );
 
 /// The statement of that day, worked out by hand.
-const APART_STATEMENT: &str = "DAY 20260105
+pub(super) const APART_STATEMENT: &str = "DAY 20260105
 SECURITY A ended
 REFERENCES 10.0000 10.0000
 TRADE 1 continuous 10.1000 2 M1 2 M0 1

@@ -18,12 +18,16 @@ ROWS 0 0
 
 const BAD_ROW: &str = orders!("walk,,,,,,,,,,,\n");
 
+/// A carry file without an entry.
+const NONE_LEFT: &str = carried!("");
+
 const FILES: &[(&str, &str)] = &[
     ("day.toml", SEGMENT),
     ("day.csv", HEADER),
     ("bad.csv", BAD_ROW),
     ("wide.toml", BAD_WIDTHS),
     ("empty.toml", NO_SECURITY),
+    ("in.csv", NONE_LEFT),
     (" spaced.toml\t", SEGMENT),
     ("\n spaced.csv ", HEADER),
 ];
@@ -256,6 +260,96 @@ const UNANSWERED: [End; 8] = [
     ),
 ];
 
+/// What is told where what is left would go to standard output.
+pub const CANNOT_KEEP: Printed = Printed::Text(
+    "error: OUT is a file: standard output has the statement\n\nUsage: xetra-day <COMMAND>\n\nFor more information, try '--help'.\n",
+);
+
+/// Days that hand on what they leave, to the file that is made, and such as don't: a file is at fault, what they leave would go to
+/// one that is read or can't be made, and a mistake.
+const CARRIED: [End; 9] = [
+    writes!(
+        NONE_LEFT,
+        b"carry",
+        b"day.toml",
+        b"in.csv",
+        b"day.csv",
+        b"answers.csv"
+    ),
+    writes!(
+        NONE_LEFT,
+        b"carry",
+        b"day.toml",
+        b"in.csv",
+        b"day.csv",
+        b"answers.csv",
+        b"--workers=2"
+    ),
+    complains!(
+        1,
+        UNREAD_SEGMENT,
+        b"carry",
+        b"none.toml",
+        b"none.csv",
+        b"none.csv",
+        b"answers.csv"
+    ),
+    complains!(
+        1,
+        Printed::Text("xetra-day: carry: line 0: ReadFailed\n"),
+        b"carry",
+        b"day.toml",
+        b"none.csv",
+        b"none.csv",
+        b"answers.csv"
+    ),
+    complains!(
+        1,
+        Printed::Text("xetra-day: carry: line 1: BadHeader\n"),
+        b"carry",
+        b"wide.toml",
+        b"day.csv",
+        b"bad.csv",
+        b"answers.csv"
+    ),
+    complains!(
+        1,
+        Printed::Text("xetra-day: orders: line 2: BadField\n"),
+        b"carry",
+        b"wide.toml",
+        b"in.csv",
+        b"bad.csv",
+        b"answers.csv"
+    ),
+    complains!(
+        1,
+        UNWRITTEN,
+        b"carry",
+        b"day.toml",
+        b"in.csv",
+        b"day.csv",
+        b"day.csv"
+    ),
+    complains!(
+        1,
+        UNWRITTEN,
+        b"carry",
+        b"day.toml",
+        b"in.csv",
+        b"day.csv",
+        b"none/left.csv"
+    ),
+    complains!(
+        2,
+        CANNOT_KEEP,
+        b"carry",
+        b"day.toml",
+        b"in.csv",
+        b"day.csv",
+        b"-"
+    ),
+];
+
 const CHECKED: [End; 2] = [
     prints!(
         Printed::Text("OK 1 securities 2 members\n"),
@@ -352,6 +446,7 @@ fn ends_of_runs(rt: HostRuntime) {
     are_ends(&rt, Stream::Kept, &STATEMENTS);
     are_ends(&rt, Stream::Kept, &WRITTEN);
     are_ends(&rt, Stream::Kept, &UNANSWERED);
+    are_ends(&rt, Stream::Kept, &CARRIED);
     are_ends(&rt, Stream::Kept, &CHECKED);
     are_ends(&rt, Stream::Kept, &FAULTS);
     are_ends(&rt, Stream::Kept, &MISTAKES);
@@ -359,7 +454,7 @@ fn ends_of_runs(rt: HostRuntime) {
 
 const UNWRITTEN: Printed = Printed::Text("xetra-day: write failed\n");
 
-const REFUSED: [End; 5] = [
+const REFUSED: [End; 6] = [
     complains!(1, UNWRITTEN, b"check", b"day.toml"),
     complains!(1, UNWRITTEN, b"run", b"day.toml", b"day.csv"),
     complains!(
@@ -369,6 +464,15 @@ const REFUSED: [End; 5] = [
         b"day.toml",
         b"day.csv",
         b"--answers",
+        b"answers.csv"
+    ),
+    complains!(
+        1,
+        UNWRITTEN,
+        b"carry",
+        b"day.toml",
+        b"in.csv",
+        b"day.csv",
         b"answers.csv"
     ),
     complains!(1, UNWRITTEN, b"--help"),

@@ -111,7 +111,13 @@ const WHOLE_HELP: Printed = Printed::Between("Replays a trading day of a segment
 
 const SHORT_HELP: Printed = Printed::Between("Runs the day of two files", STATUSES);
 
-const HELP: [End; 9] = [
+const CARRY_HELP: Printed = Printed::Between(
+    "Runs the day of two files with what earlier days left",
+    STATUSES,
+);
+
+const HELP: [End; 10] = [
+    prints!(CARRY_HELP, b"carry", b"--help"),
     prints!(Printed::Text(CHECK_HELP), b"check", b"--help"),
     prints!(Printed::Text(RUN_HELP), b"run", b"--help"),
     prints!(Printed::Text(RUN_HELP), b"help", b"run"),
