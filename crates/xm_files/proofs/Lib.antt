@@ -2,6 +2,7 @@ mod Batches
 mod Filling
 mod Formats
 mod Hinted
+mod InParts
 mod Known
 mod NameFacts
 mod UsedNames

@@ -3,6 +3,7 @@ pub mod Carry
 pub mod Examples
 pub mod FileFaults
 pub mod Hints
+pub mod InParts
 pub mod Names
 pub mod Orders
 pub mod Parts

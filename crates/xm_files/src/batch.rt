@@ -71,7 +71,7 @@ impl Batch {
     }
 
     /// How many rows were read, those of the batches before among them.
-    pub(crate) fn total(&self) -> usize
+    pub fn total(&self) -> usize
         ensures total { result ≡ length (rows_so_far self.now) }
         ensures few { result ≤ MAX_ROWS }
     {
@@ -96,6 +96,25 @@ impl Batch {
         self.rows.clear();
     }
 
+    /// Becomes an empty batch behind another one. The room of this one stays.
+    pub fn follow(&mut self, before: &Batch)
+        ensures { self.new ≡ record { earlier = rows_so_far before.now; rows = [] } }
+    {
+        let total = before.total();
+        self.earlier = Earlier::Batch(Snapshot::of(&before.rows), Snapshot::of(&before.earlier));
+        self.count = total;
+        self.rows.clear();
+    }
+
+    /// Forgets all rows. The room stays.
+    pub(crate) fn forget(&mut self)
+        ensures { self.new ≡ record { earlier = []; rows = [] } }
+    {
+        self.earlier = Earlier::Nothing;
+        self.count = 0;
+        self.rows.clear();
+    }
+
     /// Adds a row.
     #[inline(always)]
     pub(crate) fn push(&mut self, row: Row) -> Result<(), OutOfMemory>
@@ -103,6 +122,15 @@ impl Batch {
         ensures { OnOk result (self.new ≡ record self.old { rows = self.old.rows ++ row ∷ [] }) }
     {
         self.rows.push(row)?;
+        Ok(())
+    }
+
+    /// Adds these rows.
+    pub(crate) fn add_rows(&mut self, rows: &[Row]) -> Result<(), OutOfMemory>
+        requires { length (rows_so_far self.old) + length rows.now ≤ MAX_ROWS }
+        ensures { OnOk result (self.new ≡ record self.old { rows = self.old.rows ++ rows.now }) }
+    {
+        self.rows.extend_from_slice(rows)?;
         Ok(())
     }
 

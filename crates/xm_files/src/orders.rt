@@ -17,6 +17,7 @@ use crate::bytes::{MAX_BYTES, read_whole};
 use crate::csv_records::CsvRecords;
 use crate::entries::{RecordEntry, parse_entry};
 use crate::file_faults::{FileCause, FileFault};
+use crate::file_parts::{FileParts, LEAST_BESIDE};
 use crate::headers::{csv_behind_header, header_line};
 use crate::marks::Marks;
 use crate::names::SegmentNames;
@@ -28,12 +29,16 @@ use csv::ByteRecord;
 use std::alloc::Global;
 use std::io::Read;
 use std::marker::Model;
+use std::thread::Threads;
 use xm_memory::OutOfMemory;
 use xm_rules::Command;
 use xm_segment::{Row, SegmentConfig};
 
 /// The most rows that an order file may stand for.
 pub const MAX_ROWS: usize = 1_000_000;
+
+/// How many rows are read at once where no part can be read beside others.
+const ROWS_ALONE: usize = 32_768;
 
 /// The highest number that the next record of an order file may have.
 pub const MAX_LINES: u32 = 16_777_218;
@@ -176,6 +181,70 @@ impl<'a> RowReader<'a> {
         let more = self.begin_csv(alloc, batch, format, &left, part, names, config)?;
         let _ = batch.total(); // What every batch keeps is known of one whose rows are counted.
         Ok(more)
+    }
+
+    /// Reads the next rows as `read` does, with as many threads side by side as there are parts, so that only the time that it takes
+    /// depends on them. Answers whether there may be more.
+    ///
+    /// Lines without quotes are read in parts; where a part can't be read so, `read` goes on from what comes before it.
+    pub fn read_in_parts<T: Threads + Sync>(
+        &mut self,
+        rt: &T,
+        alloc: Global,
+        batch: &mut Batch,
+        parts: &mut FileParts,
+        names: &SegmentNames,
+        config: &SegmentConfig,
+    ) -> Result<bool, FileFault>
+        ensures read { OnOk result (rows_from names.now config.now self.old (rows_so_far batch.old) ≡ rows_from names.now config.now self.new (rows_so_far batch.new)) }
+        ensures ended { result ≡ Ok false → rows_from names.now config.now self.new (rows_so_far batch.new) ≡ Ok (rows_so_far batch.new) }
+        ensures earlier { OnOk result (batch.new.earlier ≡ rows_so_far batch.old) }
+        ensures few { OnOk result (length (rows_so_far batch.new) ≤ MAX_ROWS) }
+        ensures further { result ≡ Ok true → self.old.line < self.new.line }
+        ensures bounded { self.new.line ≤ MAX_LINES }
+        ensures err { IfErr result (λ fault. fault.cause ≢ FileCause.OutOfMemory tt → rows_from names.now config.now self.old (rows_so_far batch.old) ≡ Err fault) }
+        ensures memory { IfErr result (λ fault. OnTrue (is_from_outside fault.cause) (fault.line ≡ 0)) }
+    {
+        batch.begin();
+        let format = match self.begin(alloc) {
+            Ok(format) => format,
+            Err(fault) => return Err(fault),
+        };
+        if self.read_beside(rt, batch, parts, format, names, config)? {
+            let _ = batch.total(); // What every batch keeps is known of one whose rows are counted.
+            return Ok(true);
+        }
+        self.read(alloc, batch, Part::Rows(ROWS_ALONE), names, config)
+    }
+
+    /// Reads the next parts side by side, where lines are read, and enough are left. Answers whether any rows were added.
+    fn read_beside<T: Threads + Sync>(
+        &mut self,
+        rt: &T,
+        batch: &mut Batch,
+        parts: &mut FileParts,
+        format: OrderFormat,
+        names: &SegmentNames,
+        config: &SegmentConfig,
+    ) -> Result<bool, OutOfMemory>
+        requires format { self.old.format ≡ Some format }
+        requires empty { batch.old.rows ≡ [] }
+        ensures read { OnOk result (rows_from names.now config.now self.old (rows_so_far batch.old) ≡ rows_from names.now config.now self.new (rows_so_far batch.new)) }
+        ensures earlier { OnOk result (batch.new.earlier ≡ batch.old.earlier) }
+        ensures none { result ≡ Ok false → batch.new.rows ≡ [] }
+        ensures onward { self.old.line ≤ self.new.line }
+        ensures further { result ≡ Ok true → self.old.line < self.new.line }
+        ensures bounded { self.new.line ≤ MAX_LINES }
+    {
+        if self.csv.is_some() || self.left.len() < LEAST_BESIDE {
+            return Ok(false);
+        }
+        let first = self.line;
+        let rest = parts.read(rt, batch, self.left, format, first, names, config)?;
+        let _ = batch.total(); // What every batch keeps is known of one whose rows are counted.
+        self.left = rest.text;
+        self.line = rest.line;
+        Ok(first < rest.line)
     }
 
     /// The format of the records. The header, which says it, is read where it wasn't yet.
@@ -394,6 +463,7 @@ fn add_lines<'a>(
 
 /// A text behind the line feed that it begins with.
 pub(crate) fn behind_line_feed(text: &[u8]) -> Option<Marks<'_>>
+    ensures text { IfSome result (λ marks. marks.text ≡ text.now) }
     ensures fed { IfSome result (λ marks. text.now ≡ 10 ∷ rest_of marks) }
     ensures behind { IfSome result (IsBehind 10) }
 {
@@ -441,7 +511,7 @@ fn add_fields(
 }
 
 /// Adds the rows of a record with this number.
-fn add_record(
+pub(crate) fn add_record(
     batch: &mut Batch,
     line: u32,
     fields: &Fields,

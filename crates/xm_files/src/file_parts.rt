@@ -1,0 +1,275 @@
+//! The parts of an order file that threads read side by side.
+//!
+//! Where a part begins, and the number of its first record, are guesses: nothing is kept of a part that doesn't begin where those before
+//! it ended.
+ghost use Rattle.std.specs.Prelude.{◌≡◌, ℕ, ◌+◌, ◌<◌, ◌≤◌, [], IfOk, IfSome, true, length, slice_index_or};
+ghost use Rattle.xm_files.specs.Batches.{rows_so_far};
+ghost use Rattle.xm_files.specs.InParts.{PartGives, LinesGive, last_bytes};
+
+use crate::batch::Batch;
+use crate::names::SegmentNames;
+use crate::order_format::OrderFormat;
+use crate::orders::{MAX_LINES, MAX_ROWS, add_record, behind_line_feed};
+use crate::records::Fields;
+use std::alloc::Global;
+use std::simd::prelude::*;
+use std::thread;
+use std::thread::Threads;
+use xm_memory::OutOfMemory;
+use xm_segment::SegmentConfig;
+
+/// How many bytes of a file are read at once by all threads together, where it has so many left.
+const AT_ONCE: usize = 2_097_152;
+
+/// Where fewer bytes of a file are left, threads aren't worth their start.
+pub(crate) const LEAST_BESIDE: usize = 65_536;
+
+/// The least bytes of a part.
+const LEAST: usize = 16_384;
+
+/// A part ends no nearer to the end of a file, unless a line does that is longer: the last lines are read alone.
+const TAIL: usize = 1_024;
+
+/// How many bytes are looked at together for line feeds.
+const BLOCK: usize = 64;
+
+/// A part of an order file: the lines from one place to another.
+#[derive(Drop)]
+pub(crate) struct FilePart {
+    // How many bytes of the file are left where it begins, with the line feed before its first record, and where it ends.
+    from: usize,
+    to: usize,
+    // The number of its first record, and of the first one behind it, once it is read.
+    first: u32,
+    next: u32,
+    // Its rows, once it is read.
+    batch: Batch,
+    // Whether all of it was read.
+    is_whole: bool,
+}
+
+/// Room for the rows of as many parts of an order file as are read side by side.
+#[derive(Drop)]
+pub struct FileParts {
+    parts: Vec<FilePart>,
+}
+
+/// What is left of a file behind the parts that were read.
+#[derive(Drop)]
+pub(crate) struct PartsLeft<'a> {
+    pub(crate) text: &'a [u8],
+    // The number of its first record.
+    pub(crate) line: u32,
+}
+
+impl FileParts {
+    /// Room for as many parts as there are threads.
+    pub fn new(alloc: Global, threads: u32) -> Result<FileParts, OutOfMemory> {
+        let mut parts = Vec::new(alloc);
+        for _thread in 0..threads {
+            parts.push(FilePart {
+                from: 0,
+                to: 0,
+                first: 0,
+                next: 0,
+                batch: Batch::new(alloc),
+                is_whole: false,
+            })?;
+        }
+        Ok(FileParts { parts })
+    }
+
+    /// Adds the rows of the lines behind the line feed that a text begins with, of which the first has this number, as far as parts were
+    /// read whole that follow one another. Answers what is left.
+    pub(crate) fn read<'a, T: Threads + Sync>(
+        &mut self,
+        rt: &T,
+        batch: &mut Batch,
+        text: &'a [u8],
+        format: OrderFormat,
+        first: u32,
+        names: &SegmentNames,
+        config: &SegmentConfig,
+    ) -> Result<PartsLeft<'a>, OutOfMemory>
+        requires short { first + length text.now ≤ MAX_LINES }
+        requires empty { batch.old.rows ≡ [] }
+        ensures lines { IfOk result (λ left. LinesGive names.now config.now format text.now first left.text.now left.line batch.new.rows) }
+        ensures earlier { IfOk result (λ _. batch.new.earlier ≡ batch.old.earlier) }
+    {
+        self.cut(text, first);
+        read_apart(rt, self.parts.as_mut_slice(), text, format, names, config);
+        let mut left = text.len();
+        let mut line = first;
+        for part in self.parts.iter() {
+            if !part.follows(left, line, batch) {
+                break;
+            }
+            batch.add_rows(part.batch.rows())?;
+            left = part.to;
+            line = part.next;
+        }
+        Ok(PartsLeft {
+            text: last_bytes(text, left),
+            line,
+        })
+    }
+
+    /// Guesses where the parts of a text begin and end.
+    fn cut(&mut self, text: &[u8], first: u32) {
+        let count = self.parts.len().max(1);
+        let size = (text.len().min(AT_ONCE) / count).max(LEAST);
+        let mut from = text.len();
+        let mut line = first;
+        for part in self.parts.iter_mut() {
+            part.from = from;
+            part.first = line;
+            part.to = end_of_part(text, from, size);
+            line = line.wrapping_add(line_feeds(between(text, from, part.to)));
+            from = part.to;
+        }
+    }
+}
+
+impl FilePart {
+    /// Reads all of the part of a text, or not.
+    fn read(
+        &mut self,
+        text: &[u8],
+        format: OrderFormat,
+        names: &SegmentNames,
+        config: &SegmentConfig,
+    )
+        ensures { PartGives names.now config.now format text.now self.new }
+    {
+        self.is_whole = false;
+        self.batch.forget();
+        if self.from <= self.to {
+            return;
+        }
+        let own = last_bytes(text, self.from);
+        if let Some(next) = add_lines_to(
+            self.to,
+            &mut self.batch,
+            own,
+            format,
+            self.first,
+            names,
+            config,
+        ) {
+            self.next = next;
+            self.is_whole = true;
+        }
+    }
+
+    /// Whether all of the part was read, it begins where so many bytes are left, with this number, and a batch may have its rows.
+    fn follows(&self, left: usize, line: u32, batch: &Batch) -> bool
+        ensures whole { result ≡ true → self.now.is_whole ≡ true }
+        ensures begins { result ≡ true → (self.now.from ≡ left) × (self.now.first ≡ line) }
+        ensures fits { result ≡ true → length (rows_so_far batch.now) + length self.now.batch.rows ≤ MAX_ROWS }
+    {
+        self.is_whole
+            && self.from == left
+            && self.first == line
+            && self.batch.len() <= MAX_ROWS - batch.total()
+    }
+}
+
+/// Reads each part of a text in a thread of its own, where one can be started.
+fn read_apart<T: Threads + Sync>(
+    rt: &T,
+    parts: &mut [FilePart],
+    text: &[u8],
+    format: OrderFormat,
+    names: &SegmentNames,
+    config: &SegmentConfig,
+)
+    ensures { (k : ℕ) (d : FilePart) → k < length parts.old → PartGives names.now config.now format text.now (slice_index_or parts.new k d) }
+{
+    let threads = parts.len().max(1);
+    thread::for_each_mut(
+        rt,
+        parts,
+        threads,
+        &|_place, part| part.read(text, format, names, config),
+    );
+}
+
+/// Adds the rows of the lines behind the line feed that a text begins with, of which the first has this number, up to the line feed with
+/// which so many bytes are left. Answers the number of the next record. It is `None` where no line ends there, where a line has a quote, a
+/// carriage return, another number of fields than the format has columns, or a fault, and where memory is wanting.
+fn add_lines_to(
+    end: usize,
+    batch: &mut Batch,
+    text: &[u8],
+    format: OrderFormat,
+    first: u32,
+    names: &SegmentNames,
+    config: &SegmentConfig,
+) -> Option<u32>
+    requires { batch.old.rows ≡ [] }
+    ensures { IfSome result (λ next. LinesGive names.now config.now format text.now first (last_bytes end text.now) next batch.new.rows) }
+{
+    if first as usize + text.len() > MAX_LINES as usize {
+        return None;
+    }
+    let mut marks = behind_line_feed(text)?;
+    let mut line = first;
+    let mut fields = Fields::empty(format);
+    loop {
+        fields.read_line(&mut marks)?;
+        match add_record(batch, line, &fields, names, config) {
+            Ok(()) => {}
+            Err(_fault) => return None,
+        }
+        line += 1;
+        let left = marks.left().len();
+        if left <= end {
+            return if left == end { Some(line) } else { None };
+        }
+    }
+}
+
+/// The last bytes of a text, so many.
+fn last_bytes(text: &[u8], count: usize) -> &[u8]
+    ensures { result.now ≡ last_bytes count text.now }
+{
+    &text[text.len().saturating_sub(count)..]
+}
+
+/// The bytes of a text from the place where so many are left to the one where so many are.
+fn between(text: &[u8], from: usize, to: usize) -> &[u8] {
+    let begin = last_bytes(text, from);
+    &begin[..from.saturating_sub(to).min(begin.len())]
+}
+
+/// How many bytes are left where a part may end that begins where so many are left, and is to have at least so many bytes: from the first
+/// line feed behind them on. It is where the part begins, where the end of the text is too near.
+fn end_of_part(text: &[u8], from: usize, size: usize) -> usize {
+    let begin = text.len().saturating_sub(from);
+    let aim = begin
+        .saturating_add(size)
+        .min(text.len().saturating_sub(TAIL));
+    if aim <= begin {
+        return from;
+    }
+    for place in aim..text.len() {
+        if text[place] == b'\n' {
+            return text.len() - place;
+        }
+    }
+    from
+}
+
+/// How many line feeds a text has.
+fn line_feeds(text: &[u8]) -> u32 {
+    let mut count = 0u32;
+    let mut at = 0;
+    while text.len() - at >= BLOCK {
+        let block = u8x64::from_slice(&text[at..at + BLOCK]);
+        let is_line_feed = block.simd_eq(u8x64::splat(b'\n')).to_bitmask();
+        count = count.wrapping_add(is_line_feed.count_ones());
+        at += BLOCK;
+    }
+    let more = text[at..].iter().filter(|byte| **byte == b'\n').count();
+    count.wrapping_add(more as u32)
+}
