@@ -149,7 +149,7 @@ some-at [] i within = absurd (omega arith)
 some-at (x ∷ xs) zero within = (x, refl)
 some-at (x ∷ xs) (suc i) within = some-at xs i (omega arith)
 
-within-length : {A : Type 0} (xs : List A) (i : ℕ) (x : A) → slice_get xs i ≡ Some x → i < length xs
+pub within-length : {A : Type 0} (xs : List A) (i : ℕ) (x : A) → slice_get xs i ≡ Some x → i < length xs
 within-length [] i x at = absurd (cc)
 within-length (y ∷ ys) zero x at = omega arith
 within-length (y ∷ ys) (suc i) x at = omega (arith, within-length ys i x at)
@@ -162,7 +162,7 @@ set-here [] i y x at = absurd (cc)
 set-here (z ∷ xs) zero y x at = cc
 set-here (z ∷ xs) (suc i) y x at = set-here xs i y x at
 
-set-there : {A : Type 0} (xs : List A) (i k : ℕ) (y : A) → k ≢ i → slice_get (set xs i y) k ≡ slice_get xs k
+pub set-there : {A : Type 0} (xs : List A) (i k : ℕ) (y : A) → k ≢ i → slice_get (set xs i y) k ≡ slice_get xs k
 set-there [] i k y other = refl
 set-there (z ∷ xs) zero zero y other = absurd (other refl)
 set-there (z ∷ xs) zero (suc k) y other = refl

@@ -21,12 +21,12 @@ use Rattle.xm_segment.specs.declared.rows.Row.{Row}
 
 -- ---- elements that are set
 
-get-set : {A : Type 0} (xs : List A) (i : ℕ) (x y : A) → slice_get xs i ≡ Some x → slice_get (slice_set xs i y) i ≡ Some y
+pub get-set : {A : Type 0} (xs : List A) (i : ℕ) (x y : A) → slice_get xs i ≡ Some x → slice_get (slice_set xs i y) i ≡ Some y
 get-set [] i x y is = absurd (cc)
 get-set (z ∷ xs) zero x y is = refl
 get-set (z ∷ xs) (suc i) x y is = get-set xs i x y is
 
-set-same : {A : Type 0} (xs : List A) (i : ℕ) (x : A) → slice_get xs i ≡ Some x → slice_set xs i x ≡ xs
+pub set-same : {A : Type 0} (xs : List A) (i : ℕ) (x : A) → slice_get xs i ≡ Some x → slice_set xs i x ≡ xs
 set-same [] i x is = refl
 set-same (z ∷ xs) zero x is = ap (λ y. y ∷ xs) (ap (λ o. unwrap_or o x) (sym is))
 set-same (z ∷ xs) (suc i) x is = ap (λ ys. z ∷ ys) (set-same xs i x is)

@@ -18,3 +18,4 @@ mod Feeding
 mod LeftInRange
 mod CarryTexts
 mod CarriedBack
+mod Apart

@@ -92,6 +92,13 @@ HasTaken asked names orders config rows (Err (Open fault)) = IsOpenFault config 
 HasTaken asked names orders config rows (Err (OutOfMemory _)) = (segment_fault config ≡ None) × (AsksNothing asked → LacksMemoryAt (opening_day config) rows)
 HasTaken asked names orders config rows (Err fault) = ⊥
 
+-- the same, where it isn't told at which row memory is wanting
+abbrev pub RowsTaken : AskedTexts → NameLists → List ℕ → SegmentConfig → List Row → Result OpenDay DayFault → Type 0
+RowsTaken asked names orders config rows (Ok d) = TookRows asked names orders config rows d
+RowsTaken asked names orders config rows (Err (Open fault)) = IsOpenFault config fault
+RowsTaken asked names orders config rows (Err (OutOfMemory _)) = segment_fault config ≡ None
+RowsTaken asked names orders config rows (Err fault) = ⊥
+
 -- the desks are those of a day that the rows may have, unless the segment can't be opened or memory is wanting
 abbrev pub DesksEnd : (SegmentConfig → List Row → Day → Type 0) → SegmentConfig → List Row → Result OpenDay DayFault → Type 0
 DesksEnd days config rows (Ok d) =

@@ -138,7 +138,7 @@ fn carry_shared_orders<T: Threads + Wait + Sync, G: Gate + Sync, R: Read, W: Wri
 }
 
 /// Reads a segment file and a carry file: the settings with what the carry file lists, and the names.
-fn read_opening<S: Read, C: Read>(
+pub(crate) fn read_opening<S: Read, C: Read>(
     storage: Storage<Global>,
     segment: &mut S,
     carry: &mut C,

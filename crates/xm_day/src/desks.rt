@@ -123,7 +123,7 @@ fn take_row<A: Allocator + Copy>(
 }
 
 /// A refusal by a rule, or the want of memory that it is.
-fn by_rule(refusal: Refusal) -> Result<Refusal, OutOfMemory>
+pub(crate) fn by_rule(refusal: Refusal) -> Result<Refusal, OutOfMemory>
     ensures rule { IfOk result (λ same. (same ≡ refusal) × (refusal ≢ Refusal.OutOfMemory tt)) }
     ensures memory { OnErr result (refusal ≡ Refusal.OutOfMemory tt) }
 {

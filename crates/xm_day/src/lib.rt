@@ -2,6 +2,7 @@
 #![tactic(auto)]
 
 mod answers;
+mod batches;
 mod both_texts;
 mod carried_days;
 mod carry_file;
@@ -11,6 +12,7 @@ mod depth;
 mod desks;
 pub mod examples;
 mod faults;
+mod lanes;
 pub mod laws;
 mod order_file;
 mod remaining;
@@ -22,6 +24,7 @@ mod standing;
 mod statements;
 mod sums;
 mod texts;
+mod threaded;
 mod told;
 mod traded;
 mod words;
@@ -34,3 +37,4 @@ pub use crate::day::{run_alone, run_day, run_orders, run_told};
 pub use crate::faults::DayFault;
 pub use crate::report::{AskedTexts, DayReport, ToldDay};
 pub use crate::statements::statement;
+pub use crate::threaded::{carry_on_threads, run_on_threads};

@@ -1,9 +1,10 @@
 //! The desks of a segment that have taken an order file.
-ghost use Rattle.std.specs.Prelude.{◌≡◌, ◌≤◌, length};
-ghost use Rattle.xm_day.specs.Answers.{DesksEnd, FileRun, HasTaken};
+ghost use Rattle.std.specs.Prelude.{◌≡◌, ◌≤◌, false, length};
+ghost use Rattle.xm_day.specs.Answers.{DesksEnd, FileRun, HasTaken, RowsTaken};
 ghost use Rattle.xm_day.specs.Workers.{IsShared};
 ghost use Rattle.xm_segment.specs.declared.opening.TheConstants.{MAX_WORKERS};
 
+use crate::batches::run_apart;
 use crate::desks::OpenDay;
 use crate::faults::DayFault;
 use crate::report::AskedTexts;
@@ -32,6 +33,28 @@ pub(crate) fn take_orders<R: Read>(
         Err(fault) => return Err(DayFault::Orders(fault)),
     };
     match run_rows(storage, config, names, bytes, asked) {
+        Ok(day) => day,
+        Err(fault) => Err(DayFault::Orders(fault)),
+    }
+}
+
+/// Reads an order file, and has the securities of a segment take its rows on so many threads, each its own.
+pub(crate) fn take_orders_apart<T: Threads + Sync, R: Read>(
+    rt: &T,
+    threads: u32,
+    storage: Storage<Global>,
+    config: &SegmentConfig,
+    names: &SegmentNames,
+    orders: &mut R,
+) -> Result<OpenDay, DayFault>
+    requires { 1 ≤ threads }
+    ensures { FileRun (RowsTaken (record { answers = false; depth = false }) names.now) config.now names.now (R.remaining orders.old) result }
+{
+    let bytes = match read_orders(storage.alloc, orders) {
+        Ok(bytes) => bytes,
+        Err(fault) => return Err(DayFault::Orders(fault)),
+    };
+    match run_apart(rt, threads, storage, config, names, bytes) {
         Ok(day) => day,
         Err(fault) => Err(DayFault::Orders(fault)),
     }
