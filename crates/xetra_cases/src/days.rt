@@ -9,17 +9,39 @@ use std::sync::Wait;
 use std::thread::Threads;
 use xm_day::{AskedTexts, DayFault};
 use xm_names::Storage;
-use xm_program::{Input, Workers, carry_over, fault_line, open_input, run_told};
+use xm_program::{Concurrency, Count, Input, carry_over, fault_line, open_input, run_told};
 
-/// Runs the day of a case, prints whether it gives what is stored, and tells it.
+/// On how many threads the rows of a case are taken, in turn.
+const NUMBERS: [u32; 2] = [1, 3];
+
+/// Runs the day of a case on each number of threads, prints whether it gives what is stored, and tells it.
 pub fn is_as_stored<R: AllocGlobal + Files + Print + Threads + Wait + Sync>(
     rt: &R,
     name: &str,
 ) -> Result<bool, CaseFault> {
+    for number in NUMBERS {
+        let Some(threads) = Count::new(number) else {
+            return Err(CaseFault);
+        };
+        if !is_day_as_stored(rt, name, threads)? {
+            texts::said(println!(rt; "{name} differs, on {number} threads"))?;
+            return Ok(false);
+        }
+    }
+    texts::said(println!(rt; "{name} as stored"))?;
+    Ok(true)
+}
+
+/// Whether the day of a case gives what is stored, on so many threads.
+fn is_day_as_stored<R: AllocGlobal + Files + Print + Threads + Wait + Sync>(
+    rt: &R,
+    name: &str,
+    threads: Count,
+) -> Result<bool, CaseFault> {
     let path = texts::path(rt, name, "in.csv")?;
     match open_input(|path| fs::open(rt, path), path.as_str()) {
-        Input::Opened(mut file) => is_carry_as_stored(rt, name, &mut file),
-        Input::Unopened => is_run_as_stored(rt, name),
+        Input::Opened(mut file) => is_carry_as_stored(rt, name, &mut file, threads),
+        Input::Unopened => is_run_as_stored(rt, name, threads),
     }
 }
 
@@ -28,10 +50,11 @@ fn is_carry_as_stored<R: AllocGlobal + Files + Print + Threads + Wait + Sync, C:
     rt: &R,
     name: &str,
     carried: &mut C,
+    threads: Count,
 ) -> Result<bool, CaseFault> {
     let mut statement = Vec::new(rt.alloc());
     let mut keep = Vec::new(rt.alloc());
-    let ended = carry_day(rt, name, carried, &mut statement, &mut keep)?;
+    let ended = carry_day(rt, name, carried, threads, &mut statement, &mut keep)?;
     match ended {
         Ok(()) => {
             let left = differences::is_stored(rt, name, "out.csv", keep.as_slice())?;
@@ -46,12 +69,10 @@ fn carry_day<R: AllocGlobal + Files + Threads + Wait + Sync, C: Read>(
     rt: &R,
     name: &str,
     carried: &mut C,
+    threads: Count,
     statement: &mut Vec<u8>,
     keep: &mut Vec<u8>,
 ) -> Result<Result<(), DayFault>, CaseFault> {
-    let Some(workers) = Workers::new(1) else {
-        return Err(CaseFault);
-    };
     let (mut segment, mut orders) = open_files(rt, name)?;
     let storage = Storage::with_fixed_seed(rt.alloc());
     Ok(carry_over(
@@ -60,18 +81,22 @@ fn carry_day<R: AllocGlobal + Files + Threads + Wait + Sync, C: Read>(
         &mut segment,
         carried,
         &mut orders,
-        workers,
+        Concurrency::Threads(threads),
         statement,
         keep,
     ))
 }
 
 /// The same of a day of two files.
-fn is_run_as_stored<R: AllocGlobal + Files + Print>(rt: &R, name: &str) -> Result<bool, CaseFault> {
+fn is_run_as_stored<R: AllocGlobal + Files + Print + Threads + Sync>(
+    rt: &R,
+    name: &str,
+    threads: Count,
+) -> Result<bool, CaseFault> {
     let mut statement = Vec::new(rt.alloc());
     let mut answers = Vec::new(rt.alloc());
     let mut depth = Vec::new(rt.alloc());
-    let ended = run_day(rt, name, &mut statement, &mut answers, &mut depth)?;
+    let ended = run_day(rt, name, threads, &mut statement, &mut answers, &mut depth)?;
     match ended {
         Ok(()) => {
             let levels = differences::is_stored_if_any(rt, name, "depth.csv", depth.as_slice())?;
@@ -89,9 +114,10 @@ fn is_run_as_stored<R: AllocGlobal + Files + Print>(rt: &R, name: &str) -> Resul
 }
 
 /// Writes the statement, the answers and the levels of the day of a case.
-fn run_day<R: AllocGlobal + Files>(
+fn run_day<R: AllocGlobal + Files + Threads + Sync>(
     rt: &R,
     name: &str,
+    threads: Count,
     statement: &mut Vec<u8>,
     answers: &mut Vec<u8>,
     depth: &mut Vec<u8>,
@@ -103,9 +129,11 @@ fn run_day<R: AllocGlobal + Files>(
         depth: true,
     };
     Ok(run_told(
+        rt,
         storage,
         &mut segment,
         &mut orders,
+        threads,
         statement,
         asked,
         answers,
@@ -147,9 +175,5 @@ fn compare<R: AllocGlobal + Files + Print>(
     let faults = differences::is_stored(rt, name, "fault", fault)?;
     let statements = differences::is_stored(rt, name, "statement", statement)?;
     let answers = differences::is_stored(rt, name, "answers.csv", answers)?;
-    if faults && statements && answers && others_as_stored {
-        texts::said(println!(rt; "{name} as stored"))?;
-        return Ok(true);
-    }
-    Ok(false)
+    Ok(faults && statements && answers && others_as_stored)
 }

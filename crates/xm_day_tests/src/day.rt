@@ -1,6 +1,8 @@
 mod carried_days;
 mod chain;
+mod drawn;
 mod growths;
+mod threads;
 mod workers;
 
 use crate::files::fixtures::{

@@ -33,7 +33,7 @@ mod runtime;
 
 use crate::files::fixtures::{CASCADE, HEADER, SEGMENT};
 use crate::memory::want_of_memory;
-use ends::{CANNOT_KEEP, CANNOT_TELL, Printed};
+use ends::{CANNOT_KEEP, CANNOT_SHARE, CANNOT_TELL, Printed};
 use std::alloc::Global;
 use std::fs::File;
 use std::io::{Read, Write};
@@ -46,8 +46,8 @@ use xm_desk::OpenFault;
 use xm_files::{FileCause, FileFault};
 use xm_names::Storage;
 use xm_program::{
-    Failure, Input, Output, Request, Workers, check, fault_line, open_input, read_words, run,
-    run_told,
+    Concurrency, Count, Failure, Input, Output, Request, check, fault_line, open_input, read_words,
+    run, run_told,
 };
 
 /// A fault of a file, in this line.
@@ -121,6 +121,14 @@ fn command_line(rt: &(impl Abort + AllocGlobal), words: &[&str]) -> Vec<String> 
     line
 }
 
+/// How rows are taken, as a word and a number.
+fn taken(concurrency: Concurrency) -> (&'static str, u32) {
+    match concurrency {
+        Concurrency::Threads(threads) => ("on", threads.get()),
+        Concurrency::Workers(workers) => ("by", workers.get()),
+    }
+}
+
 /// What a command line is answered with, as a text that tells which answer it is.
 fn answer_to(rt: &(impl Abort + AllocGlobal), line: &[String]) -> String {
     let alloc = rt.alloc();
@@ -130,11 +138,11 @@ fn answer_to(rt: &(impl Abort + AllocGlobal), line: &[String]) -> String {
             Request::Run {
                 segment,
                 orders,
-                workers,
+                concurrency,
             },
         ) => {
-            let workers = workers.get();
-            format!(in alloc; "run {segment} and {orders} by {workers}")
+            let (how, number) = taken(*concurrency);
+            format!(in alloc; "run {segment} and {orders} {how} {number}")
         }
         Ok(
             Request::RunTold {
@@ -142,10 +150,14 @@ fn answer_to(rt: &(impl Abort + AllocGlobal), line: &[String]) -> String {
                 orders,
                 answers,
                 depth,
+                threads,
             },
         ) => {
             let (answers, depth) = (answers.unwrap_or("nowhere"), depth.unwrap_or("nowhere"));
-            format!(in alloc; "run {segment} and {orders}, answers to {answers}, levels to {depth}")
+            let threads = threads.get();
+            format!(in alloc;
+                "run {segment} and {orders} on {threads}, answers to {answers}, levels to {depth}"
+            )
         }
         Ok(
             Request::Carry {
@@ -153,11 +165,11 @@ fn answer_to(rt: &(impl Abort + AllocGlobal), line: &[String]) -> String {
                 carried,
                 orders,
                 keep,
-                workers,
+                concurrency,
             },
         ) => {
-            let workers = workers.get();
-            format!(in alloc; "carry {segment}, {carried} and {orders} to {keep} by {workers}")
+            let (how, number) = taken(*concurrency);
+            format!(in alloc; "carry {segment}, {carried} and {orders} to {keep} {how} {number}")
         }
         Ok(Request::Check { segment }) => format!(in alloc; "check {segment}"),
         Ok(Request::Help(text)) => format!(in alloc; "help {text}"),
@@ -170,19 +182,19 @@ fn answer_to(rt: &(impl Abort + AllocGlobal), line: &[String]) -> String {
 /// The words of a command line, without the program's name, with what they are answered.
 type Answered = (&'static [&'static str], Printed);
 
-const RUNS: [Answered; 11] = [
+const RUNS: [Answered; 18] = [
     (
         &["run", "day.toml", "day.csv"],
-        Printed::Text("run day.toml and day.csv by 1"),
+        Printed::Text("run day.toml and day.csv on 1"),
     ),
     (
         &["run", "--", "-s", "--orders"],
-        Printed::Text("run -s and --orders by 1"),
+        Printed::Text("run -s and --orders on 1"),
     ),
-    (&["run", "a day", ""], Printed::Text("run a day and  by 1")),
+    (&["run", "a day", ""], Printed::Text("run a day and  on 1")),
     (
         &["run", "day.toml", "day.csv", "--workers", "1"],
-        Printed::Text("run day.toml and day.csv by 1"),
+        Printed::Text("run day.toml and day.csv on 1"),
     ),
     (
         &["run", "--workers", "64", "day.toml", "day.csv"],
@@ -193,13 +205,44 @@ const RUNS: [Answered; 11] = [
         Printed::Text("run day.toml and day.csv by 8"),
     ),
     (
+        &["run", "day.toml", "day.csv", "--threads", "64"],
+        Printed::Text("run day.toml and day.csv on 64"),
+    ),
+    (
+        &["run", "--threads=+02", "day.toml", "--workers=1", "day.csv"],
+        Printed::Text("run day.toml and day.csv on 2"),
+    ),
+    (
+        &["run", "day.toml", "day.csv", "--workers=3", "--threads=1"],
+        Printed::Text("run day.toml and day.csv by 3"),
+    ),
+    (
+        &["run", "day.toml", "day.csv", "--workers=2", "--threads=2"],
+        CANNOT_SHARE,
+    ),
+    (
         &["run", "day.toml", "day.csv", "--answers", "a file"],
-        Printed::Text("run day.toml and day.csv, answers to a file, levels to nowhere"),
+        Printed::Text("run day.toml and day.csv on 1, answers to a file, levels to nowhere"),
+    ),
+    (
+        &[
+            "run",
+            "day.toml",
+            "--threads=3",
+            "day.csv",
+            "--answers",
+            "a file",
+        ],
+        Printed::Text("run day.toml and day.csv on 3, answers to a file, levels to nowhere"),
     ),
     (&["run", "--answers=-", "day.toml", "day.csv"], CANNOT_TELL),
     (
         &["run", "day.toml", "day.csv", "--depth", "a", "--answers=b"],
-        Printed::Text("run day.toml and day.csv, answers to b, levels to a"),
+        Printed::Text("run day.toml and day.csv on 1, answers to b, levels to a"),
+    ),
+    (
+        &["run", "day.toml", "day.csv", "--depth=a", "--threads=4"],
+        Printed::Text("run day.toml and day.csv on 4, answers to nowhere, levels to a"),
     ),
     (
         &[
@@ -225,12 +268,23 @@ const RUNS: [Answered; 11] = [
         ],
         CANNOT_TELL,
     ),
+    (
+        &[
+            "run",
+            "day.toml",
+            "day.csv",
+            "--depth=a",
+            "--workers=2",
+            "--threads=2",
+        ],
+        CANNOT_SHARE,
+    ),
 ];
 
-const CARRIES: [Answered; 3] = [
+const CARRIES: [Answered; 6] = [
     (
         &["carry", "day.toml", "in.csv", "day.csv", "out.csv"],
-        Printed::Text("carry day.toml, in.csv and day.csv to out.csv by 1"),
+        Printed::Text("carry day.toml, in.csv and day.csv to out.csv on 1"),
     ),
     (
         &[
@@ -245,8 +299,36 @@ const CARRIES: [Answered; 3] = [
         Printed::Text("carry day.toml, a file and day.csv to a file by 64"),
     ),
     (
+        &[
+            "carry",
+            "day.toml",
+            "in.csv",
+            "day.csv",
+            "out.csv",
+            "--threads",
+            "8",
+        ],
+        Printed::Text("carry day.toml, in.csv and day.csv to out.csv on 8"),
+    ),
+    (
         &["carry", "day.toml", "in.csv", "day.csv", "-"],
         CANNOT_KEEP,
+    ),
+    (
+        &["carry", "day.toml", "in.csv", "day.csv", "-", "--threads=8"],
+        CANNOT_KEEP,
+    ),
+    (
+        &[
+            "carry",
+            "day.toml",
+            "in.csv",
+            "day.csv",
+            "out.csv",
+            "--threads=8",
+            "--workers=8",
+        ],
+        CANNOT_SHARE,
     ),
 ];
 
@@ -255,8 +337,20 @@ const CHECKS: [Answered; 2] = [
     (&["check", "--", "-s"], Printed::Text("check -s")),
 ];
 
-/// Numbers of workers that aren't taken.
-const NUMBERS: [Answered; 6] = [
+/// Numbers of workers and of threads that aren't taken.
+const NUMBERS: [Answered; 8] = [
+    (
+        &["run", "day.toml", "day.csv", "--threads", "0"],
+        Printed::Text(
+            "error: invalid value '0' for '--threads <N>': 0 is not in 1..=64\n\nFor more information, try '--help'.\n",
+        ),
+    ),
+    (
+        &["run", "day.toml", "day.csv", "--threads=65"],
+        Printed::Text(
+            "error: invalid value '65' for '--threads <N>': 65 is not in 1..=64\n\nFor more information, try '--help'.\n",
+        ),
+    ),
     (
         &["run", "day.toml", "day.csv", "--workers", "0"],
         Printed::Text(
@@ -412,7 +506,7 @@ fn run_day(
     out: &mut impl Write,
 ) -> Result<(), DayFault> {
     let storage = Storage::with_fixed_seed(rt.alloc());
-    let workers = Workers::new(workers).expect(rt, "a number of workers");
+    let workers = Concurrency::Workers(Count::new(workers).expect(rt, "a number of workers"));
     run(rt, storage, segment, orders, workers, out)
 }
 
@@ -425,7 +519,7 @@ const BOTH: AskedTexts = AskedTexts {
 /// Runs the day of two texts, and writes its statement, its answers and its levels to three writers. A clause sees nothing of
 /// it.
 fn tell_day(
-    rt: &impl AllocGlobal,
+    rt: &(impl Abort + AllocGlobal + Threads + Sync),
     out: &mut impl Write,
     asked: AskedTexts,
     answers: &mut impl Write,
@@ -433,10 +527,13 @@ fn tell_day(
 ) -> Result<(), DayFault> {
     let storage = Storage::with_fixed_seed(rt.alloc());
     let (mut segment, mut orders) = (SEGMENT.as_bytes(), CASCADE.as_bytes());
+    let alone = Count::new(1).expect(rt, "a number of threads");
     run_told(
+        rt,
         storage,
         &mut segment,
         &mut orders,
+        alone,
         out,
         asked,
         answers,

@@ -1,12 +1,13 @@
 -- What the matches of a subcommand ask for.
-use Rattle.std.proofs.Common.{◌≡◌, ◌∙◌, ℕ, List, Option, Some, None, Bool, true, false, codes, refl, sym, option_map, option_and_then}
+use Rattle.std.proofs.Common.{◌≡◌, ◌∙◌, List, Option, Some, None, Bool, true, false, codes, refl, sym, option_map}
 use Rattle.std.specs.Str.{bytes_eq}
 use Rattle.clap.proofs.WalkLemmas.{first_value-rows}
-use Rattle.clap.specs.Words.{Row, Text, first_of, first_value, one_of, rows_of, subcommand_name_of, subcommand_rows_of}
+use Rattle.clap.specs.Words.{Row, Text, first_of, first_value, rows_of, subcommand_name_of, subcommand_rows_of}
 use Rattle.clap.specs.declared.parser.matches.ArgMatches.{ArgMatches}
 use Rattle.clap.specs.declared.parser.matches.ArgMatches.TheViews.{out-ArgMatches}
 use Rattle.clap.specs.declared.parser.matches.Found.{Found}
-use Rattle.xm_program.specs.Requests.{Asked, asked_in, carry_to, check, run_in, run_of, run_to, workers_in}
+use Rattle.xm_program.specs.Requests.{Asked, asked_in, carry_to, check, concurrency_in, run_in, run_of, run_to}
+use Rattle.xm_program.specs.declared.concurrency.Concurrency.{Concurrency}
 
 -- a subcommand with this name and these rows is the one that was met
 subcommand-met : (m : ArgMatches) (name : Text) (rows : List Row) → Some name ≡ subcommand_name_of m → Some rows ≡ option_map (λ p. p.1) (subcommand_rows_of m) → subcommand_rows_of m ≡ Some (name, rows)
@@ -17,13 +18,13 @@ subcommand-met m name rows = go (out-ArgMatches m).subcommand refl
     go (Some b) e n r = rw e (let name_is = rw e at n in let rows_are = rw e at r in cc)
 
 -- what values give
-values-met : (to : Text → Text → ℕ → Option Text → Option Text → Option Asked) (first second : Text) (rows : List Row) (segment orders : Option Text) (workers : Option ℕ)
-    → first_of (codes "SEGMENT") rows ≡ segment → first_of (codes "ORDERS") rows ≡ orders → option_and_then workers_in (one_of (codes "workers") rows) ≡ workers
-    → run_in to first second rows ≡ run_of to segment orders workers (first_of first rows) (first_of second rows)
-values-met to first second rows segment orders workers has_segment has_orders has_workers = rw (has_segment, has_orders, has_workers) refl
+values-met : (to : Text → Text → Concurrency → Option Text → Option Text → Option Asked) (first second : Text) (rows : List Row) (segment orders : Option Text) (concurrency : Option Concurrency)
+    → first_of (codes "SEGMENT") rows ≡ segment → first_of (codes "ORDERS") rows ≡ orders → concurrency_in rows ≡ concurrency
+    → run_in to first second rows ≡ run_of to segment orders concurrency (first_of first rows) (first_of second rows)
+values-met to first second rows segment orders concurrency has_segment has_orders has_concurrency = rw (has_segment, has_orders, has_concurrency) refl
 
 -- without a segment file a run is none
-no-run : (to : Text → Text → ℕ → Option Text → Option Text → Option Asked) (first second : Text) (rows : List Row) → first_of (codes "SEGMENT") rows ≡ None → run_in to first second rows ≡ None
+no-run : (to : Text → Text → Concurrency → Option Text → Option Text → Option Asked) (first second : Text) (rows : List Row) → first_of (codes "SEGMENT") rows ≡ None → run_in to first second rows ≡ None
 no-run to first second rows none = rw none refl
 
 -- the subcommand that was met, by its name and its values
@@ -35,18 +36,18 @@ module _ (m : ArgMatches) (name : Text) (values : Found) (has_name : Some name �
   first id value is = sym (is ∙ first_value-rows values id)
 
   -- what the values of a `run` give
-  pub run-met : (segment orders : Option Text) (workers : Option ℕ) → bytes_eq name (codes "run") ≡ true → segment ≡ first_value values (codes "SEGMENT") → orders ≡ first_value values (codes "ORDERS")
-      → workers ≡ option_and_then workers_in (one_of (codes "workers") (rows_of values))
-      → asked_in (subcommand_rows_of m) ≡ run_of run_to segment orders workers (first_of (codes "answers") (rows_of values)) (first_of (codes "depth") (rows_of values))
-  run-met segment orders workers is_run has_segment has_orders has_workers =
-      rw (met, is_run) (values-met run_to (codes "answers") (codes "depth") (rows_of values) segment orders workers (first (codes "SEGMENT") segment has_segment) (first (codes "ORDERS") orders has_orders) (sym has_workers))
+  pub run-met : (segment orders : Option Text) (concurrency : Option Concurrency) → bytes_eq name (codes "run") ≡ true → segment ≡ first_value values (codes "SEGMENT") → orders ≡ first_value values (codes "ORDERS")
+      → concurrency ≡ concurrency_in (rows_of values)
+      → asked_in (subcommand_rows_of m) ≡ run_of run_to segment orders concurrency (first_of (codes "answers") (rows_of values)) (first_of (codes "depth") (rows_of values))
+  run-met segment orders concurrency is_run has_segment has_orders has_concurrency =
+      rw (met, is_run) (values-met run_to (codes "answers") (codes "depth") (rows_of values) segment orders concurrency (first (codes "SEGMENT") segment has_segment) (first (codes "ORDERS") orders has_orders) (sym has_concurrency))
 
   -- what the values of a `carry` give
-  pub carry-met : (segment orders : Option Text) (workers : Option ℕ) → bytes_eq name (codes "run") ≡ false → bytes_eq name (codes "carry") ≡ true → segment ≡ first_value values (codes "SEGMENT")
-      → orders ≡ first_value values (codes "ORDERS") → workers ≡ option_and_then workers_in (one_of (codes "workers") (rows_of values))
-      → asked_in (subcommand_rows_of m) ≡ run_of carry_to segment orders workers (first_of (codes "IN") (rows_of values)) (first_of (codes "OUT") (rows_of values))
-  carry-met segment orders workers no_run is_carry has_segment has_orders has_workers =
-      rw (met, no_run, is_carry) (values-met carry_to (codes "IN") (codes "OUT") (rows_of values) segment orders workers (first (codes "SEGMENT") segment has_segment) (first (codes "ORDERS") orders has_orders) (sym has_workers))
+  pub carry-met : (segment orders : Option Text) (concurrency : Option Concurrency) → bytes_eq name (codes "run") ≡ false → bytes_eq name (codes "carry") ≡ true → segment ≡ first_value values (codes "SEGMENT")
+      → orders ≡ first_value values (codes "ORDERS") → concurrency ≡ concurrency_in (rows_of values)
+      → asked_in (subcommand_rows_of m) ≡ run_of carry_to segment orders concurrency (first_of (codes "IN") (rows_of values)) (first_of (codes "OUT") (rows_of values))
+  carry-met segment orders concurrency no_run is_carry has_segment has_orders has_concurrency =
+      rw (met, no_run, is_carry) (values-met carry_to (codes "IN") (codes "OUT") (rows_of values) segment orders concurrency (first (codes "SEGMENT") segment has_segment) (first (codes "ORDERS") orders has_orders) (sym has_concurrency))
 
   -- what the values of a `check` give
   pub check-met : (segment : Option Text) → bytes_eq name (codes "run") ≡ false → bytes_eq name (codes "carry") ≡ false → bytes_eq name (codes "check") ≡ true → segment ≡ first_value values (codes "SEGMENT")

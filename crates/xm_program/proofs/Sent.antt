@@ -1,5 +1,5 @@
 -- What was written before all of it was sent out.
-use Rattle.std.proofs.Common.{◌≡◌, ◌≢◌, ◌∙◌, ℕ, List, Option, Result, Ok, Err, OnErr, OnOk, subst, sym}
+use Rattle.std.proofs.Common.{◌≡◌, ℕ, List, Option, Result, Ok, Err, OnErr, OnOk, subst, sym}
 use Rattle.std.specs.Io.KnownBytes.{Keeps}
 use Rattle.xm_day.proofs.Written.{appended}
 use Rattle.xm_day.specs.Answers.{DayEnds, InFileOrder}
@@ -10,15 +10,17 @@ use Rattle.xm_day.specs.Workers.{IsShared}
 use Rattle.xm_day.specs.declared.report.DayReport.{DayReport}
 use Rattle.xm_day.specs.declared.faults.DayFault.{DayFault}
 use Rattle.xm_program.specs.Days.{EndsBy}
+use Rattle.xm_program.specs.declared.concurrency.Concurrency.{Concurrency}
+use Rattle.xm_program.specs.declared.concurrency.Concurrency.TheVariants.{Threads, Workers}
 use Rattle.xm_segment.specs.declared.config.SegmentConfig.{SegmentConfig}
 use Rattle.xm_segment.specs.declared.rows.Row.{Row}
 
--- how a day ended, by another way to end that follows for either number of workers
-pub ends-by : (workers asked : ℕ) (Before After : (SegmentConfig → List Row → Day → Type 0) → Type 0) → asked ≡ workers → ((days : SegmentConfig → List Row → Day → Type 0) → Before days → After days)
-    → (asked ≡ 1 → Before InFileOrder) → (asked ≢ 1 → Before (IsShared asked)) → EndsBy workers After
-ends-by workers asked Before After is follows alone shared = record {
-  alone = λ one. follows InFileOrder (alone (is ∙ one));
-  shared = λ more. follows (IsShared workers) (subst (λ (n : ℕ). Before (IsShared n)) is (shared (λ one. more (sym is ∙ one))));
+-- how a day ended whose rows are taken so, by another way to end that follows
+pub ends-by : (concurrency : Concurrency) (Before After : (SegmentConfig → List Row → Day → Type 0) → Type 0) → ((days : SegmentConfig → List Row → Day → Type 0) → Before days → After days) → EndsBy concurrency Before → EndsBy concurrency After
+ends-by (Threads threads) Before After follows ends = follows InFileOrder ends
+ends-by (Workers workers) Before After follows ends = record {
+  alone = λ one. follows InFileOrder (ends.alone one);
+  shared = λ more. follows (IsShared workers) (ends.shared more);
 }
 
 module _ (segment old mid new : Option (List ℕ)) {Same : Type 0} (same : Same → new ≡ mid) where

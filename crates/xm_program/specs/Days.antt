@@ -13,6 +13,8 @@ use Rattle.xm_day.specs.declared.report.DayReport.{DayReport}
 use Rattle.xm_day.specs.declared.faults.DayFault.{DayFault}
 use Rattle.xm_day.specs.declared.faults.DayFault.TheVariants.{WriteFailed}
 use Rattle.xm_program.specs.FaultLines.{told}
+use Rattle.xm_program.specs.declared.concurrency.Concurrency.{Concurrency}
+use Rattle.xm_program.specs.declared.concurrency.Concurrency.TheVariants.{Threads, Workers}
 use Rattle.xm_segment.specs.declared.config.SegmentConfig.{SegmentConfig}
 use Rattle.xm_segment.specs.declared.rows.Row.{Row}
 
@@ -33,25 +35,30 @@ module _ {A : Type 0} where
   TellsEnd Ends result = (end : Result A DayFault) × Ends end × IsEnd end result
 
 -- how a day ends whose rows so many workers take, by how it ends where the rows have such days
-pub record EndsBy (workers : ℕ) (Ends : (SegmentConfig → List Row → Day → Type 0) → Type 0) : Type 0 where
+pub record EndsByWorkers (workers : ℕ) (Ends : (SegmentConfig → List Row → Day → Type 0) → Type 0) : Type 0 where
   -- one worker takes them in their order
   pub alone : workers ≡ 1 → Ends InFileOrder
   -- several take each member's in their order
   pub shared : workers ≢ 1 → Ends (IsShared workers)
 
--- how the run of two files ends by so many workers
-abbrev pub RunEnds : ℕ → Option (List ℕ) → Option (List ℕ) → Option (List ℕ) → Option (List ℕ) → Result (Unit {0}) DayFault → Type 0
-RunEnds workers segment orders old new = TellsEnd (λ end. EndsBy workers (λ days. DayEnds days segment orders old new end))
+-- how a day ends whose rows are taken so: on threads, whatever their number, in their order
+abbrev pub EndsBy : Concurrency → ((SegmentConfig → List Row → Day → Type 0) → Type 0) → Type 0
+EndsBy (Threads threads) Ends = Ends InFileOrder
+EndsBy (Workers workers) Ends = EndsByWorkers workers Ends
 
--- how the run of a segment file, a carry file and an order file ends by so many workers, which hands on what its day leaves
-abbrev pub CarryEnds : ℕ → Option (List ℕ) → Option (List ℕ) → Option (List ℕ) → Outputs → Result (Unit {0}) DayFault → Type 0
-CarryEnds workers segment carried orders out = TellsEnd (λ end. EndsBy workers (λ days. CarriedDayEnds days segment carried orders out end))
+-- how the run of two files ends whose rows are taken so
+abbrev pub RunEnds : Concurrency → Option (List ℕ) → Option (List ℕ) → Option (List ℕ) → Option (List ℕ) → Result (Unit {0}) DayFault → Type 0
+RunEnds concurrency segment orders old new = TellsEnd (λ end. EndsBy concurrency (λ days. DayEnds days segment orders old new end))
+
+-- how the run of a segment file, a carry file and an order file ends whose rows are taken so, and which hands on what its day leaves
+abbrev pub CarryEnds : Concurrency → Option (List ℕ) → Option (List ℕ) → Option (List ℕ) → Outputs → Result (Unit {0}) DayFault → Type 0
+CarryEnds concurrency segment carried orders out = TellsEnd (λ end. EndsBy concurrency (λ days. CarriedDayEnds days segment carried orders out end))
 
 -- the same where the file for what is left may be none that can be made, which is a failed write before anything is written
-abbrev pub CarryFilesEnd : ℕ → Option (List ℕ) → Option (List ℕ) → Result (Unit {0}) DayFault → Type 0
-CarryFilesEnd workers old new result =
+abbrev pub CarryFilesEnd : Concurrency → Option (List ℕ) → Option (List ℕ) → Result (Unit {0}) DayFault → Type 0
+CarryFilesEnd concurrency old new result =
     ((segment carried orders kept_old kept_new : Option (List ℕ))
-    × CarryEnds workers segment carried orders (record { old = old; new = new; kept_old = kept_old; kept_new = kept_new }) result)
+    × CarryEnds concurrency segment carried orders (record { old = old; new = new; kept_old = kept_old; kept_new = kept_new }) result)
     ⊎ ((result ≡ Err WriteFailed) × (new ≡ old))
 
 -- the texts that are told beside the statement of two files, each of which is empty where it isn't asked for
@@ -76,7 +83,7 @@ TextsEnd answers depth old new depth_old depth_new (Ok report) (Err fault) = (fa
 TextsEnd answers depth old new depth_old depth_new (Err fault) (Ok done) = ⊥
 TextsEnd answers depth old new depth_old depth_new (Err fault) (Err again) = (again ≡ told fault) × (new ≡ old) × (depth_new ≡ depth_old)
 
--- how the run of two files ends that one worker takes, and of which these texts are told
+-- how the run of two files ends whose rows are taken in their order, and of which these texts are told
 pub record ToldRunEnds (asked : AskedTexts) (segment orders old new answers_old answers_new depth_old depth_new : Option (List ℕ)) (result : Result (Unit {0}) DayFault) : Type 0 where
   pub end : Result DayReport DayFault
   pub answers : List ℕ

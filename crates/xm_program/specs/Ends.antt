@@ -15,9 +15,9 @@ use Rattle.xm_ticks.specs.Writing.{AppendsPrefix}
 
 -- what was asked for ended so, on files of some bytes
 abbrev pub AskedEnds : Asked → Option (List ℕ) → Option (List ℕ) → Result (Unit {0}) DayFault → Type 0
-AskedEnds (run segment orders workers) old new end = (segment_bytes order_bytes : Option (List ℕ)) × RunEnds workers segment_bytes order_bytes old new end
-AskedEnds (run_told segment orders answers depth) old new end = FilesEnd (asked_texts answers depth) old new end
-AskedEnds (carry segment carried orders keep workers) old new end = CarryFilesEnd workers old new end
+AskedEnds (run segment orders concurrency) old new end = (segment_bytes order_bytes : Option (List ℕ)) × RunEnds concurrency segment_bytes order_bytes old new end
+AskedEnds (run_told segment orders answers depth threads) old new end = FilesEnd (asked_texts answers depth) old new end
+AskedEnds (carry segment carried orders keep concurrency) old new end = CarryFilesEnd concurrency old new end
 AskedEnds (check segment) old new end = (segment_bytes : Option (List ℕ)) × FileCheckEnds segment_bytes old new end
 
 -- the words have no fault and ask for what can be done, which ended so

@@ -18,6 +18,8 @@ use Rattle.std_io.specs.declared.io.kind.ErrorKind.TheVariants as reading
 use Rattle.xm_day.specs.declared.faults.DayFault.TheVariants as day
 use Rattle.xm_day.specs.declared.report.AskedTexts.{AskedTexts}
 use Rattle.xm_segment.specs.Opening.{max_workers}
+use Rattle.xm_program.specs.declared.concurrency.Concurrency.{Concurrency}
+use Rattle.xm_program.specs.declared.concurrency.Concurrency.TheVariants.{Threads, Workers}
 use Rattle.xm_program.specs.declared.requests.Request.{Request}
 use Rattle.xm_program.specs.declared.requests.Request.TheVariants.{Run, RunTold, Carry, Check, Help}
 use Rattle.xm_program.specs.declared.requests.Failure.{Failure}
@@ -29,10 +31,10 @@ use Rattle.xm_program.specs.declared.requests.Failure.TheVariants.{Day, Words}
 abbrev pub path_rule : Text → Rule
 path_rule id = record (new_rule id) { required = true; action = Some Set }
 
--- `--workers N`, a number from 1 on, which is 1 where the words give none
-abbrev pub workers_rule : Rule
-workers_rule = record (new_rule (codes "workers")) {
-  long = Some (codes "workers");
+-- `--workers N` or `--threads N`, a number from 1 on, which is 1 where the words give none
+abbrev pub count_rule : Text → Rule
+count_rule id = record (new_rule id) {
+  long = Some id;
   action = Some Set;
   value_names = 1;
   defaults = codes "1" ∷ [];
@@ -43,17 +45,17 @@ workers_rule = record (new_rule (codes "workers")) {
 abbrev pub file_rule : Text → Rule
 file_rule id = record (new_rule id) { long = Some id; action = Some Set; value_names = 1 }
 
--- `run SEGMENT ORDERS --workers N --answers FILE --depth FILE`
+-- `run SEGMENT ORDERS --workers N --threads N --answers FILE --depth FILE`
 abbrev pub run_app : App
 run_app =
-    with_rule (with_rule (with_rule (with_rule (with_rule (new_app (codes "run")) (path_rule (codes "SEGMENT"))) (path_rule (codes "ORDERS"))) workers_rule)
-    (file_rule (codes "answers"))) (file_rule (codes "depth"))
+    with_rule (with_rule (with_rule (with_rule (with_rule (with_rule (new_app (codes "run")) (path_rule (codes "SEGMENT"))) (path_rule (codes "ORDERS")))
+    (count_rule (codes "workers"))) (count_rule (codes "threads"))) (file_rule (codes "answers"))) (file_rule (codes "depth"))
 
--- `carry SEGMENT IN ORDERS OUT --workers N`
+-- `carry SEGMENT IN ORDERS OUT --workers N --threads N`
 abbrev pub carry_app : App
 carry_app =
-    with_rule (with_rule (with_rule (with_rule (with_rule (new_app (codes "carry")) (path_rule (codes "SEGMENT"))) (path_rule (codes "IN")))
-    (path_rule (codes "ORDERS"))) (path_rule (codes "OUT"))) workers_rule
+    with_rule (with_rule (with_rule (with_rule (with_rule (with_rule (new_app (codes "carry")) (path_rule (codes "SEGMENT"))) (path_rule (codes "IN")))
+    (path_rule (codes "ORDERS"))) (path_rule (codes "OUT"))) (count_rule (codes "workers"))) (count_rule (codes "threads"))
 
 -- `check SEGMENT`
 abbrev pub check_app : App
@@ -66,18 +68,32 @@ day_app = with_subcommand (with_subcommand (with_subcommand (on_top (λ s. recor
 
 -- ---- what the words ask for
 
--- the run of a segment file and an order file by so many workers, or by one that also writes the answers, the levels or both to
--- files; the run of a segment file, a carry file and an order file that also writes, to the last of four files, the carry file of the
--- next day, by so many workers; or the check of a segment file
+-- the run of a segment file and an order file whose rows are taken so, or, in the order of the file on so many threads, one that also
+-- writes the answers, the levels or both to files; the run of a segment file, a carry file and an order file, whose rows are taken so,
+-- that also writes, to the last of four files, the carry file of the next day; or the check of a segment file
 pub data Asked : Type 0 where
-  run : Text → Text → ℕ → Asked
-  run_told : Text → Text → Option Text → Option Text → Asked
-  carry : Text → Text → Text → Text → ℕ → Asked
+  run : Text → Text → Concurrency → Asked
+  run_told : Text → Text → Option Text → Option Text → ℕ → Asked
+  carry : Text → Text → Text → Text → Concurrency → Asked
   check : Text → Asked
 
--- a number of workers, by its decimal digits
-abbrev pub workers_in : Text → Option ℕ
-workers_in text = if is_unsigned_in 1 max_workers text then Some (digits_value 10 (without_leading_plus text)) else None
+-- a number of workers or of threads, by its decimal digits
+abbrev pub count_in : Text → Option ℕ
+count_in text = if is_unsigned_in 1 max_workers text then Some (digits_value 10 (without_leading_plus text)) else None
+
+-- how so many workers take the rows, on so many threads: one worker in the order of the file, several side by side, each on one
+-- thread
+abbrev pub concurrency_of : ℕ → ℕ → Option Concurrency
+concurrency_of workers threads = if workers == 1 then Some (Threads threads) else (if threads == 1 then Some (Workers workers) else None)
+
+abbrev pub concurrency_by : Option ℕ → Option ℕ → Option Concurrency
+concurrency_by (Some workers) (Some threads) = concurrency_of workers threads
+concurrency_by (Some workers) None = None
+concurrency_by None threads = None
+
+-- how rows are taken, by these values
+abbrev pub concurrency_in : List Row → Option Concurrency
+concurrency_in rows = concurrency_by (option_and_then count_in (one_of (codes "workers") rows)) (option_and_then count_in (one_of (codes "threads") rows))
 
 -- a path is not that of standard output
 abbrev pub is_file : Option Text → Bool
@@ -88,38 +104,38 @@ abbrev pub is_one_path : Option Text → Option Text → Bool
 is_one_path (Some first) (Some second) = bytes_eq first second
 is_one_path _ _ = false
 
--- the texts beside a statement are those of one worker, and go to a file each, not to standard output
-abbrev pub can_tell : ℕ → Option Text → Option Text → Bool
-can_tell workers answers depth = (workers == 1) && (is_file answers && (is_file depth && not (is_one_path answers depth)))
+-- the texts beside a statement go to a file each, not to standard output
+abbrev pub can_tell : Option Text → Option Text → Bool
+can_tell answers depth = is_file answers && (is_file depth && not (is_one_path answers depth))
 
--- the run of two files with texts beside its statement
-abbrev pub told_run : Text → Text → ℕ → Option Text → Option Text → Option Asked
-told_run segment orders workers answers depth = if can_tell workers answers depth then Some (run_told segment orders answers depth) else None
+-- the run of two files with texts beside its statement, which are those of rows in the order of the file
+abbrev pub told_run : Text → Text → Concurrency → Option Text → Option Text → Option Asked
+told_run segment orders (Threads threads) answers depth = if can_tell answers depth then Some (run_told segment orders answers depth threads) else None
+told_run segment orders (Workers workers) answers depth = None
 
 -- the run of two files
-abbrev pub run_to : Text → Text → ℕ → Option Text → Option Text → Option Asked
-run_to segment orders workers None None = Some (run segment orders workers)
-run_to segment orders workers None (Some depth) = told_run segment orders workers None (Some depth)
-run_to segment orders workers (Some answers) depth = told_run segment orders workers (Some answers) depth
+abbrev pub run_to : Text → Text → Concurrency → Option Text → Option Text → Option Asked
+run_to segment orders concurrency None None = Some (run segment orders concurrency)
+run_to segment orders concurrency None (Some depth) = told_run segment orders concurrency None (Some depth)
+run_to segment orders concurrency (Some answers) depth = told_run segment orders concurrency (Some answers) depth
 
 -- the run of two files that opens with a carry file, and hands on what its day leaves to a file, not to standard output
-abbrev pub carry_to : Text → Text → ℕ → Option Text → Option Text → Option Asked
-carry_to segment orders workers (Some carried) (Some keep) = if is_file (Some keep) then Some (carry segment carried orders keep workers) else None
-carry_to segment orders workers (Some carried) None = None
-carry_to segment orders workers None keep = None
+abbrev pub carry_to : Text → Text → Concurrency → Option Text → Option Text → Option Asked
+carry_to segment orders concurrency (Some carried) (Some keep) = if is_file (Some keep) then Some (carry segment carried orders keep concurrency) else None
+carry_to segment orders concurrency (Some carried) None = None
+carry_to segment orders concurrency None keep = None
 
--- the run that the values of a subcommand ask for, by the paths of both files, the number of workers and two paths more
-abbrev pub run_of : (Text → Text → ℕ → Option Text → Option Text → Option Asked) → Option Text → Option Text → Option ℕ → Option Text → Option Text → Option Asked
-run_of to (Some segment) (Some orders) (Some workers) first second = to segment orders workers first second
+-- the run that the values of a subcommand ask for, by the paths of both files, how rows are taken, and two paths more
+abbrev pub run_of : (Text → Text → Concurrency → Option Text → Option Text → Option Asked) → Option Text → Option Text → Option Concurrency → Option Text → Option Text → Option Asked
+run_of to (Some segment) (Some orders) (Some concurrency) first second = to segment orders concurrency first second
 run_of to (Some segment) (Some orders) None first second = None
-run_of to (Some segment) None workers first second = None
-run_of to None orders workers first second = None
+run_of to (Some segment) None concurrency first second = None
+run_of to None orders concurrency first second = None
 
 -- the run that these values ask for, where the two paths more are values with these names
-abbrev pub run_in : (Text → Text → ℕ → Option Text → Option Text → Option Asked) → Text → Text → List Row → Option Asked
+abbrev pub run_in : (Text → Text → Concurrency → Option Text → Option Text → Option Asked) → Text → Text → List Row → Option Asked
 run_in to first second rows =
-    run_of to (first_of (codes "SEGMENT") rows) (first_of (codes "ORDERS") rows) (option_and_then workers_in (one_of (codes "workers") rows))
-    (first_of first rows) (first_of second rows)
+    run_of to (first_of (codes "SEGMENT") rows) (first_of (codes "ORDERS") rows) (concurrency_in rows) (first_of first rows) (first_of second rows)
 
 abbrev pub asked_in : Option (Text × List Row) → Option Asked
 asked_in None = None
@@ -139,20 +155,25 @@ abbrev pub is_plain_word : Text → Bool
 is_plain_word [] = true
 is_plain_word (first ∷ rest) = not (first == 45)
 
--- the words that ask for so many workers: none where no number is asked for
-abbrev pub workers_words : Option ℕ → List Text
-workers_words None = []
-workers_words (Some workers) = codes "--workers" ∷ decimal workers ∷ []
+-- the words that ask for so many of what an option counts: none where no number is asked for
+abbrev pub count_words : Text → Option ℕ → List Text
+count_words option None = []
+count_words option (Some number) = option ∷ decimal number ∷ []
 
--- the words are the program's name, a subcommand, these paths and, if a number of workers is asked for, `--workers` and it
-pub record AsksBy (words : List Text) (subcommand : Text) (paths : List Text) (workers : ℕ) : Type 0 where
+-- a number that an option may have
+abbrev pub IsCount : ℕ → Type 0
+IsCount number = (1 ≤ number) × (number ≤ max_workers)
+
+-- the words are the program's name, a subcommand, these paths and, if a number of workers or of threads is asked for, `--workers` or
+-- `--threads` and it; the rows are then taken so
+pub record AsksBy (words : List Text) (subcommand : Text) (paths : List Text) (concurrency : Concurrency) : Type 0 where
   pub program : Text
-  pub number : Option ℕ
-  pub words_are : words ≡ program ∷ subcommand ∷ (paths ++ workers_words number)
+  pub workers : Option ℕ
+  pub threads : Option ℕ
+  pub words_are : words ≡ program ∷ subcommand ∷ (paths ++ (count_words (codes "--workers") workers ++ count_words (codes "--threads") threads))
   pub are_plain : list_all is_plain_word paths ≡ true
-  pub workers_are : workers ≡ unwrap_or number 1
-  pub some : 1 ≤ workers
-  pub few : workers ≤ max_workers
+  pub are_counts : IfSome workers IsCount × IfSome threads IsCount
+  pub concurrency_is : concurrency_of (unwrap_or workers 1) (unwrap_or threads 1) ≡ Some concurrency
 
 -- the words that ask for a text in a file, if there is a path for it
 abbrev pub file_words : Text → Option Text → List Text
@@ -163,16 +184,20 @@ file_words option (Some path) = option ∷ path ∷ []
 abbrev pub asked_texts : Option Text → Option Text → AskedTexts
 asked_texts answers depth = record { answers = is_some answers; depth = is_some depth }
 
--- the words are the program's name, `run`, two paths, and `--answers`, `--depth` or both, each with the path of a file
-pub record AsksTexts (words : List Text) (segment orders : Text) (answers depth : Option Text) : Type 0 where
+-- the words are the program's name, `run`, two paths, `--answers`, `--depth` or both, each with the path of a file, and, if a number
+-- of threads is asked for, `--threads` and it
+pub record AsksTexts (words : List Text) (segment orders : Text) (answers depth : Option Text) (threads : ℕ) : Type 0 where
   pub program : Text
-  pub words_are : words ≡ program ∷ codes "run" ∷ segment ∷ orders ∷ (file_words (codes "--answers") answers ++ file_words (codes "--depth") depth)
+  pub number : Option ℕ
+  pub words_are : words ≡ program ∷ codes "run" ∷ segment ∷ orders ∷ (file_words (codes "--answers") answers ++ (file_words (codes "--depth") depth ++ count_words (codes "--threads") number))
   pub segment_is_plain : is_plain_word segment ≡ true
   pub orders_is_plain : is_plain_word orders ≡ true
   pub answers_is_plain : IfSome answers (λ path. is_plain_word path ≡ true)
   pub depth_is_plain : IfSome depth (λ path. is_plain_word path ≡ true)
   pub apart : is_one_path answers depth ≡ false
   pub some : is_some answers || is_some depth ≡ true
+  pub is_count : IfSome number IsCount
+  pub threads_are : unwrap_or number 1 ≡ threads
 
 -- the words are the program's name, `check` and a path
 pub record AsksCheck (words : List Text) (segment : Text) : Type 0 where
@@ -182,18 +207,18 @@ pub record AsksCheck (words : List Text) (segment : Text) : Type 0 where
 
 -- the words ask for it in a form that is always taken
 abbrev pub Asks : List Text → Asked → Type 0
-Asks words (run segment orders workers) = AsksBy words (codes "run") (segment ∷ orders ∷ []) workers
-Asks words (run_told segment orders answers depth) = AsksTexts words segment orders answers depth
-Asks words (carry segment carried orders keep workers) = AsksBy words (codes "carry") (segment ∷ carried ∷ orders ∷ keep ∷ []) workers
+Asks words (run segment orders concurrency) = AsksBy words (codes "run") (segment ∷ orders ∷ []) concurrency
+Asks words (run_told segment orders answers depth threads) = AsksTexts words segment orders answers depth threads
+Asks words (carry segment carried orders keep concurrency) = AsksBy words (codes "carry") (segment ∷ carried ∷ orders ∷ keep ∷ []) concurrency
 Asks words (check segment) = AsksCheck words segment
 
 -- ---- the answer
 
 -- the request is what was asked for, and not a help text
 abbrev pub IsRequest : Option Asked → Request → Type 0
-IsRequest asked (Run segment orders workers) = asked ≡ Some (run segment.now orders.now workers)
-IsRequest asked (RunTold segment orders answers depth) = asked ≡ Some (run_told segment.now orders.now (option_map (λ s. s.now) answers) (option_map (λ s. s.now) depth))
-IsRequest asked (Carry segment carried orders keep workers) = asked ≡ Some (carry segment.now carried.now orders.now keep.now workers)
+IsRequest asked (Run segment orders concurrency) = asked ≡ Some (run segment.now orders.now concurrency)
+IsRequest asked (RunTold segment orders answers depth threads) = asked ≡ Some (run_told segment.now orders.now (option_map (λ s. s.now) answers) (option_map (λ s. s.now) depth) threads)
+IsRequest asked (Carry segment carried orders keep concurrency) = asked ≡ Some (carry segment.now carried.now orders.now keep.now concurrency)
 IsRequest asked (Check segment) = asked ≡ Some (check segment.now)
 IsRequest asked (Help error) = ⊥
 

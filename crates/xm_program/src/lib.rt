@@ -3,16 +3,18 @@
 #![tactic(auto)]
 
 mod complaints;
+mod concurrency;
+mod count;
 mod fault_lines;
 mod inputs;
 mod outputs;
 mod program;
 mod requests;
-mod workers;
 
+pub use crate::concurrency::Concurrency;
+pub use crate::count::Count;
 pub use crate::fault_lines::fault_line;
 pub use crate::inputs::{Input, open_input};
 pub use crate::outputs::Output;
 pub use crate::program::{carry_over, check, run, run_program, run_told, run_words};
 pub use crate::requests::{Failure, Request, read_words};
-pub use crate::workers::Workers;

@@ -1,16 +1,21 @@
 //! A call of the program, over any runtime.
-ghost use Rattle.std.specs.Prelude.{◌≡◌, ◌≢◌, ◌≤◌, ℕ, List, Option, Err, IfErr, OnErr, OnOk, map, option_map, string_bytes};
+ghost use Rattle.std.specs.Prelude.{◌≡◌, ◌≢◌, ◌≤◌, ℕ, List, Option, Err, IfErr, IfOk, OnErr, OnOk, map, option_map, string_bytes};
 ghost use Rattle.std.specs.Io.KnownBytes.{Appends, Keeps};
 ghost use Rattle.std.specs.Process.{exit_status};
 ghost use Rattle.clap.specs.Words.{fault_of};
-ghost use Rattle.xm_program.specs.Days.{AppendsBeginning, BeginsBoth, CarryEnds, CarryFilesEnd, FileCheckEnds, FilesEnd, IsEnd, RunEnds, ToldRunEnds};
+ghost use Rattle.xm_day.specs.Answers.{DayEnds, InFileOrder, IsAsked, IsTextOfFiles, report_in};
+ghost use Rattle.xm_day.specs.CarriedDays.{CarriedDayEnds};
+ghost use Rattle.xm_day.specs.MarketDepth.{depth_text};
+ghost use Rattle.xm_day.specs.RowAnswers.{answers_text};
+ghost use Rattle.xm_program.specs.Days.{AppendsBeginning, BeginsBoth, CarryEnds, CarryFilesEnd, EndsBy, FileCheckEnds, FilesEnd, IsEnd, RunEnds, ToldRunEnds};
 ghost use Rattle.xm_program.specs.Ends.{CallEnds, IsDone, IsToldAs};
 ghost use Rattle.xm_program.specs.Requests.{RefusesBytes, asked_of, asked_texts, day_app, end_status};
 
 use crate::complaints::Complaints;
+use crate::concurrency::Concurrency;
+use crate::count::Count;
 use crate::fault_lines::{fault_line, told};
 use crate::requests::{self, Failure, Request};
-use crate::workers::Workers;
 use crate::{inputs, outputs};
 use clap::Error;
 use std::alloc::Global;
@@ -21,7 +26,10 @@ use std::rt::{Env, Files};
 use std::sync::Wait;
 use std::thread::Threads;
 use std::{env, fs, io};
-use xm_day::{AskedTexts, DayFault, carry_day, run_day};
+use xm_day::{
+    AskedTexts, DayFault, DayReport, ToldDay, carry_alone, carry_day, carry_on_threads, run_day,
+    run_on_threads,
+};
 use xm_memory::OutOfMemory;
 use xm_names::{Seed, Storage};
 use xm_segment::NoGate;
@@ -67,50 +75,52 @@ fn answer<R: AllocGlobal + Files + RandomSource + Threads + Wait + Sync, W: Writ
         Request::Run {
             segment,
             orders,
-            workers,
-        } => Ok(run_files(rt, segment, orders, workers, out)?),
+            concurrency,
+        } => Ok(run_files(rt, segment, orders, concurrency, out)?),
         Request::RunTold {
             segment,
             orders,
             answers,
             depth,
-        } => Ok(tell_files(rt, segment, orders, answers, depth, out)?),
+            threads,
+        } => Ok(tell_files(rt, segment, orders, answers, depth, threads, out)?),
         Request::Carry {
             segment,
             carried,
             orders,
             keep,
-            workers,
-        } => Ok(carry_files(rt, segment, carried, orders, keep, workers, out)?),
+            concurrency,
+        } => Ok(carry_files(rt, segment, carried, orders, keep, concurrency, out)?),
         Request::Check { segment } => Ok(check_file(rt, segment, out)?),
         Request::Help(text) => Ok(print_help(text, out)?),
     }
 }
 
-/// Writes the statement of the day in the files at two paths, whose rows so many workers take.
+/// Writes the statement of the day in the files at two paths, whose rows are taken so.
 fn run_files<R: AllocGlobal + Files + RandomSource + Threads + Wait + Sync, W: Write>(
     rt: &R,
     segment: &str,
     orders: &str,
-    workers: Workers,
+    concurrency: Concurrency,
     out: &mut W,
 ) -> Result<(), DayFault>
-    ensures ends { (segment orders : Option (List ℕ)) × RunEnds workers segment orders (W.contents out.old) (W.contents out.new) result }
+    ensures ends { (segment orders : Option (List ℕ)) × RunEnds concurrency segment orders (W.contents out.old) (W.contents out.new) result }
     ensures untouched { IfErr result (λ fault. fault ≢ DayFault.WriteFailed → out.new ≡ out.old) }
 {
     let mut segment = inputs::open_input(|path| fs::open(rt, path), segment);
     let mut orders = inputs::open_input(|path| fs::open(rt, path), orders);
-    run(rt, storage(rt), &mut segment, &mut orders, workers, out)
+    run(rt, storage(rt), &mut segment, &mut orders, concurrency, out)
 }
 
-/// Writes the statement of the day in the files at two paths, and the texts beside it to those that are given, which are made
-/// before any is read.
-fn tell_files<R: AllocGlobal + Files + RandomSource, W: Write>(
+/// Writes the statement of the day in the files at two paths, whose rows are taken on so many threads, and the texts beside it to
+/// those that are given, which are made before any is read.
+fn tell_files<R: AllocGlobal + Files + RandomSource + Threads + Sync, W: Write>(
     rt: &R,
     segment: &str,
     orders: &str,
     answers: Option<&str>,
     depth: Option<&str>,
+    threads: Count,
     out: &mut W,
 ) -> Result<(), DayFault>
     ensures ends { FilesEnd (asked_texts (option_map (λ s. s.now) answers.entry) (option_map (λ s. s.now) depth.entry)) (W.contents out.old) (W.contents out.new) result }
@@ -132,9 +142,11 @@ fn tell_files<R: AllocGlobal + Files + RandomSource, W: Write>(
     let mut segment = inputs::open_input(|path| fs::open(rt, path), segment);
     let mut orders = inputs::open_input(|path| fs::open(rt, path), orders);
     run_told(
+        rt,
         storage(rt),
         &mut segment,
         &mut orders,
+        threads,
         out,
         asked,
         &mut answers,
@@ -150,10 +162,10 @@ fn carry_files<R: AllocGlobal + Files + RandomSource + Threads + Wait + Sync, W:
     carried: &str,
     orders: &str,
     keep: &str,
-    workers: Workers,
+    concurrency: Concurrency,
     out: &mut W,
 ) -> Result<(), DayFault>
-    ensures ends { CarryFilesEnd workers (W.contents out.old) (W.contents out.new) result }
+    ensures ends { CarryFilesEnd concurrency (W.contents out.old) (W.contents out.new) result }
     ensures untouched { IfErr result (λ fault. fault ≢ DayFault.WriteFailed → out.new ≡ out.old) }
 {
     let (mut keep, _) = match outputs::make_files(rt, Some(keep), None, [segment, orders]) {
@@ -169,7 +181,7 @@ fn carry_files<R: AllocGlobal + Files + RandomSource + Threads + Wait + Sync, W:
         &mut segment,
         &mut carried,
         &mut orders,
-        workers,
+        concurrency,
         out,
         &mut keep,
     )
@@ -214,24 +226,73 @@ fn read_command_line<R: Env + AllocGlobal>(rt: &R) -> Result<Vec<String>, Failur
     }
 }
 
-/// Writes the statement of the day in two files, whose rows so many workers take, and sees that all of it went out.
+/// Writes the statement of the day in two files, whose rows are taken so, and sees that all of it went out.
 pub fn run<R: Threads + Wait + Sync, S: Read, O: Read, W: Write>(
     rt: &R,
     storage: Storage<Global>,
     segment: &mut S,
     orders: &mut O,
-    workers: Workers,
+    concurrency: Concurrency,
     out: &mut W,
 ) -> Result<(), DayFault>
-    ensures ends { RunEnds workers (S.remaining segment.old) (O.remaining orders.old) (W.contents out.old) (W.contents out.new) result }
+    ensures ends { RunEnds concurrency (S.remaining segment.old) (O.remaining orders.old) (W.contents out.old) (W.contents out.new) result }
     ensures untouched { IfErr result (λ fault. fault ≢ DayFault.WriteFailed → out.new ≡ out.old) }
 {
-    let ended = run_day(rt, storage, segment, orders, out, workers.get(), &NoGate);
+    let ended = run_rows(rt, storage, segment, orders, concurrency, out);
     sent_out(ended, out)
 }
 
-/// Writes the statement of the day in two files that opens with a carry file, whose rows so many workers take, sees that all of it
-/// went out, and then does so with the carry file of the next day.
+/// Writes the statement of the day in two files, whose rows are taken so.
+fn run_rows<R: Threads + Wait + Sync, S: Read, O: Read, W: Write>(
+    rt: &R,
+    storage: Storage<Global>,
+    segment: &mut S,
+    orders: &mut O,
+    concurrency: Concurrency,
+    out: &mut W,
+) -> Result<DayReport, DayFault>
+    ensures ends { EndsBy concurrency (λ days. DayEnds days (S.remaining segment.old) (O.remaining orders.old) (W.contents out.old) (W.contents out.new) result) }
+    ensures untouched { IfErr result (λ fault. fault ≢ DayFault.WriteFailed → out.new ≡ out.old) }
+{
+    match concurrency {
+        Concurrency::Threads(threads) => {
+            let asked = AskedTexts::nothing();
+            match tell_rows(rt, storage, segment, orders, threads, out, asked) {
+                Ok(day) => Ok(day.report),
+                Err(fault) => Err(fault),
+            }
+        }
+        Concurrency::Workers(workers) => {
+            run_day(rt, storage, segment, orders, out, workers.get(), &NoGate)
+        }
+    }
+}
+
+/// Writes the statement of the day in two files, whose rows are taken in their order, on so many threads, and gives the texts
+/// that are asked for.
+fn tell_rows<R: Threads + Sync, S: Read, O: Read, W: Write>(
+    rt: &R,
+    storage: Storage<Global>,
+    segment: &mut S,
+    orders: &mut O,
+    threads: Count,
+    out: &mut W,
+    asked: AskedTexts,
+) -> Result<ToldDay, DayFault>
+    ensures ends { DayEnds InFileOrder (S.remaining segment.old) (O.remaining orders.old) (W.contents out.old) (W.contents out.new) (report_in result) }
+    ensures answers { IfOk result (λ day. IsAsked (IsTextOfFiles answers_text (S.remaining segment.old) (O.remaining orders.old)) asked.answers day.answers.items) }
+    ensures depth { IfOk result (λ day. IsAsked (IsTextOfFiles (λ names config bytes rows. depth_text names config rows) (S.remaining segment.old) (O.remaining orders.old)) asked.depth day.depth.items) }
+    ensures untouched { IfErr result (λ fault. fault ≢ DayFault.WriteFailed → out.new ≡ out.old) }
+{
+    let threads = threads.get();
+    if threads == 1 {
+        return xm_day::run_told(storage, segment, orders, out, asked);
+    }
+    run_on_threads(rt, threads, storage, segment, orders, out, asked)
+}
+
+/// Writes the statement of the day in two files that opens with a carry file, whose rows are taken so, sees that all of it went
+/// out, and then does so with the carry file of the next day.
 ///
 /// `WriteFailed` tells that one of both writers failed. The second got nothing unless the whole statement was written.
 pub fn carry_over<R: Threads + Wait + Sync, S: Read, C: Read, O: Read, W: Write, K: Write>(
@@ -240,29 +301,71 @@ pub fn carry_over<R: Threads + Wait + Sync, S: Read, C: Read, O: Read, W: Write,
     segment: &mut S,
     carried: &mut C,
     orders: &mut O,
-    workers: Workers,
+    concurrency: Concurrency,
     out: &mut W,
     keep: &mut K,
 ) -> Result<(), DayFault>
-    ensures ends { CarryEnds workers (S.remaining segment.old) (C.remaining carried.old) (O.remaining orders.old)
+    ensures ends { CarryEnds concurrency (S.remaining segment.old) (C.remaining carried.old) (O.remaining orders.old)
         (record { old = W.contents out.old; new = W.contents out.new; kept_old = K.contents keep.old; kept_new = K.contents keep.new }) result }
     ensures untouched { IfErr result (λ fault. fault ≢ DayFault.WriteFailed → (out.new ≡ out.old) × (keep.new ≡ keep.old)) }
 {
-    let number = workers.get();
-    let ended = carry_day(
-        rt, storage, segment, carried, orders, out, keep, number, &NoGate,
+    let ended = carry_rows(
+        rt,
+        storage,
+        segment,
+        carried,
+        orders,
+        concurrency,
+        out,
+        keep,
     );
     sent_out(ended, keep)
 }
 
-/// Writes the statement of the day in two files, sees that all of it went out, and then does so with the answers to its rows and
-/// with the levels behind them, as far as they are asked for. Where one isn't, nothing is written to its writer.
+/// Writes the statement of the day in two files that opens with a carry file, whose rows are taken so, and then the carry file of
+/// the next day.
+fn carry_rows<R: Threads + Wait + Sync, S: Read, C: Read, O: Read, W: Write, K: Write>(
+    rt: &R,
+    storage: Storage<Global>,
+    segment: &mut S,
+    carried: &mut C,
+    orders: &mut O,
+    concurrency: Concurrency,
+    out: &mut W,
+    keep: &mut K,
+) -> Result<DayReport, DayFault>
+    ensures ends { EndsBy concurrency (λ days. CarriedDayEnds days (S.remaining segment.old) (C.remaining carried.old) (O.remaining orders.old)
+        (record { old = W.contents out.old; new = W.contents out.new; kept_old = K.contents keep.old; kept_new = K.contents keep.new }) result) }
+    ensures untouched { IfErr result (λ fault. fault ≢ DayFault.WriteFailed → (out.new ≡ out.old) × (keep.new ≡ keep.old)) }
+{
+    match concurrency {
+        Concurrency::Threads(threads) => {
+            let threads = threads.get();
+            if threads == 1 {
+                return carry_alone(storage, segment, carried, orders, out, keep);
+            }
+            carry_on_threads(rt, threads, storage, segment, carried, orders, out, keep)
+        }
+        Concurrency::Workers(workers) => {
+            let workers = workers.get();
+            carry_day(
+                rt, storage, segment, carried, orders, out, keep, workers, &NoGate,
+            )
+        }
+    }
+}
+
+/// Writes the statement of the day in two files, whose rows are taken on so many threads, sees that all of it went out, and then
+/// does so with the answers to its rows and with the levels behind them, as far as they are asked for. Where one isn't, nothing
+/// is written to its writer.
 ///
 /// `WriteFailed` tells that one of the writers failed. Those behind it got nothing.
-pub fn run_told<S: Read, O: Read, W: Write, A: Write, D: Write>(
+pub fn run_told<R: Threads + Sync, S: Read, O: Read, W: Write, A: Write, D: Write>(
+    rt: &R,
     storage: Storage<Global>,
     segment: &mut S,
     orders: &mut O,
+    threads: Count,
     out: &mut W,
     asked: AskedTexts,
     answers: &mut A,
@@ -272,7 +375,7 @@ pub fn run_told<S: Read, O: Read, W: Write, A: Write, D: Write>(
         (A.contents answers.old) (A.contents answers.new) (D.contents depth.old) (D.contents depth.new) result }
     ensures untouched { IfErr result (λ fault. fault ≢ DayFault.WriteFailed → out.new ≡ out.old) }
 {
-    let day = match xm_day::run_told(storage, segment, orders, out, asked) {
+    let day = match tell_rows(rt, storage, segment, orders, threads, out, asked) {
         Ok(day) => day,
         Err(fault) => return Err(told(fault)),
     };

@@ -3,9 +3,10 @@ ghost use Rattle.std.specs.Prelude.{◌≡◌, [], IfOk, IfErr, IfSome, IsSome, 
 ghost use Rattle.clap.specs.Words.{app_of, fault_of, first_of, found_of, kind_of, one_of, rows_of, rule_of, subcommand_rows_of, takes};
 ghost use Rattle.clap.specs.declared.builder.command.Command.TheViews.{out-Command as fields_of};
 ghost use Rattle.clap.specs.declared.error.kind.ErrorKind.TheVariants as kind;
-ghost use Rattle.xm_program.specs.Requests.{AnswersWords, Asked, Asks, IsGranted, IsOfWords, IsRequest, IsTold, IsUnread, answer_of, asked_in, asked_of, can_tell, carry_app, carry_to, check_app, day_app, failure_status, file_rule, is_file, is_one_path, path_rule, run_app, run_to, told_run, workers_in, workers_rule};
+ghost use Rattle.xm_program.specs.Requests.{AnswersWords, Asked, Asks, IsGranted, IsOfWords, IsRequest, IsTold, IsUnread, answer_of, asked_in, asked_of, can_tell, carry_app, carry_to, check_app, concurrency_in, count_in, count_rule, day_app, failure_status, file_rule, is_file, is_one_path, path_rule, run_app, run_to, told_run};
 
-use crate::workers::Workers;
+use crate::concurrency::{Concurrency, concurrency_of};
+use crate::count::Count;
 use clap::error::ErrorKind;
 use clap::{Arg, ArgAction, ArgMatches, Command, Error, value_parser};
 use std::alloc::Global;
@@ -32,6 +33,8 @@ const ORDERS: &str = "ORDERS";
 const KEEP: &str = "OUT";
 
 const WORKERS: &str = "workers";
+
+const THREADS: &str = "threads";
 
 const SEGMENT_HELP: &str = "The segment file (TOML): the date, the members and the securities";
 
@@ -100,6 +103,9 @@ const STANDARD_OUTPUT: &str = "-";
 const CANNOT_TELL: &str =
     "--answers and --depth go with one worker, and with a file each: standard output has the statement";
 
+const CANNOT_SHARE: &str =
+    "--threads goes with one worker: each of several takes its rows on a thread of its own";
+
 const CANNOT_KEEP: &str = "OUT is a file: standard output has the statement";
 
 const ANSWERS_SHORT: &str =
@@ -122,11 +128,23 @@ Five limits of each side with the units that rest at them, and the units of mark
 they are active in the phase. The file is made before any file is read, and written behind the
 statement and the answers. docs/FORMATS.md tells of each field. It goes with one worker.";
 
+const WORKERS_SHORT: &str = "How many workers take the rows of members, side by side";
+
 const WORKERS_HELP: &str = "How many workers take the rows of members, side by side: 1 to 64
 
 One worker takes all rows in the order of the file. More take each member's rows in their order,
-and the members side by side, so that two runs may differ where members compete. They are not
-faster: a command is shorter than the hand-over of a lock.";
+and the members side by side, as an exchange meets them, so that two runs may differ where members
+compete. They are not faster: a command is shorter than the hand-over of a lock.";
+
+const THREADS_SHORT: &str = "On how many threads the rows are taken, in the order of the file";
+
+const THREADS_HELP: &str =
+    "On how many threads the rows are taken, in the order of the file: 1 to 64
+
+For a replay: as many as there are processors. What is written is what one thread writes, byte for
+byte. Each thread takes the rows of securities of its own while the file is read ahead of it, so a
+day of one security gains from the reading alone; with --answers or --depth one thread takes all
+rows. It goes with one worker.";
 
 const CHECK_HELP: &str = "Checks a segment file and writes how many securities and members it has.
 
@@ -142,18 +160,20 @@ const STATUS_HELP: &str = "Exit status:
 /// What a command line asks for.
 #[derive(Debug, Drop)]
 pub enum Request<'a> {
-    /// The statement of the day in two files, which are given by their paths, and whose rows so many workers take.
+    /// The statement of the day in two files, which are given by their paths, and whose rows are taken so.
     Run {
         segment: &'a str,
         orders: &'a str,
-        workers: Workers,
+        concurrency: Concurrency,
     },
-    /// The same by one worker, with the answers to the rows, the levels behind them, or both, in files at paths of their own.
+    /// The same in the order of the file, on so many threads, with the answers to the rows, the levels behind them, or both, in
+    /// files at paths of their own.
     RunTold {
         segment: &'a str,
         orders: &'a str,
         answers: Option<&'a str>,
         depth: Option<&'a str>,
+        threads: Count,
     },
     /// The statement of the day in two files that opens with a carry file, and, in a file of its own, the carry file of the next day.
     Carry {
@@ -161,7 +181,7 @@ pub enum Request<'a> {
         carried: &'a str,
         orders: &'a str,
         keep: &'a str,
-        workers: Workers,
+        concurrency: Concurrency,
     },
     /// The check of a segment file, which is given by its path.
     Check {
@@ -256,10 +276,17 @@ fn read_request<'a>(mut command: Command<'a>, words: &'a [String]) -> Result<Req
 
 /// Why nothing can be done that was met.
 fn why_not(matches: &ArgMatches<'_>) -> &'static str {
-    if matches.subcommand_name() == Some(CARRY) {
-        CANNOT_KEEP
-    } else {
-        CANNOT_TELL
+    match matches.subcommand() {
+        Some((name, values)) => {
+            if concurrency_in(values).is_none() {
+                CANNOT_SHARE
+            } else if name == CARRY {
+                CANNOT_KEEP
+            } else {
+                CANNOT_TELL
+            }
+        }
+        None => CANNOT_TELL,
     }
 }
 
@@ -275,13 +302,13 @@ fn request_in<'a>(matches: &ArgMatches<'a>) -> Option<Request<'a>>
             values,
             segment,
             values.get_str(ORDERS)?,
-            workers_in(values)?,
+            concurrency_in(values)?,
         ),
         CARRY => carry_in(
             values,
             segment,
             values.get_str(ORDERS)?,
-            workers_in(values)?,
+            concurrency_in(values)?,
         ),
         CHECK => Some(Request::Check { segment }),
         _ => None,
@@ -293,37 +320,37 @@ fn run_in<'a>(
     values: &ArgMatches<'a>,
     segment: &'a str,
     orders: &'a str,
-    workers: Workers,
+    concurrency: Concurrency,
 ) -> Option<Request<'a>>
-    ensures some { IfSome result (IsRequest (run_to segment.now orders.now workers (first_of (codes "answers") (rows_of (found_of values.now))) (first_of (codes "depth") (rows_of (found_of values.now))))) }
-    ensures none { result ≡ None → run_to segment.now orders.now workers (first_of (codes "answers") (rows_of (found_of values.now))) (first_of (codes "depth") (rows_of (found_of values.now))) ≡ None }
+    ensures some { IfSome result (IsRequest (run_to segment.now orders.now concurrency (first_of (codes "answers") (rows_of (found_of values.now))) (first_of (codes "depth") (rows_of (found_of values.now))))) }
+    ensures none { result ≡ None → run_to segment.now orders.now concurrency (first_of (codes "answers") (rows_of (found_of values.now))) (first_of (codes "depth") (rows_of (found_of values.now))) ≡ None }
 {
     let answers = values.get_str(ANSWERS);
     let depth = values.get_str(DEPTH);
-    run_to(segment, orders, workers, answers, depth)
+    run_to(segment, orders, concurrency, answers, depth)
 }
 
 /// The run of two files, with the texts beside its statement for which there are paths.
 fn run_to<'a>(
     segment: &'a str,
     orders: &'a str,
-    workers: Workers,
+    concurrency: Concurrency,
     answers: Option<&'a str>,
     depth: Option<&'a str>,
 ) -> Option<Request<'a>>
-    ensures some { IfSome result (IsRequest (run_to segment.entry.now orders.entry.now workers (option_map (λ s. s.now) answers.entry) (option_map (λ s. s.now) depth.entry))) }
-    ensures none { result ≡ None → run_to segment.entry.now orders.entry.now workers (option_map (λ s. s.now) answers.entry) (option_map (λ s. s.now) depth.entry) ≡ None }
+    ensures some { IfSome result (IsRequest (run_to segment.entry.now orders.entry.now concurrency (option_map (λ s. s.now) answers.entry) (option_map (λ s. s.now) depth.entry))) }
+    ensures none { result ≡ None → run_to segment.entry.now orders.entry.now concurrency (option_map (λ s. s.now) answers.entry) (option_map (λ s. s.now) depth.entry) ≡ None }
 {
     match answers {
         None => match depth {
             None => Some(Request::Run {
                 segment,
                 orders,
-                workers,
+                concurrency,
             }),
-            Some(_) => told_run(segment, orders, workers, answers, depth),
+            Some(_) => told_run(segment, orders, concurrency, answers, depth),
         },
-        Some(_) => told_run(segment, orders, workers, answers, depth),
+        Some(_) => told_run(segment, orders, concurrency, answers, depth),
     }
 }
 
@@ -331,19 +358,23 @@ fn run_to<'a>(
 fn told_run<'a>(
     segment: &'a str,
     orders: &'a str,
-    workers: Workers,
+    concurrency: Concurrency,
     answers: Option<&'a str>,
     depth: Option<&'a str>,
 ) -> Option<Request<'a>>
-    ensures some { IfSome result (IsRequest (told_run segment.entry.now orders.entry.now workers (option_map (λ s. s.now) answers.entry) (option_map (λ s. s.now) depth.entry))) }
-    ensures none { result ≡ None → told_run segment.entry.now orders.entry.now workers (option_map (λ s. s.now) answers.entry) (option_map (λ s. s.now) depth.entry) ≡ None }
+    ensures some { IfSome result (IsRequest (told_run segment.entry.now orders.entry.now concurrency (option_map (λ s. s.now) answers.entry) (option_map (λ s. s.now) depth.entry))) }
+    ensures none { result ≡ None → told_run segment.entry.now orders.entry.now concurrency (option_map (λ s. s.now) answers.entry) (option_map (λ s. s.now) depth.entry) ≡ None }
 {
-    if can_tell(workers, answers, depth) {
+    let Concurrency::Threads(threads) = concurrency else {
+        return None;
+    };
+    if can_tell(answers, depth) {
         Some(Request::RunTold {
             segment,
             orders,
             answers,
             depth,
+            threads,
         })
     } else {
         None
@@ -355,26 +386,26 @@ fn carry_in<'a>(
     values: &ArgMatches<'a>,
     segment: &'a str,
     orders: &'a str,
-    workers: Workers,
+    concurrency: Concurrency,
 ) -> Option<Request<'a>>
-    ensures some { IfSome result (IsRequest (carry_to segment.now orders.now workers (first_of (codes "IN") (rows_of (found_of values.now))) (first_of (codes "OUT") (rows_of (found_of values.now))))) }
-    ensures none { result ≡ None → carry_to segment.now orders.now workers (first_of (codes "IN") (rows_of (found_of values.now))) (first_of (codes "OUT") (rows_of (found_of values.now))) ≡ None }
+    ensures some { IfSome result (IsRequest (carry_to segment.now orders.now concurrency (first_of (codes "IN") (rows_of (found_of values.now))) (first_of (codes "OUT") (rows_of (found_of values.now))))) }
+    ensures none { result ≡ None → carry_to segment.now orders.now concurrency (first_of (codes "IN") (rows_of (found_of values.now))) (first_of (codes "OUT") (rows_of (found_of values.now))) ≡ None }
 {
     let carried = values.get_str(CARRIED);
     let keep = values.get_str(KEEP);
-    carry_to(segment, orders, workers, carried, keep)
+    carry_to(segment, orders, concurrency, carried, keep)
 }
 
 /// The run of two files that opens with a carry file and writes one, if there are paths for these.
 fn carry_to<'a>(
     segment: &'a str,
     orders: &'a str,
-    workers: Workers,
+    concurrency: Concurrency,
     carried: Option<&'a str>,
     keep: Option<&'a str>,
 ) -> Option<Request<'a>>
-    ensures some { IfSome result (IsRequest (carry_to segment.entry.now orders.entry.now workers (option_map (λ s. s.now) carried.entry) (option_map (λ s. s.now) keep.entry))) }
-    ensures none { result ≡ None → carry_to segment.entry.now orders.entry.now workers (option_map (λ s. s.now) carried.entry) (option_map (λ s. s.now) keep.entry) ≡ None }
+    ensures some { IfSome result (IsRequest (carry_to segment.entry.now orders.entry.now concurrency (option_map (λ s. s.now) carried.entry) (option_map (λ s. s.now) keep.entry))) }
+    ensures none { result ≡ None → carry_to segment.entry.now orders.entry.now concurrency (option_map (λ s. s.now) carried.entry) (option_map (λ s. s.now) keep.entry) ≡ None }
 {
     let carried = carried?;
     let keep = keep?;
@@ -384,18 +415,18 @@ fn carry_to<'a>(
             carried,
             orders,
             keep,
-            workers,
+            concurrency,
         })
     } else {
         None
     }
 }
 
-/// Whether so many workers can tell texts in files at these paths: one alone, not on standard output, and not two in one file.
-fn can_tell(workers: Workers, answers: Option<&str>, depth: Option<&str>) -> bool
-    ensures { result ≡ can_tell workers (option_map (λ s. s.now) answers.entry) (option_map (λ s. s.now) depth.entry) }
+/// Whether texts can be told in files at these paths: not on standard output, and not two in one file.
+fn can_tell(answers: Option<&str>, depth: Option<&str>) -> bool
+    ensures { result ≡ can_tell (option_map (λ s. s.now) answers.entry) (option_map (λ s. s.now) depth.entry) }
 {
-    workers.get() == 1 && is_file(answers) && is_file(depth) && !is_one_path(answers, depth)
+    is_file(answers) && is_file(depth) && !is_one_path(answers, depth)
 }
 
 /// Whether a path, if there is one, isn't that of standard output.
@@ -421,11 +452,20 @@ fn is_one_path(first: Option<&str>, second: Option<&str>) -> bool
     }
 }
 
-/// The number of workers among the values of a run.
-fn workers_in(values: &ArgMatches<'_>) -> Option<Workers>
-    ensures { result ≡ option_and_then workers_in (one_of (codes "workers") (rows_of (found_of values.now))) }
+/// How rows are taken, by the values of a run.
+fn concurrency_in(values: &ArgMatches<'_>) -> Option<Concurrency>
+    ensures { result ≡ concurrency_in (rows_of (found_of values.now)) }
 {
-    Workers::new(values.get_one::<u32>(WORKERS)?)
+    let workers = count_in(values, WORKERS)?;
+    let threads = count_in(values, THREADS)?;
+    concurrency_of(workers, threads)
+}
+
+/// The number that stands behind an option of a run.
+fn count_in(values: &ArgMatches<'_>, name: &str) -> Option<Count>
+    ensures { result ≡ option_and_then count_in (one_of name.now (rows_of (found_of values.now))) }
+{
+    Count::new(values.get_one::<u32>(name)?)
 }
 
 /// Why the words of the command line weren't read: one isn't text, or memory is wanting.
@@ -479,7 +519,8 @@ fn run_command<'a>(alloc: Global) -> Result<Command<'a>, OutOfMemory>
         .after_help(STATUS_HELP)
         .arg(path(alloc, SEGMENT).help(SEGMENT_HELP))?
         .arg(path(alloc, ORDERS).help(ORDERS_HELP))?
-        .arg(workers(alloc))?
+        .arg(count(alloc, WORKERS, WORKERS_SHORT, WORKERS_HELP))?
+        .arg(count(alloc, THREADS, THREADS_SHORT, THREADS_HELP))?
         .arg(file(alloc, ANSWERS, ANSWERS_SHORT, ANSWERS_HELP))?
         .arg(file(alloc, DEPTH, DEPTH_SHORT, DEPTH_HELP))?;
     Ok(command)
@@ -498,7 +539,8 @@ fn carry_command<'a>(alloc: Global) -> Result<Command<'a>, OutOfMemory>
         .arg(path(alloc, CARRIED).help(CARRIED_HELP))?
         .arg(path(alloc, ORDERS).help(ORDERS_HELP))?
         .arg(path(alloc, KEEP).help(KEEP_HELP))?
-        .arg(workers(alloc))?;
+        .arg(count(alloc, WORKERS, WORKERS_SHORT, WORKERS_HELP))?
+        .arg(count(alloc, THREADS, THREADS_SHORT, THREADS_HELP))?;
     Ok(command)
 }
 
@@ -523,19 +565,19 @@ fn path<'a>(alloc: Global, name: &'a str) -> Arg<'a>
     Arg::new(alloc, name).required(true).action(ArgAction::Set)
 }
 
-/// The number of workers, which may be left out.
-fn workers<'a>(alloc: Global) -> Arg<'a>
-    ensures rule { rule_of result ≡ workers_rule }
+/// A number of workers or of threads, which may be left out, with its help in short and at length.
+fn count<'a>(alloc: Global, name: &'a str, short: &'a str, long: &'a str) -> Arg<'a>
+    ensures rule { rule_of result ≡ count_rule name.entry.now }
     ensures local { result.global ≡ false }
 {
-    Arg::new(alloc, WORKERS)
-        .long(WORKERS)
+    Arg::new(alloc, name)
+        .long(name)
         .value_name("N")
         .action(ArgAction::Set)
         .value_parser(value_parser!(u32).range(1..=i64::from(MAX_WORKERS)))
         .default_value("1")
-        .help("How many workers take the rows of members, side by side")
-        .long_help(WORKERS_HELP)
+        .help(short)
+        .long_help(long)
 }
 
 /// The path of a file for a text beside the statement, which may be left out, with its help in short and at length.

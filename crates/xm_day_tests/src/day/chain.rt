@@ -1,4 +1,5 @@
 //! Five days in a row, whose commands are drawn. Each opens with what the day before left.
+use super::drawn::{Draw, RESTRICTIONS, SIDES, VALIDITIES, add, kind};
 use crate::files::fixtures::HEADER;
 use std::process::Abort;
 use xm_day::carry_alone;
@@ -15,77 +16,9 @@ const NAMES: [&str; 2] = ["XYZ", "UVW"];
 /// How many orders and stops are entered behind each phase.
 const ENTRIES: u32 = 60;
 
-/// Draws numbers, the same in each run.
-struct Draw {
-    state: u64,
-}
-
-impl Drop for Draw {
-    fn drop(self) {
-        let Draw { state: _ } = self;
-    }
-}
-
-impl Draw {
-    /// A number below eight.
-    fn octal(&mut self) -> usize {
-        self.state = self
-            .state
-            .wrapping_mul(6_364_136_223_846_793_005)
-            .wrapping_add(1_442_695_040_888_963_407);
-        (self.state >> 61) as usize
-    }
-
-    /// One of eight words.
-    fn word(&mut self, rt: &impl Abort, words: &'static [&'static str; 8]) -> &'static str {
-        words.get(self.octal()).copied().expect(rt, "a word")
-    }
-}
-
 const MEMBERS: [&str; 8] = ["AAA", "BBB", "CCC", "DDD", "AAA", "BBB", "CCC", "DDD"];
 
 const SECURITIES: [&str; 8] = ["XYZ", "UVW", "XYZ", "UVW", "XYZ", "UVW", "XYZ", "UVW"];
-
-const SIDES: [&str; 8] = ["buy", "sell", "buy", "sell", "buy", "sell", "buy", "sell"];
-
-const VALIDITIES: [&str; 8] = [
-    "", "gtc", "gtc", "20260106", "20260107", "20260108", "20260110", "20260112",
-];
-
-const RESTRICTIONS: [&str; 8] = ["", "", "", "", "", "auctions", "opening", "closing"];
-
-const EUROS: [&str; 8] = ["9", "10", "9", "10", "9", "10", "9", "10"];
-
-/// Adds a text.
-fn add(rt: &impl Abort, text: &mut String, more: &str) {
-    text.push_str(more).expect(rt, "memory");
-}
-
-/// A price around ten euros.
-fn price(rt: &(impl Abort + AllocGlobal), draw: &mut Draw) -> String {
-    let (euros, tenths, cents) = (draw.word(rt, &EUROS), draw.octal(), draw.octal());
-    (format!(in rt.alloc(); "{euros}.{tenths}{cents}")).expect(rt, "memory")
-}
-
-/// The fields of a kind with its prices.
-fn kind(rt: &(impl Abort + AllocGlobal), draw: &mut Draw) -> String {
-    let fields = match draw.octal() {
-        0 => format!(in rt.alloc(); "market,,"),
-        1 => {
-            let trigger = price(rt, draw);
-            format!(in rt.alloc(); "stop-market,,{trigger}")
-        }
-        2 | 3 => {
-            let (limit, trigger) = (price(rt, draw), price(rt, draw));
-            format!(in rt.alloc(); "stop-limit,{limit},{trigger}")
-        }
-        _ => {
-            let limit = price(rt, draw);
-            format!(in rt.alloc(); "limit,{limit},")
-        }
-    };
-    fields.expect(rt, "memory")
-}
 
 /// Adds the row of an order or a stop.
 fn add_entry(

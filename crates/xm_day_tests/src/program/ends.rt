@@ -105,7 +105,7 @@ const UNREAD_SEGMENT: Printed = Printed::Text("xetra-day: segment: line 0: ReadF
 
 const UNREAD_ORDERS: Printed = Printed::Text("xetra-day: orders: line 0: ReadFailed\n");
 
-const STATEMENTS: [End; 4] = [
+const STATEMENTS: [End; 5] = [
     prints!(Printed::Text(STATEMENT), b"run", b"day.toml", b"day.csv"),
     prints!(
         Printed::Text(STATEMENT),
@@ -121,6 +121,14 @@ const STATEMENTS: [End; 4] = [
         b"--workers=64",
         b"day.toml",
         b"day.csv"
+    ),
+    prints!(
+        Printed::Text(STATEMENT),
+        b"run",
+        b"day.toml",
+        b"day.csv",
+        b"--threads",
+        b"64"
     ),
     prints!(
         Printed::Text(STATEMENT),
@@ -150,7 +158,7 @@ macro_rules! writes {
     };
 }
 
-const WRITTEN: [End; 3] = [
+const WRITTEN: [End; 4] = [
     writes!(
         ANSWERS,
         b"run",
@@ -172,6 +180,14 @@ const WRITTEN: [End; 3] = [
         b"run",
         b"--answers=answers.csv",
         b"--workers=1",
+        b"day.toml",
+        b"day.csv"
+    ),
+    writes!(
+        DEPTH,
+        b"run",
+        b"--depth=answers.csv",
+        b"--threads=3",
         b"day.toml",
         b"day.csv"
     ),
@@ -260,6 +276,11 @@ const UNANSWERED: [End; 8] = [
     ),
 ];
 
+/// What is told where several workers would each have several threads.
+pub const CANNOT_SHARE: Printed = Printed::Text(
+    "error: --threads goes with one worker: each of several takes its rows on a thread of its own\n\nUsage: xetra-day <COMMAND>\n\nFor more information, try '--help'.\n",
+);
+
 /// What is told where what is left would go to standard output.
 pub const CANNOT_KEEP: Printed = Printed::Text(
     "error: OUT is a file: standard output has the statement\n\nUsage: xetra-day <COMMAND>\n\nFor more information, try '--help'.\n",
@@ -267,7 +288,7 @@ pub const CANNOT_KEEP: Printed = Printed::Text(
 
 /// Days that hand on what they leave, to the file that is made, and such as don't: a file is at fault, what they leave would go to
 /// one that is read or can't be made, and a mistake.
-const CARRIED: [End; 9] = [
+const CARRIED: [End; 11] = [
     writes!(
         NONE_LEFT,
         b"carry",
@@ -283,6 +304,26 @@ const CARRIED: [End; 9] = [
         b"in.csv",
         b"day.csv",
         b"answers.csv",
+        b"--workers=2"
+    ),
+    writes!(
+        NONE_LEFT,
+        b"carry",
+        b"day.toml",
+        b"in.csv",
+        b"day.csv",
+        b"answers.csv",
+        b"--threads=2"
+    ),
+    complains!(
+        2,
+        CANNOT_SHARE,
+        b"carry",
+        b"day.toml",
+        b"in.csv",
+        b"day.csv",
+        b"answers.csv",
+        b"--threads=2",
         b"--workers=2"
     ),
     complains!(

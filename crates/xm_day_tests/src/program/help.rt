@@ -47,8 +47,18 @@ Options:
           How many workers take the rows of members, side by side: 1 to 64
           
           One worker takes all rows in the order of the file. More take each member's rows in their order,
-          and the members side by side, so that two runs may differ where members compete. They are not
-          faster: a command is shorter than the hand-over of a lock.
+          and the members side by side, as an exchange meets them, so that two runs may differ where members
+          compete. They are not faster: a command is shorter than the hand-over of a lock.
+          
+          [default: 1]
+
+      --threads <N>
+          On how many threads the rows are taken, in the order of the file: 1 to 64
+          
+          For a replay: as many as there are processors. What is written is what one thread writes, byte for
+          byte. Each thread takes the rows of securities of its own while the file is read ahead of it, so a
+          day of one security gains from the reading alone; with --answers or --depth one thread takes all
+          rows. It goes with one worker.
           
           [default: 1]
 

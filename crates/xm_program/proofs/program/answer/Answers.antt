@@ -16,27 +16,27 @@ pub returns-in_err-run_files-in-Run : goal.returns-in_err-run_files-in-Run
 returns-in_err-run_files-in-Run g c =
     let words = map string_bytes c.args.words.now in
     let met = c.in_err-run_files-in-Run in
-    let answered : AnswersWords (fault_of day_app words) (asked_of words) (Ok (Run c.in-Run.segment c.in-Run.orders c.in-Run.workers)) = search rules in
+    let answered : AnswersWords (fault_of day_app words) (asked_of words) (Ok (Run c.in-Run.segment c.in-Run.orders c.in-Run.concurrency)) = search rules in
     let is : c.from_residual-in_err-run_files-in-Run.result ≡ Err (Day met.field-0.0) = search rules in
-    rw is (fault-done _ _ (run c.in-Run.segment.now c.in-Run.orders.now c.in-Run.workers) _ _ met.field-0.0 answered.0 answered.1 met.ensures.ends (λ h. ap g.W.Write.contents (met.ensures.untouched h)))
+    rw is (fault-done _ _ (run c.in-Run.segment.now c.in-Run.orders.now c.in-Run.concurrency) _ _ met.field-0.0 answered.0 answered.1 met.ensures.ends (λ h. ap g.W.Write.contents (met.ensures.untouched h)))
 
 pub returns-in_err-tell_files-in-RunTold : goal.returns-in_err-tell_files-in-RunTold
 returns-in_err-tell_files-in-RunTold g c =
     let words = map string_bytes c.args.words.now in
     let met = c.in_err-tell_files-in-RunTold in
     let it = c.in-RunTold in
-    let answered : AnswersWords (fault_of day_app words) (asked_of words) (Ok (RunTold it.segment it.orders it.answers it.depth)) = search rules in
+    let answered : AnswersWords (fault_of day_app words) (asked_of words) (Ok (RunTold it.segment it.orders it.answers it.depth it.threads)) = search rules in
     let is : c.from_residual-in_err-tell_files-in-RunTold.result ≡ Err (Day met.field-0.0) = search rules in
-    rw is (fault-done _ _ (run_told it.segment.now it.orders.now (option_map (λ s. s.now) it.answers) (option_map (λ s. s.now) it.depth)) _ _ met.field-0.0 answered.0 answered.1 met.ensures.ends (λ h. ap g.W.Write.contents (met.ensures.untouched h)))
+    rw is (fault-done _ _ (run_told it.segment.now it.orders.now (option_map (λ s. s.now) it.answers) (option_map (λ s. s.now) it.depth) it.threads) _ _ met.field-0.0 answered.0 answered.1 met.ensures.ends (λ h. ap g.W.Write.contents (met.ensures.untouched h)))
 
 pub returns-in_err-carry_files-in-Carry : goal.returns-in_err-carry_files-in-Carry
 returns-in_err-carry_files-in-Carry g c =
     let words = map string_bytes c.args.words.now in
     let met = c.in_err-carry_files-in-Carry in
     let it = c.in-Carry in
-    let answered : AnswersWords (fault_of day_app words) (asked_of words) (Ok (Carry it.segment it.carried it.orders it.keep it.workers)) = search rules in
+    let answered : AnswersWords (fault_of day_app words) (asked_of words) (Ok (Carry it.segment it.carried it.orders it.keep it.concurrency)) = search rules in
     let is : c.from_residual-in_err-carry_files-in-Carry.result ≡ Err (Day met.field-0.0) = search rules in
-    rw is (fault-done _ _ (carry it.segment.now it.carried.now it.orders.now it.keep.now it.workers) _ _ met.field-0.0 answered.0 answered.1 met.ensures.ends (λ h. ap g.W.Write.contents (met.ensures.untouched h)))
+    rw is (fault-done _ _ (carry it.segment.now it.carried.now it.orders.now it.keep.now it.concurrency) _ _ met.field-0.0 answered.0 answered.1 met.ensures.ends (λ h. ap g.W.Write.contents (met.ensures.untouched h)))
 
 pub returns-in_err-check_file-in-Check : goal.returns-in_err-check_file-in-Check
 returns-in_err-check_file-in-Check g c =
@@ -56,22 +56,22 @@ returns-in_err-print_help-in-Help g c =
 pub returns-in_ok-run_files-in-Run : goal.returns-in_ok-run_files-in-Run
 returns-in_ok-run_files-in-Run g c =
     let words = map string_bytes c.args.words.now in
-    let answered : AnswersWords (fault_of day_app words) (asked_of words) (Ok (Run c.in-Run.segment c.in-Run.orders c.in-Run.workers)) = search rules in
-    all-done _ _ (run c.in-Run.segment.now c.in-Run.orders.now c.in-Run.workers) _ _ answered.0 answered.1 c.in_ok-run_files-in-Run.ensures.ends
+    let answered : AnswersWords (fault_of day_app words) (asked_of words) (Ok (Run c.in-Run.segment c.in-Run.orders c.in-Run.concurrency)) = search rules in
+    all-done _ _ (run c.in-Run.segment.now c.in-Run.orders.now c.in-Run.concurrency) _ _ answered.0 answered.1 c.in_ok-run_files-in-Run.ensures.ends
 
 pub returns-in_ok-tell_files-in-RunTold : goal.returns-in_ok-tell_files-in-RunTold
 returns-in_ok-tell_files-in-RunTold g c =
     let words = map string_bytes c.args.words.now in
     let it = c.in-RunTold in
-    let answered : AnswersWords (fault_of day_app words) (asked_of words) (Ok (RunTold it.segment it.orders it.answers it.depth)) = search rules in
-    all-done _ _ (run_told it.segment.now it.orders.now (option_map (λ s. s.now) it.answers) (option_map (λ s. s.now) it.depth)) _ _ answered.0 answered.1 c.in_ok-tell_files-in-RunTold.ensures.ends
+    let answered : AnswersWords (fault_of day_app words) (asked_of words) (Ok (RunTold it.segment it.orders it.answers it.depth it.threads)) = search rules in
+    all-done _ _ (run_told it.segment.now it.orders.now (option_map (λ s. s.now) it.answers) (option_map (λ s. s.now) it.depth) it.threads) _ _ answered.0 answered.1 c.in_ok-tell_files-in-RunTold.ensures.ends
 
 pub returns-in_ok-carry_files-in-Carry : goal.returns-in_ok-carry_files-in-Carry
 returns-in_ok-carry_files-in-Carry g c =
     let words = map string_bytes c.args.words.now in
     let it = c.in-Carry in
-    let answered : AnswersWords (fault_of day_app words) (asked_of words) (Ok (Carry it.segment it.carried it.orders it.keep it.workers)) = search rules in
-    all-done _ _ (carry it.segment.now it.carried.now it.orders.now it.keep.now it.workers) _ _ answered.0 answered.1 c.in_ok-carry_files-in-Carry.ensures.ends
+    let answered : AnswersWords (fault_of day_app words) (asked_of words) (Ok (Carry it.segment it.carried it.orders it.keep it.concurrency)) = search rules in
+    all-done _ _ (carry it.segment.now it.carried.now it.orders.now it.keep.now it.concurrency) _ _ answered.0 answered.1 c.in_ok-carry_files-in-Carry.ensures.ends
 
 pub returns-in_ok-check_file-in-Check : goal.returns-in_ok-check_file-in-Check
 returns-in_ok-check_file-in-Check g c =

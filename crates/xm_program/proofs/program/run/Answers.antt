@@ -3,9 +3,9 @@ use Rattle.xm_program.proofs.Sent.{day-sent, ends-by}
 use Rattle.xm_program.proofs.program.run.Goals as goal
 
 pub returns-clause-ends : goal.returns-clause-ends
-returns-clause-ends g c = (
-  c.run_day-ended.result,
-  ends-by c.args.workers c.get.result _ _ c.get.ensures.value (λ days ends. day-sent _ _ _ _ (ap g.W.Write.contents) _ days c.run_day-ended.result c.sent_out.ensures.kept c.sent_out.ensures.untouched ends)
-      c.run_day-ended.ensures.alone c.run_day-ended.ensures.shared,
-  c.sent_out.ensures.told,
-)
+returns-clause-ends g c =
+    let ended = c.run_rows-ended.result in (
+      ended,
+      ends-by c.args.concurrency _ _ (λ days ends. day-sent _ _ _ _ (ap g.W.Write.contents) _ days ended c.sent_out.ensures.kept c.sent_out.ensures.untouched ends) c.run_rows-ended.ensures.ends,
+      c.sent_out.ensures.told,
+    )

@@ -9,11 +9,11 @@ returns-clause-some c =
     let values = found_of c.args.values.now in
     let carried = c.get_str-carried.ensures ∙ first_value-rows values (codes "IN") in
     let keep = c.get_str-keep.ensures ∙ first_value-rows values (codes "OUT") in
-    subst (λ (asked : Option Asked). IfSome c.carry_to.result (IsRequest asked)) (ap₂ (carry_to c.args.segment.now c.args.orders.now c.args.workers) carried keep) c.carry_to.ensures.some
+    subst (λ (asked : Option Asked). IfSome c.carry_to.result (IsRequest asked)) (ap₂ (carry_to c.args.segment.now c.args.orders.now c.args.concurrency) carried keep) c.carry_to.ensures.some
 
 pub returns-clause-none : goal.returns-clause-none
 returns-clause-none c = λ none.
     let values = found_of c.args.values.now in
     let carried = c.get_str-carried.ensures ∙ first_value-rows values (codes "IN") in
     let keep = c.get_str-keep.ensures ∙ first_value-rows values (codes "OUT") in
-    sym (ap₂ (carry_to c.args.segment.now c.args.orders.now c.args.workers) carried keep) ∙ c.carry_to.ensures.none none
+    sym (ap₂ (carry_to c.args.segment.now c.args.orders.now c.args.concurrency) carried keep) ∙ c.carry_to.ensures.none none

@@ -9,11 +9,11 @@ returns-clause-some c =
     let values = found_of c.args.values.now in
     let answers = c.get_str-answers.ensures ∙ first_value-rows values (codes "answers") in
     let depth = c.get_str-depth.ensures ∙ first_value-rows values (codes "depth") in
-    subst (λ (asked : Option Asked). IfSome c.run_to.result (IsRequest asked)) (ap₂ (run_to c.args.segment.now c.args.orders.now c.args.workers) answers depth) c.run_to.ensures.some
+    subst (λ (asked : Option Asked). IfSome c.run_to.result (IsRequest asked)) (ap₂ (run_to c.args.segment.now c.args.orders.now c.args.concurrency) answers depth) c.run_to.ensures.some
 
 pub returns-clause-none : goal.returns-clause-none
 returns-clause-none c = λ none.
     let values = found_of c.args.values.now in
     let answers = c.get_str-answers.ensures ∙ first_value-rows values (codes "answers") in
     let depth = c.get_str-depth.ensures ∙ first_value-rows values (codes "depth") in
-    sym (ap₂ (run_to c.args.segment.now c.args.orders.now c.args.workers) answers depth) ∙ c.run_to.ensures.none none
+    sym (ap₂ (run_to c.args.segment.now c.args.orders.now c.args.concurrency) answers depth) ∙ c.run_to.ensures.none none

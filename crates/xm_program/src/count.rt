@@ -1,39 +1,39 @@
-//! How many workers a run has.
+//! A number of workers or of threads.
 ghost use Rattle.std.specs.Prelude.{◌≡◌, ℕ, ◌≤◌, SomeIff};
 ghost use Rattle.xm_segment.specs.declared.opening.TheConstants.{MAX_WORKERS};
 
 use std::marker::Model;
 use xm_segment::MAX_WORKERS;
 
-/// A number of workers, 1 to `MAX_WORKERS`. A clause sees the number.
+/// A number of workers or of threads, 1 to `MAX_WORKERS`. A clause sees the number.
 #[derive(Clone, Copy, PartialEq, Eq, Debug)]
-pub struct Workers {
+pub struct Count {
     number: u32,
 }
 
-impl Model for Workers {
+impl Model for Count {
     ghost Value = { ℕ };
 
-    ghost view = { λ w. w.number };
+    ghost view = { λ c. c.number };
 
-    ghost invariant = { λ w. (1 ≤ w.number) × (w.number ≤ MAX_WORKERS) };
+    ghost invariant = { λ c. (1 ≤ c.number) × (c.number ≤ MAX_WORKERS) };
 
     ghost inverse = { λ n. record { number = n } };
 }
 
-impl Workers {
-    /// So many workers, if the number is in range.
-    pub fn new(number: u32) -> Option<Workers>
+impl Count {
+    /// So many, if the number is in range.
+    pub fn new(number: u32) -> Option<Count>
         ensures { SomeIff result ((1 ≤ number) × (number ≤ MAX_WORKERS)) number }
     {
         if (1..=MAX_WORKERS).contains(&number) {
-            Some(Workers { number })
+            Some(Count { number })
         } else {
             None
         }
     }
 
-    /// The number of workers.
+    /// The number.
     pub fn get(self) -> u32
         ensures value { result ≡ self }
         ensures low { 1 ≤ result }
