@@ -29,10 +29,13 @@ answers-unknown js row past = ap (answer_on row) (slice_get-map replay js row.se
 answers-known : (js : List Journal) (row : Row) (j : Journal) → slice_get js row.security ≡ Some j → row_answer (map replay js) row ≡ answer_by (replay j) row.command (refusal_of (replay j) row.command)
 answers-known js row j is = ap (answer_on row) (slice_get-map replay js row.security ∙ ap (option_map replay) is)
 
+-- a state answers so to a command that it accepts
+pub accepts-so : (row : Row) (j next : Journal) → refusal_of (replay j) row.command ≡ None → next ≡ with_command j row.command → answer_on row (Some (replay j)) ≡ Ok (reply (replay j) (replay next))
+accepts-so row j next passes journal = ap (answer_by (replay j) row.command) passes ∙ ap (λ (t : State). Ok (reply (replay j) t)) (sym (ap replay journal ∙ replay-push j row.command))
+
 pub answers-accepted : (js : List Journal) (row : Row) (j next : Journal) → slice_get js row.security ≡ Some j → refusal_of (replay j) row.command ≡ None → next ≡ with_command j row.command
     → row_answer (map replay js) row ≡ Ok (reply (replay j) (replay next))
-answers-accepted js row j next is passes journal =
-    answers-known js row j is ∙ ap (answer_by (replay j) row.command) passes ∙ ap (λ (t : State). Ok (reply (replay j) t)) (sym (ap replay journal ∙ replay-push j row.command))
+answers-accepted js row j next is passes journal = answers-known js row j is ∙ accepts-so row j next passes journal
 
 pub answers-refused : (js : List Journal) (row : Row) (j : Journal) (refusal : Refusal) → slice_get js row.security ≡ Some j → refusal_of (replay j) row.command ≡ Some refusal → row_answer (map replay js) row ≡ Err refusal
 answers-refused js row j refusal is refuses = answers-known js row j is ∙ ap (answer_by (replay j) row.command) refuses

@@ -1,7 +1,7 @@
 -- How a run of a day ends.
-use Rattle.std.proofs.Common.{◌≡◌, refl, ℕ, List, Option, None, Some, Result, Ok, Err, IfErr, IfSome, sym, subst}
+use Rattle.std.proofs.Common.{◌≡◌, refl, ℕ, List, Option, None, Some, Result, Ok, Err, IfErr, IfOk, IfSome, length, sym, subst}
 use Rattle.std.specs.Result.{IsErrAnd}
-use Rattle.xm_day.specs.Answers.{AreRowsOf, AsksNothing, DayOfRowsEnds, HasTaken, IsSegmentOf}
+use Rattle.xm_day.specs.Answers.{AreRowsOf, AsksNothing, DayOfRowsEnds, FileRun, HasTaken, InFileOrder, IsSegmentOf, RowsTaken}
 use Rattle.xm_day.specs.Checks.{CheckEnds, OpeningEnds}
 use Rattle.xm_day.specs.declared.desks.OpenDay.{OpenDay}
 use Rattle.xm_files.specs.Orders.{orders_of}
@@ -54,3 +54,31 @@ CheckEnds-read segment old new config names (Err (Orders fault)) read ends = abs
 CheckEnds-read segment old new config names (Err (Open fault)) read ends = (config, names, read, ends)
 CheckEnds-read segment old new config names (Err (OutOfMemory _)) read ends = (config, names, read, ends)
 CheckEnds-read segment old new config names (Err WriteFailed) read ends = (config, names, read, ends)
+
+-- ---- a day whose rows are taken
+
+-- it isn't told at which row memory was wanting
+pub taken-anyhow : (asked : AskedTexts) (config : SegmentConfig) (names : NameLists) (orders : Option (List ℕ)) (taken : Result OpenDay DayFault) → FileRun (HasTaken asked names) config names orders taken → FileRun (RowsTaken asked names) config names orders taken
+taken-anyhow asked config names orders (Ok d) run = run
+taken-anyhow asked config names orders (Err (Segment fault)) run = run
+taken-anyhow asked config names orders (Err (Carry fault)) run = run
+taken-anyhow asked config names orders (Err (Orders fault)) run = run
+taken-anyhow asked config names orders (Err (Open fault)) run = run
+taken-anyhow asked config names orders (Err (OutOfMemory _)) run = (run.0, run.1, run.2, run.3, run.4.0)
+taken-anyhow asked config names orders (Err WriteFailed) run = run
+
+-- its segment was opened
+pub taken-opened : (asked : AskedTexts) (config : SegmentConfig) (names : NameLists) (orders : Option (List ℕ)) (taken : Result OpenDay DayFault) → FileRun (RowsTaken asked names) config names orders taken
+    → IfOk taken (λ d. (segment_fault config ≡ None) × (length d.desks.items ≡ length config.securities))
+taken-opened asked config names orders (Ok d) run = (run.4.sound, run.4.each)
+taken-opened asked config names orders (Err fault) run = tt
+
+-- the rows weren't taken
+pub untaken-ends : (Written : NameLists → (Day → Type 0) → Result DayReport DayFault → Type 0) (asked : AskedTexts) (config : SegmentConfig) (names : NameLists) (orders : Option (List ℕ)) (fault : DayFault) → FileRun (RowsTaken asked names) config names orders (Err fault)
+    → DayOfRowsEnds Written InFileOrder config names orders (Err fault)
+untaken-ends Written asked config names orders (Segment fault) run = absurd run.4
+untaken-ends Written asked config names orders (Carry fault) run = absurd run.4
+untaken-ends Written asked config names orders (Orders fault) run = run
+untaken-ends Written asked config names orders (Open fault) run = (run.2, rows-of-file orders config names run.0 run.2 run.1 run.3, run.4)
+untaken-ends Written asked config names orders (OutOfMemory _) run = (run.2, rows-of-file orders config names run.0 run.2 run.1 run.3, run.4)
+untaken-ends Written asked config names orders WriteFailed run = absurd run.4

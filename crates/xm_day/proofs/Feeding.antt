@@ -133,7 +133,7 @@ next-told names d row f is = by_state (slice_get d.states row.security) refl
 -- ---- the feed of rows
 
 -- the levels behind some rows, and behind more
-depths_of-append : (names : NameLists) (d : TheDay) (rows more : List Row) → depths_of names d (rows ++ more) ≡ depths_of names d rows ++ depths_of names (after_rows d rows) more
+pub depths_of-append : (names : NameLists) (d : TheDay) (rows more : List Row) → depths_of names d (rows ++ more) ≡ depths_of names d rows ++ depths_of names (after_rows d rows) more
 depths_of-append names d [] more = refl
 depths_of-append names d (row ∷ rows) more =
     ap (λ (text : List ℕ). told_depth names d row ++ text) (depths_of-append names (after_row d row) rows more)

@@ -19,3 +19,6 @@ mod LeftInRange
 mod CarryTexts
 mod CarriedBack
 mod Apart
+mod Kept
+mod Telling
+mod Merging

@@ -5,6 +5,7 @@ pub mod Checks
 pub mod Day
 pub mod Examples
 pub mod Feeds
+pub mod KeptLines
 pub mod Lanes
 pub mod MarketDepth
 pub mod RowAnswers

@@ -93,10 +93,13 @@ security_fields names row answer None = unknown_fields answer
 security_fields names row answer (Some s) =
     name_at names.securities row.security ++ codes "," ++ answer_fields s.settings.tick (rest_named s row.command) answer ++ codes "," ++ market_fields s
 
--- the line of a row, whose record has this free text
+-- the line of a row with these fields from the security on, whose record has this free text
+abbrev pub record_line : Row → List ℕ → List ℕ → List ℕ
+record_line row text fields = decimal row.line ++ codes "," ++ fields ++ codes "," ++ quoted_field text ++ codes "\n"
+
+-- the same by the answer, and by the state of the security after the row
 abbrev pub answer_line : NameLists → Row → List ℕ → Result Reply Refusal → Option State → List ℕ
-answer_line names row text answer state =
-    decimal row.line ++ codes "," ++ security_fields names row answer state ++ codes "," ++ quoted_field text ++ codes "\n"
+answer_line names row text answer state = record_line row text (security_fields names row answer state)
 
 -- the line of a row that a day takes, where records have these texts by their numbers
 abbrev pub told_of : NameLists → (ℕ → List ℕ) → Day → Row → List ℕ

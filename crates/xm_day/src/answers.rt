@@ -4,6 +4,8 @@ ghost use Rattle.xm_day.specs.RowAnswers.{answer_fields, answer_line, answer_wor
 ghost use Rattle.xm_rules.specs.Step.{replay};
 ghost use Rattle.xm_ticks.specs.Writing.{money_text};
 
+use crate::lanes::Lane;
+use crate::merged::tell_answers;
 use crate::texts::{
     push_comma, push_field, push_line_feed, push_money, push_number, push_price, push_text,
     security_name,
@@ -38,6 +40,7 @@ impl Model for Answers {
 
 impl Answers {
     ghost use Rattle.std.specs.Prelude.{◌≡◌, ◌≢◌, [], map, slice_get, unwrap_or, None, true, IfOk, OnErr, OnOk};
+    ghost use Rattle.xm_day.specs.Lanes.{AnswersAdded, AreSame};
     ghost use Rattle.xm_day.specs.RowAnswers.{answer_line, answers_header, where_asked, with_text};
     ghost use Rattle.xm_files.specs.RecordTexts.{text_of_record};
     ghost use Rattle.xm_rules.specs.Step.{replay};
@@ -82,6 +85,23 @@ impl Answers {
         texts.read(row.line)?;
         push_answer(text, names, desks, row, texts.text(), answer)?;
         Ok(())
+    }
+
+    /// Adds the answers that securities keep, one for each of these rows that they have taken. The texts are those of their file.
+    pub(crate) fn tell_kept(
+        &mut self,
+        texts: &mut RecordTexts<'_>,
+        rows: &[Row],
+        lanes: &mut [Lane],
+    ) -> Result<(), OutOfMemory>
+        ensures added { OnOk result (AnswersAdded texts.old.orders rows.now lanes.old self.old lanes.new self.new) }
+        ensures same { OnOk result (AreSame lanes.old lanes.new) }
+        ensures texts { texts.new.orders ≡ texts.old.orders }
+    {
+        let Some(text) = &mut self.text else {
+            return Ok(());
+        };
+        tell_answers(text, texts, rows, lanes)
     }
 
     /// The text, which is empty where none was asked for.
@@ -135,7 +155,7 @@ fn push_security<A: Allocator, B: Allocator + Copy>(
 }
 
 /// The fields of a security that is unknown, from it on.
-fn push_unknown<A: Allocator>(
+pub(crate) fn push_unknown<A: Allocator>(
     text: &mut Vec<u8, A>,
     answer: &Result<Reply, Refusal>,
 ) -> Result<(), OutOfMemory>
@@ -147,7 +167,7 @@ fn push_unknown<A: Allocator>(
 }
 
 /// The fields of a security, from it on.
-fn push_known<A: Allocator, B: Allocator + Copy>(
+pub(crate) fn push_known<A: Allocator, B: Allocator + Copy>(
     text: &mut Vec<u8, A>,
     names: &SegmentNames,
     desk: &Desk<B>,

@@ -1,11 +1,14 @@
 //! The day of a segment that opens with what earlier days left, and hands on what it leaves.
-ghost use Rattle.std.specs.Prelude.{◌≡◌, ◌≢◌, ◌≤◌, IfErr, IfOk, length};
-ghost use Rattle.xm_day.specs.Answers.{DayOfRowsEnds, InFileOrder};
+ghost use Rattle.std.specs.Prelude.{◌≡◌, ◌≢◌, ◌≤◌, ℕ, IfErr, IfOk, List, None, Option, length};
+ghost use Rattle.xm_day.specs.Answers.{DayOfRowsEnds, FileRun, InFileOrder, RowsTaken};
 ghost use Rattle.xm_day.specs.CarriedDays.{BothEnd, CarriedDayEnds, OpeningRead};
 ghost use Rattle.xm_day.specs.Workers.{IsShared};
+ghost use Rattle.xm_day.specs.declared.report.AskedTexts.{AskedTexts};
+ghost use Rattle.xm_segment.specs.Opening.{segment_fault};
 ghost use Rattle.xm_segment.specs.declared.opening.TheConstants.{MAX_WORKERS};
 
 use crate::both_texts::write_both;
+use crate::desks::OpenDay;
 use crate::faults::DayFault;
 use crate::order_file::{share_orders, take_orders};
 use crate::report::{AskedTexts, DayReport};
@@ -94,15 +97,27 @@ fn carry_orders<R: Read, W: Write, K: Write>(
         InFileOrder config.now names.now (R.remaining orders.old) result }
     ensures untouched { IfErr result (λ fault. fault ≢ DayFault.WriteFailed → (out.new ≡ out.old) × (keep.new ≡ keep.old)) }
 {
-    let day = take_orders(storage, config, names, orders, AskedTexts::nothing())?;
-    write_both(
-        storage.alloc,
-        day.desks.as_slice(),
-        names,
-        &day.report,
-        out,
-        keep,
-    )?;
+    let taken = take_orders(storage, config, names, orders, AskedTexts::nothing());
+    write_taken(storage.alloc, config, names, taken, out, keep)
+}
+
+/// Writes both texts of a day whose rows are taken.
+pub(crate) fn write_taken<W: Write, K: Write>(
+    alloc: Global,
+    config: &SegmentConfig,
+    names: &SegmentNames,
+    taken: Result<OpenDay, DayFault>,
+    out: &mut W,
+    keep: &mut K,
+) -> Result<DayReport, DayFault>
+    requires securities { length names.now.securities ≡ length config.now.securities }
+    requires opened { IfOk taken (λ day. (segment_fault config.now ≡ None) × (length day.desks.items ≡ length config.now.securities)) }
+    ensures ends { (asked : AskedTexts) (orders : Option (List ℕ)) → FileRun (RowsTaken asked names.now) config.now names.now orders taken
+        → DayOfRowsEnds (BothEnd (record { old = W.contents out.old; new = W.contents out.new; kept_old = K.contents keep.old; kept_new = K.contents keep.new })) InFileOrder config.now names.now orders result }
+    ensures untouched { IfErr result (λ fault. fault ≢ DayFault.WriteFailed → (out.new ≡ out.old) × (keep.new ≡ keep.old)) }
+{
+    let day = taken?;
+    write_both(alloc, day.desks.as_slice(), names, &day.report, out, keep)?;
     Ok(day.report)
 }
 

@@ -1,6 +1,7 @@
 //! The levels behind rows, where these changed them.
-ghost use Rattle.std.specs.Prelude.{◌≡◌, ◌++◌, IfOk, OnOk, map};
-ghost use Rattle.xm_day.specs.MarketDepth.{change_lines, level_line, limit_field, limit_line, limit_lines, market_depth, row_fields, same_depth, same_side_depth, side_depth, side_lines, worse_level};
+ghost use Rattle.std.specs.Prelude.{◌≡◌, ◌++◌, IfOk, OnOk, map, option_map};
+ghost use Rattle.xm_day.specs.MarketDepth.{change_lines, depth_header, level_line, limit_field, limit_line, limit_lines, market_depth, row_fields, same_depth, same_side_depth, side_depth, side_lines, worse_level};
+ghost use Rattle.xm_day.specs.RowAnswers.{where_asked};
 ghost use Rattle.xm_rules.specs.Step.{replay};
 
 use crate::texts::{push_comma, push_line_feed, push_number, push_price, push_text, security_name};
@@ -57,7 +58,7 @@ impl SideDepth {
 
 impl MarketDepth {
     /// What is shown of a desk.
-    fn of<A: Allocator + Copy>(desk: &Desk<A>) -> MarketDepth
+    pub(crate) fn of<A: Allocator + Copy>(desk: &Desk<A>) -> MarketDepth
         ensures { result ≡ market_depth (replay desk.now) }
     {
         MarketDepth {
@@ -190,6 +191,25 @@ impl Depths {
         })
     }
 
+    /// The feed of this text, where there is one, behind rows that these desks have taken.
+    pub(crate) fn behind<A: Allocator + Copy>(
+        alloc: Global,
+        desks: &[Desk<A>],
+        text: Option<Vec<u8>>,
+    ) -> Result<Depths, OutOfMemory>
+        ensures { IfOk result (λ d. d ≡ option_map (λ told. record { text = told.items; shown = map market_depth (map replay desks.now) }) text) }
+    {
+        match text {
+            None => Ok(Depths::unasked()),
+            Some(text) => {
+                let depths = depths_of(alloc, desks)?;
+                Ok(Depths {
+                    shown: Some(Shown { text, depths }),
+                })
+            }
+        }
+    }
+
     /// Adds the levels of the security behind a row that the desks have taken, if it showed others last.
     #[inline(always)]
     pub(crate) fn tell<A: Allocator + Copy>(
@@ -219,6 +239,18 @@ impl Depths {
     }
 }
 
+/// The levels behind no row: the header, if they are asked for.
+pub(crate) fn begun_levels(alloc: Global, asked: bool) -> Result<Option<Vec<u8>>, OutOfMemory>
+    ensures { IfOk result (λ text. option_map (λ told. told.items) text ≡ where_asked asked depth_header) }
+{
+    if !asked {
+        return Ok(None);
+    }
+    let mut text = Vec::new(alloc);
+    push_text(&mut text, HEADER)?;
+    Ok(Some(text))
+}
+
 /// What is shown of each desk.
 fn depths_of<A: Allocator + Copy>(
     alloc: Global,
@@ -234,7 +266,7 @@ fn depths_of<A: Allocator + Copy>(
 }
 
 /// The levels behind a row, if they aren't those before it.
-fn push_change<A: Allocator>(
+pub(crate) fn push_change<A: Allocator>(
     text: &mut Vec<u8, A>,
     names: &SegmentNames,
     row: &Row,

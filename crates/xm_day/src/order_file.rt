@@ -1,5 +1,5 @@
 //! The desks of a segment that have taken an order file.
-ghost use Rattle.std.specs.Prelude.{◌≡◌, ◌≤◌, false, length};
+ghost use Rattle.std.specs.Prelude.{◌≡◌, ◌≤◌, length};
 ghost use Rattle.xm_day.specs.Answers.{DesksEnd, FileRun, HasTaken, RowsTaken};
 ghost use Rattle.xm_day.specs.Workers.{IsShared};
 ghost use Rattle.xm_segment.specs.declared.opening.TheConstants.{MAX_WORKERS};
@@ -38,7 +38,8 @@ pub(crate) fn take_orders<R: Read>(
     }
 }
 
-/// Reads an order file, and has the securities of a segment take its rows on so many threads, each its own.
+/// Reads an order file, and has the securities of a segment take its rows on so many threads, each its own, which tell the texts that are
+/// asked for.
 pub(crate) fn take_orders_apart<T: Threads + Sync, R: Read>(
     rt: &T,
     threads: u32,
@@ -46,15 +47,16 @@ pub(crate) fn take_orders_apart<T: Threads + Sync, R: Read>(
     config: &SegmentConfig,
     names: &SegmentNames,
     orders: &mut R,
+    asked: AskedTexts,
 ) -> Result<OpenDay, DayFault>
     requires { 1 ≤ threads }
-    ensures { FileRun (RowsTaken (record { answers = false; depth = false }) names.now) config.now names.now (R.remaining orders.old) result }
+    ensures { FileRun (RowsTaken asked names.now) config.now names.now (R.remaining orders.old) result }
 {
     let bytes = match read_orders(storage.alloc, orders) {
         Ok(bytes) => bytes,
         Err(fault) => return Err(DayFault::Orders(fault)),
     };
-    match run_apart(rt, threads, storage, config, names, bytes) {
+    match run_apart(rt, threads, storage, config, names, bytes, asked) {
         Ok(day) => day,
         Err(fault) => Err(DayFault::Orders(fault)),
     }

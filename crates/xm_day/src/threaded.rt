@@ -1,17 +1,15 @@
 //! The day of a segment on several threads, with the bytes of one.
 ghost use Rattle.std.specs.Prelude.{◌≡◌, ◌≢◌, ◌≤◌, IfErr, IfOk, length};
-ghost use Rattle.xm_day.specs.Answers.{DayEnds, DayOfRowsEnds, InFileOrder, IsAsked, IsTextOfFiles, OrdersEnd, report_in};
+ghost use Rattle.xm_day.specs.Answers.{DayEnds, DayOfRowsEnds, InFileOrder, IsAsked, IsTextOfFiles, IsTextOfRows, OrdersEnd, report_in};
 ghost use Rattle.xm_day.specs.CarriedDays.{BothEnd, CarriedDayEnds};
 ghost use Rattle.xm_day.specs.MarketDepth.{depth_text};
 ghost use Rattle.xm_day.specs.RowAnswers.{answers_text};
 
-use crate::both_texts::write_both;
-use crate::carried_days::{carry_alone, read_opening};
-use crate::day::run_told;
+use crate::carried_days::{carry_alone, read_opening, write_taken};
+use crate::day::{run_told, tell_taken};
 use crate::faults::DayFault;
 use crate::order_file::take_orders_apart;
 use crate::report::{AskedTexts, DayReport, ToldDay};
-use crate::statements::statement;
 use std::alloc::Global;
 use std::io::{Read, Write};
 use std::thread::Threads;
@@ -39,24 +37,18 @@ pub fn run_on_threads<T: Threads + Sync, S: Read, R: Read, W: Write>(
     ensures depth { IfOk result (λ day. IsAsked (IsTextOfFiles (λ names config bytes rows. depth_text names config rows) (S.remaining segment.old) (R.remaining orders.old)) asked.depth day.depth.items) }
     ensures untouched { IfErr result (λ fault. fault ≢ DayFault.WriteFailed → out.new ≡ out.old) }
 {
-    if threads == 1 || asked.answers || asked.depth {
+    if threads == 1 {
         return run_told(storage, segment, orders, out, asked);
     }
     let (config, names) = match read_segment(storage.alloc, segment) {
         Ok(segment) => segment,
         Err(fault) => return Err(DayFault::Segment(fault)),
     };
-    match run_orders_apart(rt, threads, storage, &config, &names, orders, out) {
-        Ok(report) => Ok(ToldDay {
-            report,
-            answers: Vec::new(storage.alloc),
-            depth: Vec::new(storage.alloc),
-        }),
-        Err(fault) => Err(fault),
-    }
+    run_orders_apart(rt, threads, storage, &config, &names, orders, out, asked)
 }
 
-/// Runs the day of a segment whose file is read, and whose securities take their rows on so many threads.
+/// Runs the day of a segment whose file is read, and whose securities take their rows on so many threads, and gives the texts that are
+/// asked for.
 fn run_orders_apart<T: Threads + Sync, R: Read, W: Write>(
     rt: &T,
     threads: u32,
@@ -65,15 +57,17 @@ fn run_orders_apart<T: Threads + Sync, R: Read, W: Write>(
     names: &SegmentNames,
     orders: &mut R,
     out: &mut W,
-) -> Result<DayReport, DayFault>
+    asked: AskedTexts,
+) -> Result<ToldDay, DayFault>
     requires some { 1 ≤ threads }
     requires securities { length names.now.securities ≡ length config.now.securities }
-    ensures ends { OrdersEnd InFileOrder config.now names.now (R.remaining orders.old) (W.contents out.old) (W.contents out.new) result }
+    ensures ends { OrdersEnd InFileOrder config.now names.now (R.remaining orders.old) (W.contents out.old) (W.contents out.new) (report_in result) }
+    ensures answers { IfOk result (λ day. IsAsked (IsTextOfRows answers_text (R.remaining orders.old) config.now names.now) asked.answers day.answers.items) }
+    ensures depth { IfOk result (λ day. IsAsked (IsTextOfRows (λ names config bytes rows. depth_text names config rows) (R.remaining orders.old) config.now names.now) asked.depth day.depth.items) }
     ensures untouched { IfErr result (λ fault. fault ≢ DayFault.WriteFailed → out.new ≡ out.old) }
 {
-    let day = take_orders_apart(rt, threads, storage, config, names, orders)?;
-    statement(storage.alloc, day.desks.as_slice(), names, &day.report, out)?;
-    Ok(day.report)
+    let taken = take_orders_apart(rt, threads, storage, config, names, orders, asked);
+    tell_taken(storage.alloc, config, names, taken, out)
 }
 
 /// Runs the day of a segment file, a carry file and an order file as `carry_alone` does, on so many threads, as
@@ -119,14 +113,7 @@ fn carry_orders_apart<T: Threads + Sync, R: Read, W: Write, K: Write>(
         InFileOrder config.now names.now (R.remaining orders.old) result }
     ensures untouched { IfErr result (λ fault. fault ≢ DayFault.WriteFailed → (out.new ≡ out.old) × (keep.new ≡ keep.old)) }
 {
-    let day = take_orders_apart(rt, threads, storage, config, names, orders)?;
-    write_both(
-        storage.alloc,
-        day.desks.as_slice(),
-        names,
-        &day.report,
-        out,
-        keep,
-    )?;
-    Ok(day.report)
+    let asked = AskedTexts::nothing();
+    let taken = take_orders_apart(rt, threads, storage, config, names, orders, asked);
+    write_taken(storage.alloc, config, names, taken, out, keep)
 }

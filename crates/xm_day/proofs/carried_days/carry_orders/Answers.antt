@@ -1,36 +1,7 @@
-use Rattle.std.proofs.Common.{List, Result, Err, refl, ap, sym, subst, ◌∙◌}
-use Rattle.xm_rules.specs.Step.{Journal}
-use Rattle.xm_day.proofs.Endings.{rows-of-file, unwritten-ends}
-use Rattle.xm_files.proofs.PassedErrors.{is_passed}
-use Rattle.xm_day.specs.Answers.{DayOfRowsEnds, InFileOrder}
-use Rattle.xm_day.specs.CarriedDays.{BothEnd, Outputs}
-use Rattle.xm_day.specs.Day.{day_of}
-use Rattle.xm_day.specs.declared.faults.DayFault.{DayFault}
-use Rattle.xm_day.specs.declared.report.DayReport.{DayReport}
+use Rattle.xm_day.proofs.Endings.{taken-anyhow}
 use Rattle.xm_day.proofs.carried_days.carry_orders.Goals as goal
-
-pub returns-in_err-write_both-clause-ends : goal.returns-in_err-write_both-clause-ends
-returns-in_err-write_both-clause-ends g c =
-    let config = c.args.config.now in
-    let names = c.args.names.now in
-    let out : Outputs = record { old = g.W.Write.contents c.args.out.now; new = g.W.Write.contents c.write_both.new.out; kept_old = g.K.Write.contents c.args.keep.now; kept_new = g.K.Write.contents c.write_both.new.keep } in
-    let run = c.in_ok-day.ensures in
-    let report = c.in_ok-day.day.report in
-    let lent = ap (λ (js : List Journal). day_of js report.accepted report.refused) c.as_slice.ensures.value in
-    let read = rows-of-file (g.R.Read.remaining c.args.orders.now) config names run.0 run.2 run.1 run.3 in
-    let fault = c.in_err-write_both.field-0.0 in
-    let Ends : Result DayReport DayFault → Type 0 = λ r. DayOfRowsEnds (BothEnd out) InFileOrder config names (g.R.Read.remaining c.args.orders.now) r in
-    subst Ends (sym (is_passed c.from_residual-in_err-write_both.result fault c.from_residual-in_err-write_both.ensures.1))
-    (unwritten-ends (BothEnd out) InFileOrder config names run.2 _ fault read run.4.sound c.in_err-write_both.ensures.faults
-    (λ failed. record { day = day_of c.as_slice.result.now report.accepted report.refused; is_of_rows = lent ∙ run.4.day_is; cut_off = c.in_err-write_both.ensures.failed (ap Err failed) }))
 
 pub returns-clause-ends : goal.returns-clause-ends
 returns-clause-ends g c =
-    let config = c.args.config.now in
-    let names = c.args.names.now in
-    let run = c.in_ok-day.ensures in
-    let report = c.in_ok-day.day.report in
-    let lent = ap (λ (js : List Journal). day_of js report.accepted report.refused) c.as_slice.ensures.value in
-    let read = rows-of-file (g.R.Read.remaining c.args.orders.now) config names run.0 run.2 run.1 run.3 in
-    let both = c.in_ok-write_both.ensures in
-    (run.2, read, (run.4.sound, record { day = day_of c.as_slice.result.now report.accepted report.refused; is_of_rows = lent ∙ run.4.day_is; written = both.written; kept = both.kept; accepted = refl; refused = refl }))
+    let orders = g.R.Read.remaining c.args.orders.now in
+    c.write_taken.ensures.ends c.nothing.result orders (taken-anyhow c.nothing.result c.args.config.now c.args.names.now orders c.take_orders-taken.result c.take_orders-taken.ensures)

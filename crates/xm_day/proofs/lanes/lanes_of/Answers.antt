@@ -10,5 +10,5 @@ loop-desk-preserved c =
     let lanes = c.loop-desk.lanes.items in
     let left : into_iter_items c.loop-desk.desk-iterator ≡ c.in-Some.desk ∷ rest = search rules in
     let pushed : c.push.new.self.items ≡ lanes ++ c.of.result ∷ [] = search rules in
-    ap (λ (ls : List LaneView). ls ++ map fresh_lane rest) pushed ∙ append_assoc lanes (c.of.result ∷ []) (map fresh_lane rest)
-    ∙ ap (λ (l : LaneView). lanes ++ l ∷ map fresh_lane rest) c.of.ensures ∙ ap (λ (js : List Journal). lanes ++ map fresh_lane js) (sym left) ∙ c.loop-desk.invariant
+    ap (λ (ls : List LaneView). ls ++ map (fresh_lane c.args.asked) rest) pushed ∙ append_assoc lanes (c.of.result ∷ []) (map (fresh_lane c.args.asked) rest)
+    ∙ ap (λ (l : LaneView). lanes ++ l ∷ map (fresh_lane c.args.asked) rest) c.of.ensures ∙ ap (λ (js : List Journal). lanes ++ map (fresh_lane c.args.asked) js) (sym left) ∙ c.loop-desk.invariant

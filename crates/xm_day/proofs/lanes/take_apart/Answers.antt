@@ -1,12 +1,10 @@
-use Rattle.std.proofs.Common.{List, ◌++◌, subst}
-use Rattle.xm_day.proofs.Apart.{taken-more}
-use Rattle.xm_day.specs.Lanes.{AreTaken}
+use Rattle.std.proofs.Common.{List, subst}
+use Rattle.xm_day.proofs.Merging.{took-more}
+use Rattle.xm_day.specs.Lanes.{TookMore}
 use Rattle.xm_segment.specs.declared.rows.Row.{Row}
 use Rattle.xm_day.proofs.lanes.take_apart.Goals as goal
 
-pub returns : goal.returns
-returns g c = record {
-  since_opening = λ config before has.
-      subst (λ (rows : List Row). AreTaken config (before ++ rows) c.take_parts.new.lanes) c.rows.ensures
-      (taken-more config before c.rows.result.now c.args.lanes.now c.take_parts.new.lanes c.take_parts.auto.lanes c.take_parts.ensures has);
-}
+pub returns-clause-more : goal.returns-clause-more
+returns-clause-more g c =
+    subst (λ (rows : List Row). TookMore c.args.names.now c.args.texts.now.orders rows c.args.lanes.now c.args.merged.now c.add.new.lanes c.add.new.self) c.rows-rows.ensures
+    (took-more c.args.names.now c.args.texts.now.orders c.rows-rows.result.now c.args.lanes.now c.take_parts.new.lanes c.add.new.lanes c.args.merged.now c.add.new.self c.take_parts.auto.lanes c.add.auto.lanes c.take_parts.ensures c.add.ensures.added)

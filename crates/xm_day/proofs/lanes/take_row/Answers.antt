@@ -6,10 +6,10 @@ pub returns-then-place-lanes : goal.returns-then-place-lanes
 returns-then-place-lanes c =
     let place = c.args.row.now.security - c.args.first in
     let is : c.args.row.now.security ≡ c.args.first + place = omega arith in
-    lane-taken c.args.first c.args.lanes.now c.args.row.now place c.index-lanes-place.result c.take.new.self is c.if-place-lanes.true c.take.ensures
+    lane-taken c.args.names.now c.args.first c.args.lanes.now c.args.row.now place c.index-lanes-place.result c.take.new.self is c.if-place-lanes.true c.take.ensures
 
 pub returns-else-place-lanes : goal.returns-else-place-lanes
-returns-else-place-lanes c = row-passed c.args.first c.args.lanes.now c.args.row.now (λ k inside same. absurd (omega arith))
+returns-else-place-lanes c = row-passed c.args.names.now c.args.first c.args.lanes.now c.args.row.now (λ k inside same. absurd (omega arith))
 
 pub returns-else-first-index : goal.returns-else-first-index
-returns-else-first-index c = row-passed c.args.first c.args.lanes.now c.args.row.now (λ k inside same. absurd (omega arith))
+returns-else-first-index c = row-passed c.args.names.now c.args.first c.args.lanes.now c.args.row.now (λ k inside same. absurd (omega arith))
