@@ -143,8 +143,7 @@ const THREADS_HELP: &str =
 
 For a replay: as many as there are processors. What is written is what one thread writes, byte for
 byte. Each thread takes the rows of securities of its own while the file is read ahead of it, so a
-day of one security gains from the reading alone; with --answers or --depth one thread takes all
-rows. It goes with one worker.";
+day of one security gains from the reading alone. It goes with one worker.";
 
 const CHECK_HELP: &str = "Checks a segment file and writes how many securities and members it has.
 
