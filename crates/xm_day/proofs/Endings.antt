@@ -3,6 +3,7 @@ use Rattle.std.proofs.Common.{◌≡◌, refl, ℕ, List, Option, None, Some, Re
 use Rattle.std.specs.Result.{IsErrAnd}
 use Rattle.xm_day.specs.Answers.{AreRowsOf, AsksNothing, DayOfRowsEnds, FileRun, HasTaken, InFileOrder, IsSegmentOf, RowsTaken}
 use Rattle.xm_day.specs.Checks.{CheckEnds, OpeningEnds}
+use Rattle.xm_day.specs.Sections.{RowsStated}
 use Rattle.xm_day.specs.declared.desks.OpenDay.{OpenDay}
 use Rattle.xm_files.specs.Orders.{orders_of}
 use Rattle.xm_day.specs.Day.{Day, LacksMemoryAt, opening_day}
@@ -73,12 +74,21 @@ pub taken-opened : (asked : AskedTexts) (config : SegmentConfig) (names : NameLi
 taken-opened asked config names orders (Ok d) run = (run.4.sound, run.4.each)
 taken-opened asked config names orders (Err fault) run = tt
 
--- the rows weren't taken
-pub untaken-ends : (Written : NameLists → (Day → Type 0) → Result DayReport DayFault → Type 0) (asked : AskedTexts) (config : SegmentConfig) (names : NameLists) (orders : Option (List ℕ)) (fault : DayFault) → FileRun (RowsTaken asked names) config names orders (Err fault)
+-- a statement that isn't made, since the rows weren't taken
+pub untaken-stated : (asked : AskedTexts) (config : SegmentConfig) (names : NameLists) (orders : Option (List ℕ)) (fault : DayFault) → FileRun (RowsTaken asked names) config names orders (Err fault) → FileRun (RowsStated asked names) config names orders (Err fault)
+untaken-stated asked config names orders (Segment fault) run = run
+untaken-stated asked config names orders (Carry fault) run = run
+untaken-stated asked config names orders (Orders fault) run = run
+untaken-stated asked config names orders (Open fault) run = run
+untaken-stated asked config names orders (OutOfMemory _) run = run
+untaken-stated asked config names orders WriteFailed run = run
+
+-- no statement was made
+pub unstated-ends : (Written : NameLists → (Day → Type 0) → Result DayReport DayFault → Type 0) (asked : AskedTexts) (config : SegmentConfig) (names : NameLists) (orders : Option (List ℕ)) (fault : DayFault) → FileRun (RowsStated asked names) config names orders (Err fault)
     → DayOfRowsEnds Written InFileOrder config names orders (Err fault)
-untaken-ends Written asked config names orders (Segment fault) run = absurd run.4
-untaken-ends Written asked config names orders (Carry fault) run = absurd run.4
-untaken-ends Written asked config names orders (Orders fault) run = run
-untaken-ends Written asked config names orders (Open fault) run = (run.2, rows-of-file orders config names run.0 run.2 run.1 run.3, run.4)
-untaken-ends Written asked config names orders (OutOfMemory _) run = (run.2, rows-of-file orders config names run.0 run.2 run.1 run.3, run.4)
-untaken-ends Written asked config names orders WriteFailed run = absurd run.4
+unstated-ends Written asked config names orders (Segment fault) run = absurd run.4
+unstated-ends Written asked config names orders (Carry fault) run = absurd run.4
+unstated-ends Written asked config names orders (Orders fault) run = run
+unstated-ends Written asked config names orders (Open fault) run = (run.2, rows-of-file orders config names run.0 run.2 run.1 run.3, run.4)
+unstated-ends Written asked config names orders (OutOfMemory _) run = (run.2, rows-of-file orders config names run.0 run.2 run.1 run.3, run.4)
+unstated-ends Written asked config names orders WriteFailed run = absurd run.4

@@ -22,3 +22,4 @@ mod Apart
 mod Kept
 mod Telling
 mod Merging
+mod Sectioned

@@ -9,6 +9,7 @@ pub mod KeptLines
 pub mod Lanes
 pub mod MarketDepth
 pub mod RowAnswers
+pub mod Sections
 pub mod Standing
 pub mod Statement
 pub mod Workers

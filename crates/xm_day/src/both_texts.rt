@@ -39,9 +39,30 @@ pub(crate) fn write_both<A: Allocator + Copy, B: Allocator + Copy, W: Write, K: 
         (statement names.now (map replay desks.now) report.now.accepted report.now.refused) (carry_text names.now (map replay desks.now)) }
     ensures faults { IfErr result IsOfWriting }
 {
-    let statement = statement_text(alloc, desks, names, report)?;
+    let text = statement_text(alloc, desks, names, report)?;
+    write_made(alloc, text.as_slice(), desks, names, out, keep)
+}
+
+/// Writes a text, which is the statement of the desks of a segment, sees that all of it went out, and then writes their carry file, which
+/// is made first.
+pub(crate) fn write_made<A: Allocator, B: Allocator + Copy, W: Write, K: Write>(
+    alloc: A,
+    text: &[u8],
+    desks: &[Desk<B>],
+    names: &SegmentNames,
+    out: &mut W,
+    keep: &mut K,
+) -> Result<(), DayFault>
+    requires { length names.now.securities ≡ length desks.now }
+    ensures written { OnOk result (Appends (W.contents out.old) (W.contents out.new) text.now) }
+    ensures kept { OnOk result (Appends (K.contents keep.old) (K.contents keep.new) (carry_text names.now (map replay desks.now))) }
+    ensures memory { result ≡ Err (DayFault.OutOfMemory tt) → (out.new ≡ out.old) × (keep.new ≡ keep.old) }
+    ensures failed { result ≡ Err DayFault.WriteFailed
+        → IsCutOff (record { old = W.contents out.old; new = W.contents out.new; kept_old = K.contents keep.old; kept_new = K.contents keep.new }) text.now (carry_text names.now (map replay desks.now)) }
+    ensures faults { IfErr result IsOfWriting }
+{
     let carried = carry_text(alloc, desks, names)?;
-    send_text(out, statement.as_slice())?;
+    send_text(out, text)?;
     write_text(keep, carried.as_slice())
 }
 

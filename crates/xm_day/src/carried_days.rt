@@ -1,17 +1,17 @@
 //! The day of a segment that opens with what earlier days left, and hands on what it leaves.
-ghost use Rattle.std.specs.Prelude.{◌≡◌, ◌≢◌, ◌≤◌, ℕ, IfErr, IfOk, List, None, Option, length};
-ghost use Rattle.xm_day.specs.Answers.{DayOfRowsEnds, FileRun, InFileOrder, RowsTaken};
+ghost use Rattle.std.specs.Prelude.{◌≡◌, ◌≢◌, ◌≤◌, ℕ, IfErr, IfOk, List, Option, length};
+ghost use Rattle.xm_day.specs.Answers.{DayOfRowsEnds, FileRun, InFileOrder};
 ghost use Rattle.xm_day.specs.CarriedDays.{BothEnd, CarriedDayEnds, OpeningRead};
+ghost use Rattle.xm_day.specs.Sections.{RowsStated};
 ghost use Rattle.xm_day.specs.Workers.{IsShared};
 ghost use Rattle.xm_day.specs.declared.report.AskedTexts.{AskedTexts};
-ghost use Rattle.xm_segment.specs.Opening.{segment_fault};
 ghost use Rattle.xm_segment.specs.declared.opening.TheConstants.{MAX_WORKERS};
 
-use crate::both_texts::write_both;
-use crate::desks::OpenDay;
+use crate::both_texts::{write_both, write_made};
 use crate::faults::DayFault;
 use crate::order_file::{share_orders, take_orders};
 use crate::report::{AskedTexts, DayReport};
+use crate::stated::{StatedDay, stated};
 use std::alloc::Global;
 use std::io::{Read, Write};
 use std::sync::Wait;
@@ -98,26 +98,34 @@ fn carry_orders<R: Read, W: Write, K: Write>(
     ensures untouched { IfErr result (λ fault. fault ≢ DayFault.WriteFailed → (out.new ≡ out.old) × (keep.new ≡ keep.old)) }
 {
     let taken = take_orders(storage, config, names, orders, AskedTexts::nothing());
-    write_taken(storage.alloc, config, names, taken, out, keep)
+    let made = stated(storage.alloc, config, names, taken);
+    write_stated(storage.alloc, config, names, made, out, keep)
 }
 
-/// Writes both texts of a day whose rows are taken.
-pub(crate) fn write_taken<W: Write, K: Write>(
+/// Writes the statement of a day, and what it leaves.
+pub(crate) fn write_stated<W: Write, K: Write>(
     alloc: Global,
     config: &SegmentConfig,
     names: &SegmentNames,
-    taken: Result<OpenDay, DayFault>,
+    made: Result<StatedDay, DayFault>,
     out: &mut W,
     keep: &mut K,
 ) -> Result<DayReport, DayFault>
     requires securities { length names.now.securities ≡ length config.now.securities }
-    requires opened { IfOk taken (λ day. (segment_fault config.now ≡ None) × (length day.desks.items ≡ length config.now.securities)) }
-    ensures ends { (asked : AskedTexts) (orders : Option (List ℕ)) → FileRun (RowsTaken asked names.now) config.now names.now orders taken
+    requires each { IfOk made (λ stated. length stated.day.desks.items ≡ length config.now.securities) }
+    ensures ends { (asked : AskedTexts) (orders : Option (List ℕ)) → FileRun (RowsStated asked names.now) config.now names.now orders made
         → DayOfRowsEnds (BothEnd (record { old = W.contents out.old; new = W.contents out.new; kept_old = K.contents keep.old; kept_new = K.contents keep.new })) InFileOrder config.now names.now orders result }
     ensures untouched { IfErr result (λ fault. fault ≢ DayFault.WriteFailed → (out.new ≡ out.old) × (keep.new ≡ keep.old)) }
 {
-    let day = taken?;
-    write_both(alloc, day.desks.as_slice(), names, &day.report, out, keep)?;
+    let StatedDay { day, text } = made?;
+    write_made(
+        alloc,
+        text.as_slice(),
+        day.desks.as_slice(),
+        names,
+        out,
+        keep,
+    )?;
     Ok(day.report)
 }
 

@@ -1,18 +1,19 @@
 //! The day of a segment, from its files to its statement.
-ghost use Rattle.std.specs.Prelude.{◌≡◌, ◌≢◌, ◌≤◌, ℕ, IfErr, IfOk, List, None, Option, length};
-ghost use Rattle.xm_day.specs.Answers.{DayEnds, FileRun, InFileOrder, IsAsked, IsTextOfFiles, IsTextOfRows, OrdersEnd, RowsTaken, report_in};
+ghost use Rattle.std.specs.Prelude.{◌≡◌, ◌≢◌, ◌≤◌, ℕ, IfErr, IfOk, List, Option, length};
+ghost use Rattle.xm_day.specs.Answers.{DayEnds, FileRun, InFileOrder, IsAsked, IsTextOfFiles, IsTextOfRows, OrdersEnd, report_in};
 ghost use Rattle.xm_day.specs.MarketDepth.{depth_text};
 ghost use Rattle.xm_day.specs.RowAnswers.{answers_text};
+ghost use Rattle.xm_day.specs.Sections.{RowsStated};
 ghost use Rattle.xm_day.specs.Workers.{IsShared};
 ghost use Rattle.xm_day.specs.declared.report.AskedTexts.{AskedTexts};
-ghost use Rattle.xm_segment.specs.Opening.{segment_fault};
 ghost use Rattle.xm_segment.specs.declared.opening.TheConstants.{MAX_WORKERS};
 
-use crate::desks::OpenDay;
 use crate::faults::DayFault;
 use crate::order_file::{share_orders, take_orders};
 use crate::report::{AskedTexts, DayReport, ToldDay};
+use crate::stated::{StatedDay, stated};
 use crate::statements::statement;
+use crate::texts::write_text;
 use std::alloc::Global;
 use std::io;
 use std::sync::Wait;
@@ -62,26 +63,25 @@ fn tell_orders<R: io::Read, W: io::Write>(
     ensures untouched { IfErr result (λ fault. fault ≢ DayFault.WriteFailed → out.new ≡ out.old) }
 {
     let taken = take_orders(storage, config, names, orders, asked);
-    tell_taken(storage.alloc, config, names, taken, out)
+    let made = stated(storage.alloc, config, names, taken);
+    write_statement(storage.alloc, config, names, made, out)
 }
 
-/// Writes the statement of a day whose rows are taken, and gives the texts that it told of them.
-pub(crate) fn tell_taken<W: io::Write>(
+/// Writes the statement of a day, and gives the texts that it told of its rows.
+pub(crate) fn write_statement<W: io::Write>(
     alloc: Global,
     config: &SegmentConfig,
     names: &SegmentNames,
-    taken: Result<OpenDay, DayFault>,
+    made: Result<StatedDay, DayFault>,
     out: &mut W,
 ) -> Result<ToldDay, DayFault>
-    requires securities { length names.now.securities ≡ length config.now.securities }
-    requires opened { IfOk taken (λ day. (segment_fault config.now ≡ None) × (length day.desks.items ≡ length config.now.securities)) }
-    ensures ends { (asked : AskedTexts) (orders : Option (List ℕ)) → FileRun (RowsTaken asked names.now) config.now names.now orders taken → OrdersEnd InFileOrder config.now names.now orders (W.contents out.old) (W.contents out.new) (report_in result) }
-    ensures answers { IfOk result (λ day. (asked : AskedTexts) (orders : Option (List ℕ)) → FileRun (RowsTaken asked names.now) config.now names.now orders taken → IsAsked (IsTextOfRows answers_text orders config.now names.now) asked.answers day.answers.items) }
-    ensures depth { IfOk result (λ day. (asked : AskedTexts) (orders : Option (List ℕ)) → FileRun (RowsTaken asked names.now) config.now names.now orders taken → IsAsked (IsTextOfRows (λ names config bytes rows. depth_text names config rows) orders config.now names.now) asked.depth day.depth.items) }
+    ensures ends { (asked : AskedTexts) (orders : Option (List ℕ)) → FileRun (RowsStated asked names.now) config.now names.now orders made → OrdersEnd InFileOrder config.now names.now orders (W.contents out.old) (W.contents out.new) (report_in result) }
+    ensures answers { IfOk result (λ day. (asked : AskedTexts) (orders : Option (List ℕ)) → FileRun (RowsStated asked names.now) config.now names.now orders made → IsAsked (IsTextOfRows answers_text orders config.now names.now) asked.answers day.answers.items) }
+    ensures depth { IfOk result (λ day. (asked : AskedTexts) (orders : Option (List ℕ)) → FileRun (RowsStated asked names.now) config.now names.now orders made → IsAsked (IsTextOfRows (λ names config bytes rows. depth_text names config rows) orders config.now names.now) asked.depth day.depth.items) }
     ensures untouched { IfErr result (λ fault. fault ≢ DayFault.WriteFailed → out.new ≡ out.old) }
 {
-    let day = taken?;
-    statement(alloc, day.desks.as_slice(), names, &day.report, out)?;
+    let StatedDay { day, text } = made?;
+    write_text(out, text.as_slice())?;
     Ok(ToldDay {
         report: day.report,
         answers: day.told.answers.into_text(alloc),

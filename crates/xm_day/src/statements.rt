@@ -67,7 +67,7 @@ pub(crate) fn statement_text<A: Allocator, B: Allocator + Copy>(
 }
 
 /// How many bytes the lines of all trades seldom have more than. A text that is told of them needn't be copied as it grows.
-fn room_for_trades<B: Allocator + Copy>(desks: &[Desk<B>]) -> usize {
+pub(crate) fn room_for_trades<B: Allocator + Copy>(desks: &[Desk<B>]) -> usize {
     let mut trades = 0usize;
     for desk in desks {
         trades = trades.saturating_add(desk.trades().len());
@@ -76,7 +76,7 @@ fn room_for_trades<B: Allocator + Copy>(desks: &[Desk<B>]) -> usize {
 }
 
 /// The date.
-fn push_day<A: Allocator>(text: &mut Vec<u8, A>, date: u32) -> Result<(), OutOfMemory>
+pub(crate) fn push_day<A: Allocator>(text: &mut Vec<u8, A>, date: u32) -> Result<(), OutOfMemory>
     ensures { OnOk result (text.new.items ≡ text.old.items ++ day_line date) }
 {
     push_text(text, "DAY ")?;
@@ -85,7 +85,10 @@ fn push_day<A: Allocator>(text: &mut Vec<u8, A>, date: u32) -> Result<(), OutOfM
 }
 
 /// How many rows were accepted and refused.
-fn push_rows<A: Allocator>(text: &mut Vec<u8, A>, report: &DayReport) -> Result<(), OutOfMemory>
+pub(crate) fn push_rows<A: Allocator>(
+    text: &mut Vec<u8, A>,
+    report: &DayReport,
+) -> Result<(), OutOfMemory>
     ensures { OnOk result (text.new.items ≡ text.old.items ++ rows_line report.now.accepted report.now.refused) }
 {
     push_text(text, "ROWS ")?;
@@ -112,7 +115,7 @@ fn push_securities<A: Allocator, B: Allocator + Copy>(
 }
 
 /// A security: its phase, references, trades, orders, stops, net positions and total.
-fn push_security<A: Allocator, B: Allocator + Copy>(
+pub(crate) fn push_security<A: Allocator, B: Allocator + Copy>(
     text: &mut Vec<u8, A>,
     desk: &Desk<B>,
     names: &SegmentNames,

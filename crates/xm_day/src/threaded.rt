@@ -5,11 +5,12 @@ ghost use Rattle.xm_day.specs.CarriedDays.{BothEnd, CarriedDayEnds};
 ghost use Rattle.xm_day.specs.MarketDepth.{depth_text};
 ghost use Rattle.xm_day.specs.RowAnswers.{answers_text};
 
-use crate::carried_days::{carry_alone, read_opening, write_taken};
-use crate::day::{run_told, tell_taken};
+use crate::carried_days::{carry_alone, read_opening, write_stated};
+use crate::day::{run_told, write_statement};
 use crate::faults::DayFault;
 use crate::order_file::take_orders_apart;
 use crate::report::{AskedTexts, DayReport, ToldDay};
+use crate::stated::stated_apart;
 use std::alloc::Global;
 use std::io::{Read, Write};
 use std::thread::Threads;
@@ -67,7 +68,8 @@ fn run_orders_apart<T: Threads + Sync, R: Read, W: Write>(
     ensures untouched { IfErr result (λ fault. fault ≢ DayFault.WriteFailed → out.new ≡ out.old) }
 {
     let taken = take_orders_apart(rt, threads, storage, config, names, orders, asked);
-    tell_taken(storage.alloc, config, names, taken, out)
+    let made = stated_apart(rt, threads, storage.alloc, config, names, taken);
+    write_statement(storage.alloc, config, names, made, out)
 }
 
 /// Runs the day of a segment file, a carry file and an order file as `carry_alone` does, on so many threads, as
@@ -115,5 +117,6 @@ fn carry_orders_apart<T: Threads + Sync, R: Read, W: Write, K: Write>(
 {
     let asked = AskedTexts::nothing();
     let taken = take_orders_apart(rt, threads, storage, config, names, orders, asked);
-    write_taken(storage.alloc, config, names, taken, out, keep)
+    let made = stated_apart(rt, threads, storage.alloc, config, names, taken);
+    write_stated(storage.alloc, config, names, made, out, keep)
 }

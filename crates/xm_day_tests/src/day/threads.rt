@@ -172,8 +172,8 @@ fn drawn_days_of_one_to_eight_securities(rt: HostRuntime) {
 #[test]
 fn long_drawn_days(rt: HostRuntime) {
     let mut draw = Draw { state: 7 };
-    drawn_day_agrees(&rt, &LONG_NUMBERS, &mut draw, 1, 40_000);
-    drawn_day_agrees(&rt, &LONG_NUMBERS, &mut draw, 5, 40_000);
+    drawn_day_agrees(&rt, &LONG_NUMBERS, &mut draw, 1, 80_000);
+    drawn_day_agrees(&rt, &LONG_NUMBERS, &mut draw, 5, 80_000);
 }
 
 /// What one security's day of `CARRIED` leaves is the carry file of the next one.
