@@ -2,7 +2,7 @@
 use Rattle.std.proofs.Common.{ℕ, ◌<◌, List, length, take, Option, Some, None, ◌⊎◌, inl, inr, refl, sym, append-nil, arith}
 use Rattle.std.specs.Io.KnownBytes.{Appends}
 use Rattle.xm_day.specs.CarriedDays.{IsCutOff}
-use Rattle.xm_day.specs.Carry.{carry_text}
+use Rattle.xm_statement.specs.Carry.{carry_text}
 use Rattle.xm_files.specs.Names.{NameLists}
 use Rattle.xm_rules.specs.State.{State}
 use Rattle.xm_ticks.specs.Writing.{AppendsPrefix}

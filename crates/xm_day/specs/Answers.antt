@@ -12,7 +12,7 @@ use Rattle.xm_files.specs.Orders.{orders_of}
 use Rattle.xm_files.specs.Segment.{segment_of}
 use Rattle.xm_day.specs.Feeds.{feed_of}
 use Rattle.xm_day.specs.RowAnswers.{answers_text, where_asked}
-use Rattle.xm_day.specs.Statement.{statement}
+use Rattle.xm_statement.specs.Statement.{statement}
 use Rattle.xm_segment.specs.declared.config.SegmentConfig.{SegmentConfig}
 use Rattle.xm_day.specs.declared.report.AskedTexts.{AskedTexts}
 use Rattle.xm_day.specs.declared.report.DayReport.{DayReport}

@@ -3,7 +3,7 @@
 use Rattle.std.specs.Prelude.{◌≡◌, ◌⊎◌, ℕ, List, Option, Result, Ok, Err, IfSome}
 use Rattle.std.specs.Io.KnownBytes.{Appends}
 use Rattle.xm_day.specs.Answers.{DayOfRowsEnds, IsFileFault, IsSegmentOf, statement_of}
-use Rattle.xm_day.specs.Carry.{carry_text}
+use Rattle.xm_statement.specs.Carry.{carry_text}
 use Rattle.xm_day.specs.Day.{Day}
 use Rattle.xm_day.specs.declared.faults.DayFault.{DayFault}
 use Rattle.xm_day.specs.declared.faults.DayFault.TheVariants.{Segment, Carry}

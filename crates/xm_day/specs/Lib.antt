@@ -1,6 +1,5 @@
 pub mod Answers
 pub mod CarriedDays
-pub mod Carry
 pub mod Checks
 pub mod Day
 pub mod Examples
@@ -11,5 +10,4 @@ pub mod MarketDepth
 pub mod RowAnswers
 pub mod Sections
 pub mod Standing
-pub mod Statement
 pub mod Workers

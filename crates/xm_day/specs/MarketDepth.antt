@@ -4,7 +4,7 @@ use Rattle.std.specs.Cmp.Lexicographic.{pointwise}
 use Rattle.std.specs.Fmt.{decimal}
 use Rattle.std.specs.Option.{option_eq}
 use Rattle.xm_day.specs.Day.{Day, after_row, opening_day}
-use Rattle.xm_day.specs.Statement.{name_at, side_word}
+use Rattle.xm_statement.specs.Statement.{name_at, side_word}
 use Rattle.xm_day.specs.declared.depth.MarketDepth.{MarketDepth}
 use Rattle.xm_day.specs.declared.depth.SideDepth.{SideDepth}
 use Rattle.xm_desk.specs.Shown.{level_in, market_units}

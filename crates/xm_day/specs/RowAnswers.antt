@@ -3,7 +3,7 @@ use Rattle.std.specs.Prelude.{codes, ℕ, pos, ◌*◌, ◌==◌, Bool, true, fa
 use Rattle.std.specs.List.{flat_map, list_any}
 use Rattle.std.specs.Fmt.{decimal}
 use Rattle.xm_day.specs.Day.{Day, after_row, opening_day, row_answer}
-use Rattle.xm_day.specs.Statement.{name_at, phase_word}
+use Rattle.xm_statement.specs.Statement.{name_at, phase_word}
 use Rattle.xm_desk.specs.Shown.{level_in, units_left}
 use Rattle.xm_files.specs.Names.{NameLists}
 use Rattle.xm_files.specs.Plain.{is_mark}

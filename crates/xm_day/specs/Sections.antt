@@ -2,7 +2,7 @@
 use Rattle.std.specs.Prelude.{◌≡◌, ℕ, ◌+◌, ◌<◌, ◌++◌, Bool, false, List, [], ◌∷◌, length, slice_index_or, None, Result, Ok, Err}
 use Rattle.xm_day.specs.Answers.{IsOpenFault, TookRows, statement_of}
 use Rattle.xm_day.specs.Day.{day_of}
-use Rattle.xm_day.specs.Statement.{security_text}
+use Rattle.xm_statement.specs.Statement.{security_text}
 use Rattle.xm_day.specs.declared.faults.DayFault.{DayFault}
 use Rattle.xm_day.specs.declared.faults.DayFault.TheVariants.{Open, OutOfMemory}
 use Rattle.xm_day.specs.declared.report.AskedTexts.{AskedTexts}

@@ -6,11 +6,8 @@ ghost use Rattle.xm_ticks.specs.Writing.{money_text};
 
 use crate::lanes::Lane;
 use crate::merged::tell_answers;
-use crate::texts::{
-    push_comma, push_field, push_line_feed, push_money, push_number, push_price, push_text,
-    security_name,
-};
-use crate::words::{phase_word, refusal_word};
+use crate::quoted::push_field;
+use crate::words::refusal_word;
 use std::alloc::{Allocator, Global};
 use std::marker::Model;
 use xm_desk::Desk;
@@ -18,6 +15,10 @@ use xm_files::{RecordTexts, SegmentNames};
 use xm_memory::OutOfMemory;
 use xm_rules::{Command, Refusal, Reply, Side};
 use xm_segment::Row;
+use xm_statement::texts::{
+    push_comma, push_line_feed, push_money, push_number, push_price, push_text, security_name,
+};
+use xm_statement::words::phase_word;
 use xm_ticks::{Price, TickSize};
 
 /// The names of the fields.

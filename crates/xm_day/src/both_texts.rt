@@ -3,20 +3,19 @@ ghost use Rattle.std.specs.Prelude.{◌≡◌, ◌<◌, ◌⊎◌, Err, IfErr, O
 ghost use Rattle.std.specs.Io.KnownBytes.{Appends};
 ghost use Rattle.xm_day.specs.Answers.{IsOfWriting};
 ghost use Rattle.xm_day.specs.CarriedDays.{IsCutOff};
-ghost use Rattle.xm_day.specs.Carry.{carry_text};
-ghost use Rattle.xm_day.specs.Statement.{statement};
+ghost use Rattle.xm_statement.specs.Carry.{carry_text};
+ghost use Rattle.xm_statement.specs.Statement.{statement};
 ghost use Rattle.xm_rules.specs.Step.{replay};
 ghost use Rattle.xm_ticks.specs.Writing.{AppendsPrefix};
 
-use crate::carry_file::carry_text;
 use crate::faults::DayFault;
 use crate::report::DayReport;
-use crate::statements::statement_text;
 use crate::texts::write_text;
 use std::alloc::Allocator;
 use std::io::Write;
 use xm_desk::Desk;
 use xm_files::SegmentNames;
+use xm_statement::{carry_text, statement_text};
 
 /// Writes the statement of the desks of a segment, sees that all of it went out, and then writes, to another output, their carry
 /// file. Both texts are made whole first.
@@ -39,7 +38,7 @@ pub(crate) fn write_both<A: Allocator + Copy, B: Allocator + Copy, W: Write, K: 
         (statement names.now (map replay desks.now) report.now.accepted report.now.refused) (carry_text names.now (map replay desks.now)) }
     ensures faults { IfErr result IsOfWriting }
 {
-    let text = statement_text(alloc, desks, names, report)?;
+    let text = statement_text(alloc, desks, names, report.accepted, report.refused)?;
     write_made(alloc, text.as_slice(), desks, names, out, keep)
 }
 

@@ -5,7 +5,6 @@ ghost use Rattle.xm_day.specs.Checks.{CheckEnds, OpeningEnds, check_line};
 ghost use Rattle.xm_segment.specs.Opening.{segment_fault};
 
 use crate::faults::DayFault;
-use crate::texts::{push_number, push_text};
 use std::alloc::{Allocator, Global};
 use std::io;
 use xm_desk::OpenFault;
@@ -13,6 +12,7 @@ use xm_files::read_segment;
 use xm_memory::OutOfMemory;
 use xm_names::Storage;
 use xm_segment::{SegmentConfig, open_desks};
+use xm_statement::texts::{push_number, push_text};
 use xm_ticks::write_whole;
 
 /// Checks a segment file: reads it, sees that the segment opens, and writes how many securities and members it has. The checks

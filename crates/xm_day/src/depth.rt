@@ -4,8 +4,6 @@ ghost use Rattle.xm_day.specs.MarketDepth.{change_lines, depth_header, level_lin
 ghost use Rattle.xm_day.specs.RowAnswers.{where_asked};
 ghost use Rattle.xm_rules.specs.Step.{replay};
 
-use crate::texts::{push_comma, push_line_feed, push_number, push_price, push_text, security_name};
-use crate::words::side_word;
 use std::alloc::{Allocator, Global};
 use std::marker::Model;
 use xm_desk::Desk;
@@ -13,6 +11,10 @@ use xm_files::SegmentNames;
 use xm_memory::OutOfMemory;
 use xm_rules::Side;
 use xm_segment::Row;
+use xm_statement::texts::{
+    push_comma, push_line_feed, push_number, push_price, push_text, security_name,
+};
+use xm_statement::words::side_word;
 use xm_ticks::{Price, TickSize};
 
 /// The names of the fields.

@@ -8,8 +8,8 @@ ghost use Rattle.xm_rules.specs.declared.replies.Refusal.TheVariants.{UnknownSec
 use crate::answers::{Answers, push_unknown};
 use crate::depth::{Depths, begun_levels};
 use crate::lanes::Lane;
+use crate::quoted::push_field;
 use crate::report::AskedTexts;
-use crate::texts::{push_comma, push_field, push_line_feed, push_number};
 use crate::told::Told;
 use std::alloc::Global;
 use std::marker::Model;
@@ -18,6 +18,7 @@ use xm_files::{RecordTexts, SegmentNames};
 use xm_memory::OutOfMemory;
 use xm_rules::Refusal;
 use xm_segment::Row;
+use xm_statement::texts::{push_comma, push_line_feed, push_number};
 
 /// The texts so far that are told of the rows of a segment, as far as they are asked for, and the want of memory that they met. From then
 /// on nothing is added to them.

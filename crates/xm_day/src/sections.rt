@@ -2,10 +2,9 @@
 ghost use Rattle.std.specs.Prelude.{◌≡◌, ◌++◌, ◌<◌, ◌^◌, All, IfOk, OnOk, false, length, map};
 ghost use Rattle.std.specs.List.{flat_map};
 ghost use Rattle.xm_day.specs.Sections.{SectionView, SectionsTold, blank_sections};
-ghost use Rattle.xm_day.specs.Statement.{securities_text};
+ghost use Rattle.xm_statement.specs.Statement.{securities_text};
 ghost use Rattle.xm_rules.specs.Step.{replay};
 
-use crate::statements::push_security;
 use std::alloc::Global;
 use std::marker::Model;
 use std::thread;
@@ -13,6 +12,7 @@ use std::thread::Threads;
 use xm_desk::Desk;
 use xm_files::SegmentNames;
 use xm_memory::OutOfMemory;
+use xm_statement::push_security;
 
 /// The desk of a security, the lines of the statement that tell of it, and the want of memory that they met.
 #[derive(Drop)]

@@ -2,7 +2,7 @@
 ghost use Rattle.std.specs.Prelude.{◌≡◌, ◌<◌, ℕ, IfOk, List, None, Option, length, map};
 ghost use Rattle.xm_day.specs.Answers.{FileRun, RowsTaken};
 ghost use Rattle.xm_day.specs.Sections.{RowsStated};
-ghost use Rattle.xm_day.specs.Statement.{statement};
+ghost use Rattle.xm_statement.specs.Statement.{statement};
 ghost use Rattle.xm_day.specs.declared.report.AskedTexts.{AskedTexts};
 ghost use Rattle.xm_rules.specs.Step.{replay};
 ghost use Rattle.xm_segment.specs.Opening.{segment_fault};
@@ -11,14 +11,13 @@ use crate::desks::OpenDay;
 use crate::faults::DayFault;
 use crate::report::DayReport;
 use crate::sections::push_sections;
-use crate::statements::{push_day, push_rows, room_for_trades, statement_text};
-use crate::traded::push_members;
 use std::alloc::Global;
 use std::thread::Threads;
 use xm_desk::Desk;
 use xm_files::SegmentNames;
 use xm_memory::OutOfMemory;
 use xm_segment::SegmentConfig;
+use xm_statement::{push_day, push_members, push_rows, room_for_trades, statement_text};
 
 /// A day whose rows are taken, with the text of its statement.
 #[derive(Drop)]
@@ -40,7 +39,13 @@ pub(crate) fn stated(
     ensures each { IfOk result (λ made. length made.day.desks.items ≡ length config.now.securities) }
 {
     let day = taken?;
-    let text = statement_text(alloc, day.desks.as_slice(), names, &day.report)?;
+    let text = statement_text(
+        alloc,
+        day.desks.as_slice(),
+        names,
+        day.report.accepted,
+        day.report.refused,
+    )?;
     Ok(StatedDay { day, text })
 }
 
@@ -90,6 +95,6 @@ fn statement_apart<T: Threads + Sync>(
     push_day(&mut text, desks[0].settings().today)?;
     let desks = push_sections(rt, threads, &mut text, desks, names)?;
     push_members(&mut text, desks.as_slice(), names)?;
-    push_rows(&mut text, report)?;
+    push_rows(&mut text, report.accepted, report.refused)?;
     Ok((desks, text))
 }

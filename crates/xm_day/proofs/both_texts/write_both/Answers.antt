@@ -1,7 +1,7 @@
 use Rattle.std.proofs.Common.{ℕ, List, OnOk, map, subst, ◌∙◌}
 use Rattle.std.specs.Io.KnownBytes.{Appends}
 use Rattle.xm_day.specs.CarriedDays.{IsCutOff, Outputs}
-use Rattle.xm_day.specs.Carry.{carry_text}
+use Rattle.xm_statement.specs.Carry.{carry_text}
 use Rattle.xm_rules.specs.Step.{replay}
 use Rattle.xm_day.proofs.both_texts.write_both.Goals as goal
 

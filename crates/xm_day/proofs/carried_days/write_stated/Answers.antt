@@ -5,7 +5,7 @@ use Rattle.xm_day.proofs.Endings.{rows-of-file, unwritten-ends}
 use Rattle.xm_files.proofs.PassedErrors.{is_passed}
 use Rattle.xm_day.specs.Answers.{DayOfRowsEnds, FileRun, InFileOrder, statement_of}
 use Rattle.xm_day.specs.CarriedDays.{BothEnd, IsCutOff, Outputs}
-use Rattle.xm_day.specs.Carry.{carry_text}
+use Rattle.xm_statement.specs.Carry.{carry_text}
 use Rattle.xm_day.specs.Day.{day_of}
 use Rattle.xm_day.specs.Sections.{RowsStated}
 use Rattle.xm_day.specs.declared.faults.DayFault.{DayFault}

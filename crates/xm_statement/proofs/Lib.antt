@@ -1,0 +1,6 @@
+mod Lines
+mod CashSums
+mod Leaving
+mod LeftInRange
+mod CarryTexts
+mod CarriedBack
