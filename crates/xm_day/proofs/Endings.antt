@@ -1,20 +1,18 @@
 -- How a run of a day ends.
 use Rattle.std.proofs.Common.{◌≡◌, refl, ℕ, List, Option, None, Some, Result, Ok, Err, IfErr, IfOk, IfSome, length, sym, subst}
-use Rattle.std.specs.Result.{IsErrAnd}
-use Rattle.xm_day.specs.Answers.{AreRowsOf, AsksNothing, DayOfRowsEnds, FileRun, HasTaken, InFileOrder, IsSegmentOf, RowsTaken}
+use Rattle.xm_day.specs.Answers.{AreRowsOf, DayOfRowsEnds, FileRun, InFileOrder, IsOfWriting, IsSegmentOf, RowsStated}
+use Rattle.xm_rows.specs.Taken.{HasTaken, RowsTaken}
 use Rattle.xm_day.specs.Checks.{CheckEnds, OpeningEnds}
-use Rattle.xm_day.specs.Sections.{RowsStated}
-use Rattle.xm_day.specs.declared.desks.OpenDay.{OpenDay}
+use Rattle.xm_rows.specs.declared.desks.OpenDay.{OpenDay}
 use Rattle.xm_files.specs.Orders.{orders_of}
-use Rattle.xm_day.specs.Day.{Day, LacksMemoryAt, opening_day}
+use Rattle.xm_rows.specs.Day.{Day}
 use Rattle.xm_segment.specs.Opening.{segment_fault}
-use Rattle.xm_day.specs.Answers.{IsOfWriting}
 use Rattle.xm_files.specs.Names.{NameLists}
 use Rattle.xm_segment.specs.declared.config.SegmentConfig.{SegmentConfig}
-use Rattle.xm_day.specs.declared.faults.DayFault.{DayFault}
-use Rattle.xm_day.specs.declared.report.AskedTexts.{AskedTexts}
-use Rattle.xm_day.specs.declared.report.DayReport.{DayReport}
-use Rattle.xm_day.specs.declared.faults.DayFault.TheVariants.{Segment, Carry, Orders, Open, OutOfMemory, WriteFailed}
+use Rattle.xm_rows.specs.declared.faults.DayFault.{DayFault}
+use Rattle.xm_rows.specs.declared.report.AskedTexts.{AskedTexts}
+use Rattle.xm_rows.specs.declared.report.DayReport.{DayReport}
+use Rattle.xm_rows.specs.declared.faults.DayFault.TheVariants.{Segment, Carry, Orders, Open, OutOfMemory, WriteFailed}
 use Rattle.xm_segment.specs.declared.rows.Row.{Row}
 
 -- what was to be written was not, or not all of it
@@ -38,12 +36,6 @@ rows-of-file (Some known) config names bytes rows are read = subst (λ (b : List
 pub failed-of_writing : {A : Type 0} (r : Result A DayFault) → IfErr r (λ fault. fault ≡ WriteFailed) → IfErr r IsOfWriting
 failed-of_writing (Ok done) is = tt
 failed-of_writing (Err fault) is = subst IsOfWriting (sym is) tt
-
--- want of memory is told as such
-pub if_memory : (asked : AskedTexts) (names : NameLists) (orders : List ℕ) (config : SegmentConfig) (rows : List Row) (result : Result OpenDay DayFault) → IsErrAnd result (λ fault. fault ≡ OutOfMemory tt) → segment_fault config ≡ None
-    → (AsksNothing asked → LacksMemoryAt (opening_day config) rows) → HasTaken asked names orders config rows result
-if_memory asked names orders config rows (Ok d) is sound lacks = absurd is
-if_memory asked names orders config rows (Err fault) is sound lacks = subst (λ (f : DayFault). HasTaken asked names orders config rows (Err f)) (sym is) (sound, lacks)
 
 -- a segment file was read, and its segment checked
 pub CheckEnds-read : (segment old new : Option (List ℕ)) (config : SegmentConfig) (names : NameLists) (result : Result (Unit {0}) DayFault) → IsSegmentOf segment config names → OpeningEnds config old new result

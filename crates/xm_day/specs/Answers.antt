@@ -1,29 +1,24 @@
 -- How the run of a day ends: what it answers, and what the output holds before and after. The bytes of a file may be unknown.
-use Rattle.std.specs.Prelude.{◌≡◌, ℕ, ◌+◌, Bool, false, true, List, [], length, Option, None, Some, Result, Ok, Err, IfSome}
+use Rattle.std.specs.Prelude.{◌≡◌, ℕ, Bool, false, true, List, [], Option, None, Result, Ok, Err, IfSome}
 use Rattle.std.specs.Bool.{OnFalse, OnTrue}
 use Rattle.std.specs.Io.KnownBytes.{Appends}
-use Rattle.xm_day.specs.Day.{Day, LacksMemoryAt, day, day_of, opening_day}
+use Rattle.xm_rows.specs.Day.{Day, day, day_of}
+use Rattle.xm_rows.specs.Taken.{IsOpenFault, TookRows}
+use Rattle.xm_day.specs.declared.stated.StatedDay.{StatedDay}
 use Rattle.xm_segment.specs.Opening.{segment_fault}
-use Rattle.xm_day.specs.declared.desks.OpenDay.{OpenDay}
-use Rattle.xm_files.specs.Batches.{RowsLeft, rows_from}
 use Rattle.xm_files.specs.FileFaults.{is_from_outside}
 use Rattle.xm_files.specs.Names.{NameLists}
 use Rattle.xm_files.specs.Orders.{orders_of}
 use Rattle.xm_files.specs.Segment.{segment_of}
-use Rattle.xm_day.specs.Feeds.{feed_of}
-use Rattle.xm_day.specs.RowAnswers.{answers_text, where_asked}
 use Rattle.xm_statement.specs.Statement.{statement}
 use Rattle.xm_segment.specs.declared.config.SegmentConfig.{SegmentConfig}
-use Rattle.xm_day.specs.declared.report.AskedTexts.{AskedTexts}
-use Rattle.xm_day.specs.declared.report.DayReport.{DayReport}
-use Rattle.xm_day.specs.declared.report.ToldDay.{ToldDay}
-use Rattle.xm_day.specs.declared.told.Told.{Told}
-use Rattle.xm_day.specs.declared.faults.DayFault.{DayFault}
-use Rattle.xm_day.specs.declared.faults.DayFault.TheVariants.{Segment, Carry, Orders, Open, OutOfMemory, WriteFailed}
+use Rattle.xm_rows.specs.declared.report.AskedTexts.{AskedTexts}
+use Rattle.xm_rows.specs.declared.report.DayReport.{DayReport}
+use Rattle.xm_rows.specs.declared.report.ToldDay.{ToldDay}
+use Rattle.xm_rows.specs.declared.faults.DayFault.{DayFault}
+use Rattle.xm_rows.specs.declared.faults.DayFault.TheVariants.{Segment, Carry, Orders, Open, OutOfMemory, WriteFailed}
 use Rattle.xm_files.specs.declared.file_faults.FileFault.{FileFault}
 use Rattle.xm_segment.specs.declared.rows.Row.{Row}
-use Rattle.xm_desk.specs.declared.opening.OpenFault.{OpenFault}
-use Rattle.xm_desk.specs.declared.opening.OpenFault.TheVariants as opening
 use Rattle.xm_ticks.specs.Writing.{AppendsPrefix}
 
 -- the settings and the names are those of the segment file
@@ -38,11 +33,6 @@ AreRowsOf file config names rows = IfSome file (λ bytes. orders_of names config
 pub record IsFileFault {A : Type 0} (reads : List ℕ → Result A FileFault) (file : Option (List ℕ)) (fault : FileFault) : Type 0 where
   pub of_bytes : OnFalse (is_from_outside fault.cause) (IfSome file (λ bytes. reads bytes ≡ Err fault))
   pub from_outside : OnTrue (is_from_outside fault.cause) (fault.line ≡ 0)
-
--- the first limit that the segment does not keep, or memory is wanting where it keeps them all
-abbrev pub IsOpenFault : SegmentConfig → OpenFault → Type 0
-IsOpenFault config (opening.OutOfMemory _) = segment_fault config ≡ None
-IsOpenFault config fault = segment_fault config ≡ Some fault
 
 abbrev pub statement_of : NameLists → Day → List ℕ
 statement_of names d = statement names d.states d.accepted d.refused
@@ -65,58 +55,19 @@ pub record WritesPart (days : Day → Type 0) (names : NameLists) (old new : Opt
   pub is_of_rows : days day
   pub written : AppendsPrefix old new (statement_of names day)
 
--- the statement alone is asked for
-pub record AsksNothing (asked : AskedTexts) : Type 0 where
-  pub answers : asked.answers ≡ false
-  pub depth : asked.depth ≡ false
-
--- nothing is told beside it
-pub record TellsNothing (told : Told) : Type 0 where
-  pub answers : told.answers ≡ None
-  pub depth : told.depth ≡ None
-
--- desks have taken these rows of an order file of these bytes in their order: their day is that of the rows, and so are the texts that are asked for
-pub record TookRows (asked : AskedTexts) (names : NameLists) (orders : List ℕ) (config : SegmentConfig) (rows : List Row) (d : OpenDay) : Type 0 where
-  pub sound : segment_fault config ≡ None
-  pub each : length d.desks.items ≡ length config.securities
-  pub day_is : day_of d.desks.items d.report.accepted d.report.refused ≡ day config rows
-  pub all : d.report.accepted + d.report.refused ≡ length rows
-  pub answers_are : d.told.answers ≡ where_asked asked.answers (answers_text names config orders rows)
-  pub depth_is : d.told.depth ≡ where_asked asked.depth (feed_of names config rows)
-
--- the desks have taken these rows, unless the segment can't be opened or memory is wanting, where nothing is asked for at one
--- of them
-abbrev pub HasTaken : AskedTexts → NameLists → List ℕ → SegmentConfig → List Row → Result OpenDay DayFault → Type 0
-HasTaken asked names orders config rows (Ok d) = TookRows asked names orders config rows d
-HasTaken asked names orders config rows (Err (Open fault)) = IsOpenFault config fault
-HasTaken asked names orders config rows (Err (OutOfMemory _)) = (segment_fault config ≡ None) × (AsksNothing asked → LacksMemoryAt (opening_day config) rows)
-HasTaken asked names orders config rows (Err fault) = ⊥
-
--- the same, where it isn't told at which row memory is wanting
-abbrev pub RowsTaken : AskedTexts → NameLists → List ℕ → SegmentConfig → List Row → Result OpenDay DayFault → Type 0
-RowsTaken asked names orders config rows (Ok d) = TookRows asked names orders config rows d
-RowsTaken asked names orders config rows (Err (Open fault)) = IsOpenFault config fault
-RowsTaken asked names orders config rows (Err (OutOfMemory _)) = segment_fault config ≡ None
-RowsTaken asked names orders config rows (Err fault) = ⊥
-
--- the desks are those of a day that the rows may have, unless the segment can't be opened or memory is wanting
-abbrev pub DesksEnd : (SegmentConfig → List Row → Day → Type 0) → SegmentConfig → List Row → Result OpenDay DayFault → Type 0
-DesksEnd days config rows (Ok d) =
-    (segment_fault config ≡ None) × (length d.desks.items ≡ length config.securities) × days config rows (day_of d.desks.items d.report.accepted d.report.refused)
-DesksEnd days config rows (Err (Open fault)) = IsOpenFault config fault
-DesksEnd days config rows (Err (OutOfMemory _)) = segment_fault config ≡ None
-DesksEnd days config rows (Err fault) = ⊥
-
--- what has taken the rows of an order file, if it has no fault
-abbrev pub RowsRun : {A : Type 0} → (SegmentConfig → List Row → A → Type 0) → SegmentConfig → NameLists → RowsLeft → Result A FileFault → Type 0
-RowsRun taken config names file (Ok day) = (rows : List Row) × (rows_from names config file [] ≡ Ok rows) × taken config rows day
-RowsRun taken config names file (Err fault) = OnFalse (is_from_outside fault.cause) (rows_from names config file [] ≡ Err fault) × OnTrue (is_from_outside fault.cause) (fault.line ≡ 0)
-
 -- what has taken the rows of an order file, or the fault of the file
 abbrev pub FileRun : {A : Type 0} → (List ℕ → SegmentConfig → List Row → Result A DayFault → Type 0) → SegmentConfig → NameLists → Option (List ℕ) → Result A DayFault → Type 0
 FileRun taken config names orders (Err (Orders fault)) = IsFileFault (orders_of names config) orders fault
 FileRun taken config names orders result =
     (bytes : List ℕ) × IfSome orders (λ known. bytes ≡ known) × (rows : List Row) × (orders_of names config bytes ≡ Ok rows) × taken bytes config rows result
+
+-- the desks have taken these rows, and the text is the statement of their day, unless the segment can't be opened or memory is wanting
+abbrev pub RowsStated : AskedTexts → NameLists → List ℕ → SegmentConfig → List Row → Result StatedDay DayFault → Type 0
+RowsStated asked names orders config rows (Ok s) =
+    TookRows asked names orders config rows s.day × (s.text.items ≡ statement_of names (day_of s.day.desks.items s.day.report.accepted s.day.report.refused))
+RowsStated asked names orders config rows (Err (Open fault)) = IsOpenFault config fault
+RowsStated asked names orders config rows (Err (OutOfMemory _)) = segment_fault config ≡ None
+RowsStated asked names orders config rows (Err fault) = ⊥
 
 -- how the statement of one of these days is written
 abbrev pub StatementEnds : Option (List ℕ) → Option (List ℕ) → NameLists → (Day → Type 0) → Result DayReport DayFault → Type 0

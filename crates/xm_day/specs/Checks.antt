@@ -3,9 +3,10 @@
 use Rattle.std.specs.Prelude.{◌≡◌, ℕ, List, ◌++◌, codes, length, Option, None, Result, Ok, Err}
 use Rattle.std.specs.Fmt.{decimal}
 use Rattle.std.specs.Io.KnownBytes.{Appends}
-use Rattle.xm_day.specs.Answers.{IsFileFault, IsOpenFault, IsSegmentOf}
-use Rattle.xm_day.specs.declared.faults.DayFault.{DayFault}
-use Rattle.xm_day.specs.declared.faults.DayFault.TheVariants.{Segment, Carry, Orders, Open, OutOfMemory, WriteFailed}
+use Rattle.xm_day.specs.Answers.{IsFileFault, IsSegmentOf}
+use Rattle.xm_rows.specs.Taken.{IsOpenFault}
+use Rattle.xm_rows.specs.declared.faults.DayFault.{DayFault}
+use Rattle.xm_rows.specs.declared.faults.DayFault.TheVariants.{Segment, Carry, Orders, Open, OutOfMemory, WriteFailed}
 use Rattle.xm_files.specs.Names.{NameLists}
 use Rattle.xm_files.specs.Segment.{segment_of}
 use Rattle.xm_segment.specs.Opening.{segment_fault}

@@ -1,13 +1,4 @@
 pub mod Answers
 pub mod CarriedDays
 pub mod Checks
-pub mod Day
 pub mod Examples
-pub mod Feeds
-pub mod KeptLines
-pub mod Lanes
-pub mod MarketDepth
-pub mod RowAnswers
-pub mod Sections
-pub mod Standing
-pub mod Workers

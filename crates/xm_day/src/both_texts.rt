@@ -8,13 +8,12 @@ ghost use Rattle.xm_statement.specs.Statement.{statement};
 ghost use Rattle.xm_rules.specs.Step.{replay};
 ghost use Rattle.xm_ticks.specs.Writing.{AppendsPrefix};
 
-use crate::faults::DayFault;
-use crate::report::DayReport;
 use crate::texts::write_text;
 use std::alloc::Allocator;
 use std::io::Write;
 use xm_desk::Desk;
 use xm_files::SegmentNames;
+use xm_rows::{DayFault, DayReport};
 use xm_statement::{carry_text, statement_text};
 
 /// Writes the statement of the desks of a segment, sees that all of it went out, and then writes, to another output, their carry

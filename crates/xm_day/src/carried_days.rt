@@ -1,16 +1,13 @@
 //! The day of a segment that opens with what earlier days left, and hands on what it leaves.
 ghost use Rattle.std.specs.Prelude.{◌≡◌, ◌≢◌, ◌≤◌, ℕ, IfErr, IfOk, List, Option, length};
-ghost use Rattle.xm_day.specs.Answers.{DayOfRowsEnds, FileRun, InFileOrder};
+ghost use Rattle.xm_day.specs.Answers.{DayOfRowsEnds, FileRun, InFileOrder, RowsStated};
 ghost use Rattle.xm_day.specs.CarriedDays.{BothEnd, CarriedDayEnds, OpeningRead};
-ghost use Rattle.xm_day.specs.Sections.{RowsStated};
-ghost use Rattle.xm_day.specs.Workers.{IsShared};
-ghost use Rattle.xm_day.specs.declared.report.AskedTexts.{AskedTexts};
+ghost use Rattle.xm_workers.specs.Workers.{IsShared};
+ghost use Rattle.xm_rows.specs.declared.report.AskedTexts.{AskedTexts};
 ghost use Rattle.xm_segment.specs.declared.opening.TheConstants.{MAX_WORKERS};
 
 use crate::both_texts::{write_both, write_made};
-use crate::faults::DayFault;
 use crate::order_file::{share_orders, take_orders};
-use crate::report::{AskedTexts, DayReport};
 use crate::stated::{StatedDay, stated};
 use std::alloc::Global;
 use std::io::{Read, Write};
@@ -18,6 +15,7 @@ use std::sync::Wait;
 use std::thread::Threads;
 use xm_files::{SegmentNames, read_carry, read_segment};
 use xm_names::Storage;
+use xm_rows::{AskedTexts, DayFault, DayReport};
 use xm_segment::{Gate, SegmentConfig};
 
 /// Runs the day of a segment file, a carry file and an order file: reads the three in this order, opens each security with the

@@ -6,12 +6,12 @@ ghost use Rattle.xm_statement.specs.Carry.{carry_text};
 ghost use Rattle.xm_rules.specs.Step.{replay};
 ghost use Rattle.xm_ticks.specs.Writing.{AppendsPrefix};
 
-use crate::faults::DayFault;
 use crate::texts::write_text;
 use std::alloc::Allocator;
 use std::io;
 use xm_desk::Desk;
 use xm_files::SegmentNames;
+use xm_rows::DayFault;
 use xm_statement::carry_text;
 
 /// Writes the carry file of the desks of a segment, which are in index order: the orders and stops of each security that are

@@ -1,16 +1,16 @@
 //! The check of a segment file.
 ghost use Rattle.std.specs.Prelude.{◌≡◌, ◌≢◌, IfErr, IfOk, None, OnOk};
-ghost use Rattle.xm_day.specs.Answers.{IsOpenFault};
+ghost use Rattle.xm_rows.specs.Taken.{IsOpenFault};
 ghost use Rattle.xm_day.specs.Checks.{CheckEnds, OpeningEnds, check_line};
 ghost use Rattle.xm_segment.specs.Opening.{segment_fault};
 
-use crate::faults::DayFault;
 use std::alloc::{Allocator, Global};
 use std::io;
 use xm_desk::OpenFault;
 use xm_files::read_segment;
 use xm_memory::OutOfMemory;
 use xm_names::Storage;
+use xm_rows::DayFault;
 use xm_segment::{SegmentConfig, open_desks};
 use xm_statement::texts::{push_number, push_text};
 use xm_ticks::write_whole;

@@ -1,16 +1,13 @@
 //! The day of a segment, from its files to its statement.
 ghost use Rattle.std.specs.Prelude.{◌≡◌, ◌≢◌, ◌≤◌, ℕ, IfErr, IfOk, List, Option, length};
-ghost use Rattle.xm_day.specs.Answers.{DayEnds, FileRun, InFileOrder, IsAsked, IsTextOfFiles, IsTextOfRows, OrdersEnd, report_in};
-ghost use Rattle.xm_day.specs.MarketDepth.{depth_text};
-ghost use Rattle.xm_day.specs.RowAnswers.{answers_text};
-ghost use Rattle.xm_day.specs.Sections.{RowsStated};
-ghost use Rattle.xm_day.specs.Workers.{IsShared};
-ghost use Rattle.xm_day.specs.declared.report.AskedTexts.{AskedTexts};
+ghost use Rattle.xm_day.specs.Answers.{DayEnds, FileRun, InFileOrder, IsAsked, IsTextOfFiles, IsTextOfRows, OrdersEnd, RowsStated, report_in};
+ghost use Rattle.xm_rows.specs.MarketDepth.{depth_text};
+ghost use Rattle.xm_rows.specs.RowAnswers.{answers_text};
+ghost use Rattle.xm_workers.specs.Workers.{IsShared};
+ghost use Rattle.xm_rows.specs.declared.report.AskedTexts.{AskedTexts};
 ghost use Rattle.xm_segment.specs.declared.opening.TheConstants.{MAX_WORKERS};
 
-use crate::faults::DayFault;
 use crate::order_file::{share_orders, take_orders};
-use crate::report::{AskedTexts, DayReport, ToldDay};
 use crate::stated::{StatedDay, stated};
 use crate::statements::statement;
 use crate::texts::write_text;
@@ -20,6 +17,7 @@ use std::sync::Wait;
 use std::thread::Threads;
 use xm_files::{SegmentNames, read_segment};
 use xm_names::Storage;
+use xm_rows::{AskedTexts, DayFault, DayReport, ToldDay};
 use xm_segment::{Gate, SegmentConfig};
 
 /// Runs the day of a segment whose file is read: reads the order file, takes its rows, and writes

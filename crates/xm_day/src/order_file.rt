@@ -1,22 +1,20 @@
 //! The desks of a segment that have taken an order file.
 ghost use Rattle.std.specs.Prelude.{◌≡◌, ◌≤◌, length};
-ghost use Rattle.xm_day.specs.Answers.{DesksEnd, FileRun, HasTaken, RowsTaken};
-ghost use Rattle.xm_day.specs.Workers.{IsShared};
+ghost use Rattle.xm_rows.specs.Taken.{DesksEnd, HasTaken, RowsTaken};
+ghost use Rattle.xm_day.specs.Answers.{FileRun};
+ghost use Rattle.xm_workers.specs.Workers.{IsShared};
 ghost use Rattle.xm_segment.specs.declared.opening.TheConstants.{MAX_WORKERS};
 
-use crate::batches::run_apart;
-use crate::desks::OpenDay;
-use crate::faults::DayFault;
-use crate::report::AskedTexts;
-use crate::runs::run_rows;
-use crate::shared_day::run_shared;
 use std::alloc::Global;
 use std::io::Read;
 use std::sync::Wait;
 use std::thread::Threads;
 use xm_files::{SegmentNames, read_orders};
 use xm_names::Storage;
+use xm_rows::{AskedTexts, DayFault, OpenDay, run_rows};
 use xm_segment::{Gate, SegmentConfig};
+use xm_threads::run_apart;
+use xm_workers::run_shared;
 
 /// Reads an order file, and has the desks of a segment take its rows in their order, which tell the texts that are asked for.
 pub(crate) fn take_orders<R: Read>(

@@ -1,23 +1,21 @@
 //! Days with their statements.
 ghost use Rattle.std.specs.Prelude.{◌≡◌, ◌<◌, ℕ, IfOk, List, None, Option, length, map};
-ghost use Rattle.xm_day.specs.Answers.{FileRun, RowsTaken};
-ghost use Rattle.xm_day.specs.Sections.{RowsStated};
+ghost use Rattle.xm_day.specs.Answers.{FileRun, RowsStated};
+ghost use Rattle.xm_rows.specs.Taken.{RowsTaken};
 ghost use Rattle.xm_statement.specs.Statement.{statement};
-ghost use Rattle.xm_day.specs.declared.report.AskedTexts.{AskedTexts};
+ghost use Rattle.xm_rows.specs.declared.report.AskedTexts.{AskedTexts};
 ghost use Rattle.xm_rules.specs.Step.{replay};
 ghost use Rattle.xm_segment.specs.Opening.{segment_fault};
 
-use crate::desks::OpenDay;
-use crate::faults::DayFault;
-use crate::report::DayReport;
-use crate::sections::push_sections;
 use std::alloc::Global;
 use std::thread::Threads;
 use xm_desk::Desk;
 use xm_files::SegmentNames;
 use xm_memory::OutOfMemory;
+use xm_rows::{DayFault, DayReport, OpenDay};
 use xm_segment::SegmentConfig;
 use xm_statement::{push_day, push_members, push_rows, room_for_trades, statement_text};
+use xm_threads::push_sections;
 
 /// A day whose rows are taken, with the text of its statement.
 #[derive(Drop)]

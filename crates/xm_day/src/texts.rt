@@ -3,8 +3,8 @@ ghost use Rattle.std.specs.Prelude.{◌≡◌, IfErr, OnErr, OnOk};
 ghost use Rattle.std.specs.Io.KnownBytes.{Appends};
 ghost use Rattle.xm_ticks.specs.Writing.{AppendsPrefix};
 
-use crate::faults::DayFault;
 use std::io;
+use xm_rows::DayFault;
 use xm_ticks::write_whole;
 
 /// Writes a text.

@@ -2,20 +2,19 @@
 ghost use Rattle.std.specs.Prelude.{◌≡◌, ◌≢◌, ◌≤◌, IfErr, IfOk, length};
 ghost use Rattle.xm_day.specs.Answers.{DayEnds, DayOfRowsEnds, InFileOrder, IsAsked, IsTextOfFiles, IsTextOfRows, OrdersEnd, report_in};
 ghost use Rattle.xm_day.specs.CarriedDays.{BothEnd, CarriedDayEnds};
-ghost use Rattle.xm_day.specs.MarketDepth.{depth_text};
-ghost use Rattle.xm_day.specs.RowAnswers.{answers_text};
+ghost use Rattle.xm_rows.specs.MarketDepth.{depth_text};
+ghost use Rattle.xm_rows.specs.RowAnswers.{answers_text};
 
 use crate::carried_days::{carry_alone, read_opening, write_stated};
 use crate::day::{run_told, write_statement};
-use crate::faults::DayFault;
 use crate::order_file::take_orders_apart;
-use crate::report::{AskedTexts, DayReport, ToldDay};
 use crate::stated::stated_apart;
 use std::alloc::Global;
 use std::io::{Read, Write};
 use std::thread::Threads;
 use xm_files::{SegmentNames, read_segment};
 use xm_names::Storage;
+use xm_rows::{AskedTexts, DayFault, DayReport, ToldDay};
 use xm_segment::SegmentConfig;
 
 /// Runs the day of a segment file and an order file as `run_told` does, on so many threads: each takes the rows of securities

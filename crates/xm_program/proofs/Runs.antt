@@ -16,7 +16,7 @@ use Rattle.clap.specs.declared.error.kind.ErrorKind.{ErrorKind}
 use Rattle.clap.specs.declared.error.kind.ErrorKind.TheVariants as kind
 use Rattle.clap.proofs.OnLiterals.{clap_on_literals}
 use Rattle.clap.proofs.WalkLemmas.{both}
-use Rattle.xm_day.specs.declared.faults.DayFault.TheVariants as day
+use Rattle.xm_rows.specs.declared.faults.DayFault.TheVariants as day
 use Rattle.xm_program.specs.declared.requests.Failure.TheVariants.{Day}
 use Rattle.xm_program.specs.declared.requests.Request.{Request}
 use Rattle.xm_program.specs.declared.requests.Request.TheVariants.{Run, RunTold, Carry, Check, Help}

@@ -5,10 +5,10 @@ use Rattle.xm_day.proofs.Written.{appended}
 use Rattle.xm_day.specs.Answers.{DayEnds, InFileOrder}
 use Rattle.xm_day.specs.CarriedDays.{CarriedDayEnds}
 use Rattle.xm_day.specs.Checks.{CheckEnds}
-use Rattle.xm_day.specs.Day.{Day}
-use Rattle.xm_day.specs.Workers.{IsShared}
-use Rattle.xm_day.specs.declared.report.DayReport.{DayReport}
-use Rattle.xm_day.specs.declared.faults.DayFault.{DayFault}
+use Rattle.xm_rows.specs.Day.{Day}
+use Rattle.xm_workers.specs.Workers.{IsShared}
+use Rattle.xm_rows.specs.declared.report.DayReport.{DayReport}
+use Rattle.xm_rows.specs.declared.faults.DayFault.{DayFault}
 use Rattle.xm_program.specs.Days.{EndsBy}
 use Rattle.xm_program.specs.declared.concurrency.Concurrency.{Concurrency}
 use Rattle.xm_program.specs.declared.concurrency.Concurrency.TheVariants.{Threads, Workers}

@@ -5,10 +5,10 @@ use Rattle.std.proofs.lemmas.List.{append-nil}
 use Rattle.std.specs.Io.KnownBytes.{Appends, Keeps}
 use Rattle.xm_day.proofs.Written.{appended}
 use Rattle.xm_day.specs.Answers.{DayEnds, InFileOrder}
-use Rattle.xm_day.specs.declared.report.DayReport.{DayReport}
-use Rattle.xm_day.specs.declared.faults.DayFault.{DayFault}
-use Rattle.xm_day.specs.declared.faults.DayFault.TheVariants.{WriteFailed}
-use Rattle.xm_day.specs.declared.report.AskedTexts.{AskedTexts}
+use Rattle.xm_rows.specs.declared.report.DayReport.{DayReport}
+use Rattle.xm_rows.specs.declared.faults.DayFault.{DayFault}
+use Rattle.xm_rows.specs.declared.faults.DayFault.TheVariants.{WriteFailed}
+use Rattle.xm_rows.specs.declared.report.AskedTexts.{AskedTexts}
 use Rattle.xm_program.specs.Days.{AppendsBeginning, AreTexts, BeginsBoth, ToldRunEnds}
 use Rattle.xm_program.specs.FaultLines.{told}
 use Rattle.xm_program.proofs.Sent.{day-sent}

@@ -4,14 +4,14 @@ use Rattle.std.specs.Io.KnownBytes.{Appends}
 use Rattle.xm_day.specs.Answers.{DayEnds, InFileOrder, IsAsked, IsTextOfFiles}
 use Rattle.xm_day.specs.CarriedDays.{CarriedDayEnds, Outputs}
 use Rattle.xm_day.specs.Checks.{CheckEnds}
-use Rattle.xm_day.specs.Day.{Day}
-use Rattle.xm_day.specs.MarketDepth.{depth_text}
-use Rattle.xm_day.specs.RowAnswers.{answers_text}
-use Rattle.xm_day.specs.Workers.{IsShared}
-use Rattle.xm_day.specs.declared.report.AskedTexts.{AskedTexts}
-use Rattle.xm_day.specs.declared.report.DayReport.{DayReport}
-use Rattle.xm_day.specs.declared.faults.DayFault.{DayFault}
-use Rattle.xm_day.specs.declared.faults.DayFault.TheVariants.{WriteFailed}
+use Rattle.xm_rows.specs.Day.{Day}
+use Rattle.xm_rows.specs.MarketDepth.{depth_text}
+use Rattle.xm_rows.specs.RowAnswers.{answers_text}
+use Rattle.xm_workers.specs.Workers.{IsShared}
+use Rattle.xm_rows.specs.declared.report.AskedTexts.{AskedTexts}
+use Rattle.xm_rows.specs.declared.report.DayReport.{DayReport}
+use Rattle.xm_rows.specs.declared.faults.DayFault.{DayFault}
+use Rattle.xm_rows.specs.declared.faults.DayFault.TheVariants.{WriteFailed}
 use Rattle.xm_program.specs.FaultLines.{told}
 use Rattle.xm_program.specs.declared.concurrency.Concurrency.{Concurrency}
 use Rattle.xm_program.specs.declared.concurrency.Concurrency.TheVariants.{Threads, Workers}

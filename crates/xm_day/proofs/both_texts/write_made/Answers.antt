@@ -2,7 +2,7 @@ use Rattle.std.proofs.Common.{ℕ, List, OnOk, map, inr, subst, ◌∙◌}
 use Rattle.std.specs.Io.KnownBytes.{Appends}
 use Rattle.xm_day.proofs.Cutting.{cut-first}
 use Rattle.xm_day.proofs.Endings.{failed-of_writing}
-use Rattle.xm_day.proofs.Merging.{always-ok}
+use Rattle.xm_rows.proofs.Then.{always-ok}
 use Rattle.xm_rules.specs.Step.{replay}
 use Rattle.xm_ticks.specs.Writing.{AppendsPrefix}
 use Rattle.xm_day.proofs.both_texts.write_made.Goals as goal

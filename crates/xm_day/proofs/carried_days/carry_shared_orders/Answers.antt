@@ -4,10 +4,10 @@ use Rattle.xm_day.proofs.Endings.{rows-of-file, unwritten-ends}
 use Rattle.xm_files.proofs.PassedErrors.{is_passed}
 use Rattle.xm_day.specs.Answers.{DayOfRowsEnds}
 use Rattle.xm_day.specs.CarriedDays.{BothEnd, Outputs}
-use Rattle.xm_day.specs.Day.{day_of}
-use Rattle.xm_day.specs.Workers.{IsShared}
-use Rattle.xm_day.specs.declared.faults.DayFault.{DayFault}
-use Rattle.xm_day.specs.declared.report.DayReport.{DayReport}
+use Rattle.xm_rows.specs.Day.{day_of}
+use Rattle.xm_workers.specs.Workers.{IsShared}
+use Rattle.xm_rows.specs.declared.faults.DayFault.{DayFault}
+use Rattle.xm_rows.specs.declared.report.DayReport.{DayReport}
 use Rattle.xm_day.proofs.carried_days.carry_shared_orders.Goals as goal
 
 pub returns-in_err-write_both-clause-ends : goal.returns-in_err-write_both-clause-ends

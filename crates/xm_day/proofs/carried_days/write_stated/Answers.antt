@@ -3,13 +3,12 @@ use Rattle.std.specs.Io.KnownBytes.{Appends}
 use Rattle.xm_rules.specs.Step.{Journal, replay}
 use Rattle.xm_day.proofs.Endings.{rows-of-file, unwritten-ends}
 use Rattle.xm_files.proofs.PassedErrors.{is_passed}
-use Rattle.xm_day.specs.Answers.{DayOfRowsEnds, FileRun, InFileOrder, statement_of}
+use Rattle.xm_day.specs.Answers.{DayOfRowsEnds, FileRun, InFileOrder, RowsStated, statement_of}
 use Rattle.xm_day.specs.CarriedDays.{BothEnd, IsCutOff, Outputs}
 use Rattle.xm_statement.specs.Carry.{carry_text}
-use Rattle.xm_day.specs.Day.{day_of}
-use Rattle.xm_day.specs.Sections.{RowsStated}
-use Rattle.xm_day.specs.declared.faults.DayFault.{DayFault}
-use Rattle.xm_day.specs.declared.report.DayReport.{DayReport}
+use Rattle.xm_rows.specs.Day.{day_of}
+use Rattle.xm_rows.specs.declared.faults.DayFault.{DayFault}
+use Rattle.xm_rows.specs.declared.report.DayReport.{DayReport}
 use Rattle.xm_files.specs.Names.{NameLists}
 use Rattle.xm_day.proofs.carried_days.write_stated.Goals as goal
 

@@ -3,10 +3,10 @@ use Rattle.xm_rules.specs.Step.{Journal}
 use Rattle.xm_day.proofs.Endings.{rows-of-file, unwritten-ends}
 use Rattle.xm_files.proofs.PassedErrors.{is_passed}
 use Rattle.xm_day.specs.Answers.{OrdersEnd, StatementEnds}
-use Rattle.xm_day.specs.Day.{day_of}
-use Rattle.xm_day.specs.Workers.{IsShared}
-use Rattle.xm_day.specs.declared.faults.DayFault.{DayFault}
-use Rattle.xm_day.specs.declared.report.DayReport.{DayReport}
+use Rattle.xm_rows.specs.Day.{day_of}
+use Rattle.xm_workers.specs.Workers.{IsShared}
+use Rattle.xm_rows.specs.declared.faults.DayFault.{DayFault}
+use Rattle.xm_rows.specs.declared.report.DayReport.{DayReport}
 use Rattle.xm_day.proofs.day.run_shared_orders.Goals as goal
 
 pub returns-in_err-statement-clause-ends : goal.returns-in_err-statement-clause-ends

@@ -1,5 +1,5 @@
 use Rattle.xm_day.proofs.Endings.{taken-anyhow}
-use Rattle.xm_day.proofs.Merging.{if_ok-then}
+use Rattle.xm_rows.proofs.Then.{if_ok-then}
 use Rattle.xm_day.proofs.day.tell_orders.Goals as goal
 
 pub returns-clause-ends : goal.returns-clause-ends

@@ -1,4 +1,4 @@
-use Rattle.xm_day.proofs.Merging.{if_ok-then}
+use Rattle.xm_rows.proofs.Then.{if_ok-then}
 use Rattle.xm_day.proofs.threaded.run_orders_apart.Goals as goal
 
 pub returns-clause-ends : goal.returns-clause-ends

@@ -1,6 +1,6 @@
 use Rattle.std.proofs.Common.{rules, ap, ◌≡◌, Ok, Err, inr, map, option_map, string_bytes}
 use Rattle.clap.specs.Words.{fault_of}
-use Rattle.xm_day.specs.declared.faults.DayFault.TheVariants.{WriteFailed}
+use Rattle.xm_rows.specs.declared.faults.DayFault.TheVariants.{WriteFailed}
 use Rattle.xm_program.specs.Requests.{AnswersWords, asked_of, carry, check, day_app, run, run_told}
 use Rattle.xm_program.specs.declared.requests.Failure.TheVariants.{Day}
 use Rattle.xm_program.specs.declared.requests.Request.TheVariants.{Run, RunTold, Carry, Check, Help}

@@ -1,5 +1,5 @@
 use Rattle.std.proofs.Common.{◌≡◌, ◌∙◌, Bool, option_map, ap₂, inl, subst, sym}
-use Rattle.xm_day.specs.declared.report.AskedTexts.{AskedTexts}
+use Rattle.xm_rows.specs.declared.report.AskedTexts.{AskedTexts}
 use Rattle.xm_program.proofs.Told.{some-map}
 use Rattle.xm_program.specs.Days.{FilesEnd}
 use Rattle.xm_program.specs.Requests.{asked_texts}

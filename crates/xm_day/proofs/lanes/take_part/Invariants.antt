@@ -1,6 +1,0 @@
-use Rattle.std.proofs.Common.{take}
-use Rattle.xm_day.specs.Lanes.{TookOwnRows}
-use Rattle.xm_day.proofs.lanes.take_part.Given as goal
-
-abbrev pub invariant-loop-row : goal.invariant-loop-row
-invariant-loop-row l = TookOwnRows l.names l.first l.fn.lanes (take l.row-index l.rows) l.lanes

@@ -1,0 +1,6 @@
+pub mod Days
+pub mod Feeding
+pub mod Places
+pub mod Tells
+pub mod Then
+mod Taking

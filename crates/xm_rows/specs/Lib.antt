@@ -1,0 +1,5 @@
+pub mod Day
+pub mod Feeds
+pub mod MarketDepth
+pub mod RowAnswers
+pub mod Taken

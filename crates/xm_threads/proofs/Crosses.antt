@@ -1,0 +1,12 @@
+-- A security may go to another thread, to take its rows and to tell of itself.
+use denote.Param.Send.{IsSend, sendable}
+use Rattle.std.proofs.Crossing.{crosses}
+use Rattle.xm_desk.proofs.Crosses.{desk-send}
+use Rattle.xm_threads.specs.contracts.lanes.Lane as Lane
+use Rattle.xm_threads.specs.contracts.sections.Section as Section
+
+pub lane-send : IsSend Lane.the_field.row
+lane-send = let a = desk-send in search (sendable, crosses) depth 30
+
+pub section-send : IsSend Section.the_field.row
+section-send = let a = desk-send in search (sendable, crosses) depth 30

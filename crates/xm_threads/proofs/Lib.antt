@@ -1,0 +1,6 @@
+mod Apart
+mod Crosses
+mod Kept
+mod Merging
+mod Sectioned
+mod Telling

@@ -1,0 +1,52 @@
+use Rattle.std.proofs.Common.{◌≡◌, ℕ, List, ◌-◌, length, map, ap, arith, ◌∙◌}
+use Rattle.std.proofs.lemmas.List.{length-map}
+use Rattle.xm_threads.proofs.Apart.{day-apart, few-accepted}
+use Rattle.xm_threads.proofs.Merging.{feed-behind}
+use Rattle.xm_rows.specs.Day.{Day, day_of}
+use Rattle.xm_threads.specs.Lanes.{LaneView}
+use Rattle.xm_rows.specs.Taken.{commands_in}
+use Rattle.xm_files.specs.Batches.{rows_so_far}
+use Rattle.xm_rules.specs.Step.{Journal, replay}
+use Rattle.xm_threads.proofs.lanes.closed.Goals as goal
+
+pub commands_in-accepted-requires : goal.commands_in-accepted-requires
+commands_in-accepted-requires c =
+    let rows = rows_so_far c.args.batch.now in
+    let few = few-accepted c.args.config.now rows c.args.lanes.items (c.requires.taken c.in_ok-told.ensures.had_memory) c.in_ok-desks.ensures.had_memory in
+    let same = ap commands_in (c.as_slice-2.ensures.value ∙ c.in_ok-desks.ensures.desks) in
+    omega (arith, few, same, c.total-rows.ensures.total, c.total-rows.ensures.few)
+
+pub overflow_sub-refused : goal.overflow_sub-refused
+overflow_sub-refused c =
+    let rows = rows_so_far c.args.batch.now in
+    let few = few-accepted c.args.config.now rows c.args.lanes.items (c.requires.taken c.in_ok-told.ensures.had_memory) c.in_ok-desks.ensures.had_memory in
+    let same = ap commands_in (c.as_slice-2.ensures.value ∙ c.in_ok-desks.ensures.desks) in
+    omega (arith, few, same, c.total-rows.ensures.total, c.commands_in-accepted.ensures)
+
+pub returns : goal.returns
+returns c = λ asked names orders tells.
+    let rows = rows_so_far c.args.batch.now in
+    let lanes = c.args.lanes.items in
+    let taken = c.requires.taken c.in_ok-told.ensures.had_memory in
+    let had = c.in_ok-desks.ensures.had_memory in
+    let told = tells c.in_ok-told.ensures.had_memory had in
+    let journals = map (λ (l : LaneView). l.journal) lanes in
+    let is = c.in_ok-desks.ensures.desks in
+    let accepted : c.commands_in-accepted.result ≡ commands_in journals = c.commands_in-accepted.ensures ∙ ap commands_in (c.as_slice-2.ensures.value ∙ is) in
+    let few = few-accepted c.args.config.now rows lanes taken had in
+    let left : c.total-rows.result - c.commands_in-accepted.result ≡ length rows - commands_in journals = omega (arith, accepted, c.total-rows.ensures.total) in
+    let apart = day-apart c.args.config.now rows lanes taken had in
+    record {
+      sound = c.requires.sound;
+      each = ap length is ∙ length-map lanes (λ (l : LaneView). l.journal) ∙ taken.each;
+      day_is =
+          ap (λ (js : List Journal). day_of js c.commands_in-accepted.result (c.total-rows.result - c.commands_in-accepted.result)) is
+          ∙ ap (λ (a : ℕ). day_of journals a (c.total-rows.result - c.commands_in-accepted.result)) accepted
+          ∙ ap (day_of journals (commands_in journals)) left
+          ∙ apart;
+      all = omega (arith, accepted, left, few, c.total-rows.ensures.total);
+      answers_are = c.in_ok-told.ensures.answers ∙ told.answers_are;
+      depth_is = c.in_ok-told.ensures.depth
+          ∙ feed-behind asked.depth names c.args.config.now rows (map replay c.as_slice.result.now) c.args.merged.levels told.levels_are
+          (ap (map replay) (c.as_slice.ensures.value ∙ is) ∙ ap (λ (d : Day). d.states) apart);
+    }

@@ -1,0 +1,15 @@
+use Rattle.std.proofs.Common.{◌≡◌, ℕ, List, [], drop, length, take}
+use Rattle.xm_rows.specs.Day.{day_of}
+use Rattle.xm_threads.specs.Lanes.{AreSame, IsTelling, keeps_levels, own_levels}
+use Rattle.xm_rows.specs.MarketDepth.{depths_of}
+use Rattle.xm_files.specs.Names.{NameLists}
+use Rattle.xm_rules.specs.Step.{Journal}
+use Rattle.xm_threads.proofs.merged.tell_levels.Given as goal
+
+abbrev pub invariant-loop-row : goal.invariant-loop-row
+invariant-loop-row l = record {
+  told : (names : NameLists) (js : List Journal) (accepted refused : ℕ) → length js ≡ length l.initial.lanes
+      → IsTelling (depths_of names (day_of js accepted refused)) (own_levels names) keeps_levels js [] l.rows l.initial.lanes l.initial.text.items l.initial.lanes l.initial.text.items
+      → IsTelling (depths_of names (day_of js accepted refused)) (own_levels names) keeps_levels js (take l.row-index l.rows) (drop l.row-index l.rows) l.initial.lanes l.initial.text.items l.lanes l.text.items;
+  same : AreSame l.initial.lanes l.lanes;
+}

@@ -1,0 +1,3 @@
+pub mod KeptLines
+pub mod Lanes
+pub mod Sections

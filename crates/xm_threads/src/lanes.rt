@@ -1,0 +1,362 @@
+//! Securities that take the rows of their segment apart, each its own.
+ghost use Rattle.std.specs.Prelude.{◌≡◌, ◌≤◌, ◌<◌, ◌+◌, ℕ, List, All, None, IfOk, IfSome, OnErr, OnOk, Some, [], false, is_some, length, map, slice_index_or};
+ghost use Rattle.xm_rows.specs.Taken.{RowsTaken, commands_in};
+ghost use Rattle.xm_rows.specs.Day.{answer_on};
+ghost use Rattle.xm_threads.specs.Lanes.{AreOpened, AreTold, AreTakenSoFar, LaneView, TookMore, TookOwnRows, fresh_lane, journal_after, lane_row, with_line};
+ghost use Rattle.xm_rows.specs.MarketDepth.{change_lines, market_depth};
+ghost use Rattle.xm_rows.specs.RowAnswers.{security_fields, where_asked};
+ghost use Rattle.xm_rows.specs.declared.report.AskedTexts.{AskedTexts};
+ghost use Rattle.xm_files.specs.Batches.{rows_so_far};
+ghost use Rattle.xm_files.specs.Names.{NameLists};
+ghost use Rattle.xm_files.specs.declared.orders.TheConstants.{MAX_ROWS};
+ghost use Rattle.xm_rules.specs.Step.{Journal, replay};
+ghost use Rattle.xm_segment.specs.Opening.{segment_fault};
+
+use crate::kept_lines::KeptLines;
+use crate::merged::Merged;
+use std::alloc::Global;
+use std::marker::Model;
+use std::thread;
+use std::thread::Threads;
+use xm_desk::Desk;
+use xm_files::{Batch, MAX_ROWS, RecordTexts, SegmentNames};
+use xm_memory::OutOfMemory;
+use xm_names::Storage;
+use xm_rows::{
+    AskedTexts, DayFault, DayReport, MarketDepth, OpenDay, by_rule, push_change, push_known,
+};
+use xm_rules::{Refusal, Reply};
+use xm_segment::{Row, SegmentConfig, open_desks};
+
+/// The desk of a security, what it tells of its rows, as far as it is asked for, and the want of memory that it met. From then on it takes
+/// no row.
+#[derive(Drop)]
+pub(crate) struct Lane {
+    desk: Desk<Global>,
+    answers: Option<KeptLines>,
+    levels: Option<KeptLines>,
+    // The levels that were shown last, where they are asked for.
+    shown: MarketDepth,
+    // The line that is being made.
+    line: Vec<u8>,
+    wanting: Option<OutOfMemory>,
+}
+
+impl Model for Lane {
+    ghost use Rattle.std.specs.Prelude.{◌≡◌, IfSome, is_some};
+    ghost use Rattle.xm_threads.specs.Lanes.{LaneView};
+    ghost use Rattle.xm_rows.specs.MarketDepth.{market_depth};
+    ghost use Rattle.xm_rules.specs.Step.{replay};
+
+    ghost Value = { LaneView };
+
+    ghost view = { λ l. record { journal = l.desk; answers = l.answers; levels = l.levels; lacks_memory = is_some l.wanting } };
+
+    ghost invariant = { λ l. IfSome l.levels (λ _. l.shown ≡ market_depth (replay l.desk)) };
+}
+
+impl Lane {
+    ghost use Rattle.std.specs.Prelude.{◌≡◌, ◌++◌, IfOk, OnErr, OnOk, false, true};
+    ghost use Rattle.xm_threads.specs.Lanes.{behind_next, fresh_lane, lane_after, next_line};
+
+    /// A desk that takes rows, of which these texts are told.
+    fn of(alloc: Global, desk: Desk<Global>, asked: AskedTexts) -> Lane
+        ensures { result ≡ fresh_lane asked desk }
+    {
+        let shown = MarketDepth::of(&desk);
+        Lane {
+            desk,
+            answers: kept_where(alloc, asked.answers),
+            levels: kept_where(alloc, asked.depth),
+            shown,
+            line: Vec::new(alloc),
+            wanting: None,
+        }
+    }
+
+    /// Takes a row of its own.
+    #[inline(always)]
+    fn take(&mut self, names: &SegmentNames, row: &Row)
+        ensures { self.new.lacks_memory ≡ false → (self.old.lacks_memory ≡ false) × (self.new ≡ lane_after names.now self.old row.now) }
+    {
+        if self.wanting.is_none() {
+            self.wanting = self.answer(names, row).err();
+        }
+    }
+
+    /// Answers a row of its own, and keeps what it tells of it.
+    #[inline(always)]
+    fn answer(&mut self, names: &SegmentNames, row: &Row) -> Result<(), OutOfMemory>
+        ensures { OnOk result (self.new ≡ lane_after names.now self.old row.now) }
+    {
+        let answer = answered(&mut self.desk, row)?;
+        let before = self.shown;
+        show(&mut self.shown, &self.levels, &self.desk);
+        keep_answer(
+            &mut self.answers,
+            &mut self.line,
+            names,
+            &self.desk,
+            row,
+            &answer,
+        )?;
+        keep_levels(
+            &mut self.levels,
+            &mut self.line,
+            names,
+            &self.desk,
+            row,
+            &before,
+            &self.shown,
+        )
+    }
+
+    /// Adds the next answer that it keeps to a text.
+    pub(crate) fn tell_answer(&mut self, text: &mut Vec<u8>) -> Result<(), OutOfMemory>
+        ensures text { OnOk result (text.new.items ≡ text.old.items ++ next_line self.old.answers) }
+        ensures left { OnOk result (self.new ≡ record self.old { answers = behind_next self.old.answers }) }
+    {
+        match &mut self.answers {
+            None => Ok(()),
+            Some(lines) => lines.take(text),
+        }
+    }
+
+    /// Adds the levels behind a row that it keeps next to a text.
+    pub(crate) fn tell_levels(&mut self, text: &mut Vec<u8>) -> Result<(), OutOfMemory>
+        ensures text { OnOk result (text.new.items ≡ text.old.items ++ next_line self.old.levels) }
+        ensures left { OnOk result (self.new ≡ record self.old { levels = behind_next self.old.levels }) }
+    {
+        match &mut self.levels {
+            None => Ok(()),
+            Some(lines) => lines.take(text),
+        }
+    }
+
+    /// The desk, or the want of memory that it met.
+    fn into_desk(self) -> Result<Desk<Global>, OutOfMemory>
+        ensures desk { IfOk result (λ desk. desk ≡ self.journal) }
+        ensures had_memory { OnOk result (self.lacks_memory ≡ false) }
+        ensures lacked { OnErr result (self.lacks_memory ≡ true) }
+    {
+        let Lane { desk, wanting, .. } = self;
+        match wanting {
+            None => Ok(desk),
+            Some(wanting) => Err(wanting),
+        }
+    }
+}
+
+/// Where lines are kept, if they are asked for.
+fn kept_where(alloc: Global, asked: bool) -> Option<KeptLines>
+    ensures { result ≡ where_asked asked [] }
+{
+    if asked {
+        Some(KeptLines::new(alloc))
+    } else {
+        None
+    }
+}
+
+/// Has a desk answer a row. `OutOfMemory` changes nothing.
+#[inline(always)]
+fn answered(desk: &mut Desk<Global>, row: &Row) -> Result<Result<Reply, Refusal>, OutOfMemory>
+    ensures answer { IfOk result (λ answer. answer ≡ answer_on row.now (Some (replay desk.old))) }
+    ensures after { OnOk result (desk.new ≡ journal_after desk.old row.now.command) }
+    ensures kept { OnErr result (desk.new ≡ desk.old) }
+{
+    match desk.apply(&row.command) {
+        Ok(reply) => Ok(Ok(reply)),
+        Err(refusal) => Ok(Err(by_rule(refusal)?)),
+    }
+}
+
+/// Shows the levels of a desk as they stand, if levels are asked for.
+#[inline(always)]
+fn show(shown: &mut MarketDepth, kept: &Option<KeptLines>, desk: &Desk<Global>)
+    ensures { IfSome kept.now (λ _. shown.new ≡ market_depth (replay desk.now)) }
+{
+    if kept.is_some() {
+        *shown = MarketDepth::of(desk);
+    }
+}
+
+/// Keeps the answer of a desk to a row that it has taken, if answers are asked for.
+#[inline(always)]
+fn keep_answer(
+    kept: &mut Option<KeptLines>,
+    line: &mut Vec<u8>,
+    names: &SegmentNames,
+    desk: &Desk<Global>,
+    row: &Row,
+    answer: &Result<Reply, Refusal>,
+) -> Result<(), OutOfMemory>
+    ensures { OnOk result (kept.new ≡ with_line (security_fields names.now row.now answer.now (Some (replay desk.now))) kept.old) }
+{
+    let Some(lines) = kept else {
+        return Ok(());
+    };
+    line.clear();
+    push_known(line, names, desk, row, answer)?;
+    lines.push(line.as_slice())
+}
+
+/// Keeps the levels of a desk behind a row that it has taken, if levels are asked for.
+#[inline(always)]
+fn keep_levels(
+    kept: &mut Option<KeptLines>,
+    line: &mut Vec<u8>,
+    names: &SegmentNames,
+    desk: &Desk<Global>,
+    row: &Row,
+    before: &MarketDepth,
+    after: &MarketDepth,
+) -> Result<(), OutOfMemory>
+    ensures kept { OnOk result (kept.new ≡ with_line (change_lines names.now row.now (replay desk.now).settings.tick before.now after.now) kept.old) }
+    ensures asked { is_some kept.new ≡ is_some kept.old }
+{
+    let Some(lines) = kept else {
+        return Ok(());
+    };
+    line.clear();
+    push_change(line, names, row, desk.settings().tick, before, after)?;
+    lines.push(line.as_slice())
+}
+
+/// Opens the desks of a segment, for their rows, of which these texts are told.
+pub(crate) fn open_lanes(
+    storage: Storage<Global>,
+    config: &SegmentConfig,
+    asked: AskedTexts,
+) -> Result<Vec<Lane>, DayFault>
+    ensures { AreOpened (λ lanes. lanes.items) asked config.now result }
+{
+    let desks = open_desks(storage, config)?;
+    let lanes = lanes_of(storage.alloc, desks, asked)?;
+    Ok(lanes)
+}
+
+/// Each desk for its rows.
+fn lanes_of(
+    alloc: Global,
+    desks: Vec<Desk<Global>>,
+    asked: AskedTexts,
+) -> Result<Vec<Lane>, OutOfMemory>
+    ensures { IfOk result (λ lanes. lanes.items ≡ map (fresh_lane asked) desks.items) }
+{
+    let mut lanes = Vec::with_capacity(alloc, desks.len())?;
+    for desk in desks {
+        lanes.push(Lane::of(alloc, desk, asked))?;
+    }
+    Ok(lanes)
+}
+
+/// Has the securities of a segment take their rows of a batch, so many of them in a thread, and adds what they tell of them.
+pub(crate) fn take_apart<T: Threads + Sync>(
+    rt: &T,
+    size: usize,
+    names: &SegmentNames,
+    texts: &mut RecordTexts<'_>,
+    batch: &Batch,
+    lanes: &mut [Lane],
+    merged: &mut Merged,
+)
+    requires { 0 < size }
+    ensures more { TookMore names.now texts.old.orders batch.now.rows lanes.old merged.old lanes.new merged.new }
+    ensures texts { texts.new.orders ≡ texts.old.orders }
+{
+    let rows = batch.rows();
+    take_parts(rt, size, names, rows, lanes);
+    merged.add(texts, rows, lanes);
+}
+
+/// Has the securities of a segment take their rows, so many of them in a thread.
+fn take_parts<T: Threads + Sync>(
+    rt: &T,
+    size: usize,
+    names: &SegmentNames,
+    rows: &[Row],
+    lanes: &mut [Lane],
+)
+    requires { 0 < size }
+    ensures { TookOwnRows names.now 0 lanes.old rows.now lanes.new }
+{
+    thread::for_each_chunk_mut(
+        rt,
+        lanes,
+        size,
+        &|first, part| take_part(first, names, part, rows),
+    );
+}
+
+/// Has the securities from an index on take their rows.
+fn take_part(first: usize, names: &SegmentNames, lanes: &mut [Lane], rows: &[Row])
+    ensures { TookOwnRows names.now first lanes.old rows.now lanes.new }
+{
+    for row in rows {
+        take_row(first, names, lanes, row);
+    }
+}
+
+/// Has the security of a row take it, if it is one of those from an index on.
+#[inline(always)]
+fn take_row(first: usize, names: &SegmentNames, lanes: &mut [Lane], row: &Row)
+    ensures { (k : ℕ) (d : LaneView) → k < length lanes.old → (slice_index_or lanes.new k d).lacks_memory ≡ false
+        → ((slice_index_or lanes.old k d).lacks_memory ≡ false) × (slice_index_or lanes.new k d ≡ lane_row names.now (first + k) (slice_index_or lanes.old k d) row.now) }
+{
+    let index = row.security as usize;
+    if first <= index {
+        let place = index - first;
+        if place < lanes.len() {
+            lanes[place].take(names, row);
+        }
+    }
+}
+
+/// The day of a segment whose securities have taken the rows up to a batch, and what they told of them.
+pub(crate) fn closed(
+    alloc: Global,
+    config: &SegmentConfig,
+    lanes: Vec<Lane>,
+    merged: Merged,
+    batch: &Batch,
+) -> Result<OpenDay, DayFault>
+    requires sound { segment_fault config.now ≡ None }
+    requires taken { AreTakenSoFar config.now (rows_so_far batch.now) lanes.items merged }
+    ensures { (asked : AskedTexts) (names : NameLists) (orders : List ℕ) → AreTold asked names orders config.now (rows_so_far batch.now) lanes.items merged → RowsTaken asked names orders config.now (rows_so_far batch.now) result }
+{
+    let rows = batch.total() as u64;
+    let desks = into_desks(lanes)?;
+    let told = merged.told(alloc, desks.as_slice())?;
+    let accepted = commands_in(desks.as_slice());
+    let refused = rows - accepted;
+    Ok(OpenDay {
+        desks,
+        report: DayReport { accepted, refused },
+        told,
+    })
+}
+
+/// The desks of securities, unless memory was wanting for one of their rows.
+fn into_desks(lanes: Vec<Lane>) -> Result<Vec<Desk<Global>>, OutOfMemory>
+    ensures desks { IfOk result (λ desks. desks.items ≡ map (λ (l : LaneView). l.journal) lanes.items) }
+    ensures had_memory { OnOk result (All (λ (l : LaneView). l.lacks_memory ≡ false) lanes.items) }
+{
+    let mut desks = Vec::with_capacity(*lanes.allocator(), lanes.len())?;
+    for lane in lanes {
+        desks.push(lane.into_desk()?)?;
+    }
+    Ok(desks)
+}
+
+/// How many commands the desks accepted.
+fn commands_in(desks: &[Desk<Global>]) -> u64
+    requires { commands_in desks.now ≤ MAX_ROWS }
+    ensures { result ≡ commands_in desks.now }
+{
+    let mut count = 0;
+    for desk in desks {
+        count += desk.journal().len() as u64;
+    }
+    count
+}

@@ -1,0 +1,11 @@
+//! The rows of a day, taken on several threads, each those of its securities, with what one thread gives.
+#![tactic(auto)]
+
+mod batches;
+mod kept_lines;
+mod lanes;
+mod merged;
+mod sections;
+
+pub use crate::batches::run_apart;
+pub use crate::sections::push_sections;

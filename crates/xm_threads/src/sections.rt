@@ -1,0 +1,144 @@
+//! The lines of a statement that tell of each security, made on several threads.
+ghost use Rattle.std.specs.Prelude.{◌≡◌, ◌++◌, ◌<◌, ◌^◌, All, IfOk, OnOk, false, length, map};
+ghost use Rattle.std.specs.List.{flat_map};
+ghost use Rattle.xm_threads.specs.Sections.{SectionView, SectionsTold, blank_sections};
+ghost use Rattle.xm_statement.specs.Statement.{securities_text};
+ghost use Rattle.xm_rules.specs.Step.{replay};
+
+use std::alloc::Global;
+use std::marker::Model;
+use std::thread;
+use std::thread::Threads;
+use xm_desk::Desk;
+use xm_files::SegmentNames;
+use xm_memory::OutOfMemory;
+use xm_statement::push_security;
+
+/// The desk of a security, the lines of the statement that tell of it, and the want of memory that they met.
+#[derive(Drop)]
+pub(crate) struct Section {
+    desk: Desk<Global>,
+    index: u32,
+    text: Vec<u8>,
+    wanting: Option<OutOfMemory>,
+}
+
+impl Model for Section {
+    ghost use Rattle.std.specs.Prelude.{is_some};
+    ghost use Rattle.xm_threads.specs.Sections.{SectionView};
+
+    ghost Value = { SectionView };
+
+    ghost view = { λ s. record { journal = s.desk; index = s.index; text = s.text.items; lacks_memory = is_some s.wanting } };
+}
+
+impl Section {
+    ghost use Rattle.std.specs.Prelude.{◌≡◌, IfOk, OnOk, false};
+    ghost use Rattle.xm_threads.specs.Sections.{blank_section, told_section};
+
+    /// The desk of the security with this index, of which nothing is told yet.
+    fn of(alloc: Global, desk: Desk<Global>, index: u32) -> Section
+        ensures { result ≡ blank_section index desk }
+    {
+        Section {
+            desk,
+            index,
+            text: Vec::new(alloc),
+            wanting: None,
+        }
+    }
+
+    /// Adds its lines.
+    fn tell(&mut self, names: &SegmentNames)
+        ensures { self.new.lacks_memory ≡ false → self.new ≡ told_section names.now self.old }
+    {
+        if self.wanting.is_none() {
+            self.wanting = push_security(&mut self.text, &self.desk, names, self.index).err();
+        }
+    }
+
+    /// The desk and its lines, or the want of memory that they met.
+    fn into_parts(self) -> Result<(Desk<Global>, Vec<u8>), OutOfMemory>
+        ensures parts { IfOk result (λ parts. (parts.0 ≡ self.journal) × (parts.1.items ≡ self.text)) }
+        ensures had_memory { OnOk result (self.lacks_memory ≡ false) }
+    {
+        let Section {
+            desk,
+            text,
+            wanting,
+            ..
+        } = self;
+        match wanting {
+            None => Ok((desk, text)),
+            Some(wanting) => Err(wanting),
+        }
+    }
+}
+
+/// Adds the securities of a statement to a text, made on so many threads, and gives back their desks.
+pub fn push_sections<T: Threads + Sync>(
+    rt: &T,
+    threads: u32,
+    text: &mut Vec<u8>,
+    desks: Vec<Desk<Global>>,
+    names: &SegmentNames,
+) -> Result<Vec<Desk<Global>>, OutOfMemory>
+    requires names { length names.now.securities ≡ length desks.items }
+    ensures desks { IfOk result (λ same. same.items ≡ desks.items) }
+    ensures text { OnOk result (text.new.items ≡ text.old.items ++ securities_text names.now (map replay desks.items)) }
+    ensures few { OnOk result (length desks.items < 2 ^ 32) }
+{
+    let mut sections = sections_of(desks, names)?;
+    tell_sections(rt, threads, names, sections.as_mut_slice());
+    joined(text, sections)
+}
+
+/// The securities of these desks, of which nothing is told yet.
+fn sections_of(desks: Vec<Desk<Global>>, names: &SegmentNames) -> Result<Vec<Section>, OutOfMemory>
+    requires { length names.now.securities ≡ length desks.items }
+    ensures blank { IfOk result (λ sections. sections.items ≡ blank_sections 0 desks.items) }
+    ensures few { OnOk result (length desks.items < 2 ^ 32) }
+{
+    let alloc = *desks.allocator();
+    let most = names.securities();
+    let mut sections = Vec::with_capacity(alloc, most as usize)?;
+    let mut index = 0;
+    for desk in desks {
+        sections.push(Section::of(alloc, desk, index))?;
+        index = most.min(index.saturating_add(1));
+    }
+    Ok(sections)
+}
+
+/// Has each of these securities tell its lines, so many at a time.
+fn tell_sections<T: Threads + Sync>(
+    rt: &T,
+    threads: u32,
+    names: &SegmentNames,
+    sections: &mut [Section],
+)
+    ensures { SectionsTold names.now sections.old sections.new }
+{
+    let threads = (threads as usize).max(1);
+    thread::for_each_mut(
+        rt,
+        sections,
+        threads,
+        &|_place, section| section.tell(names),
+    );
+}
+
+/// Adds the lines of securities to a text, one after another, and gives back their desks.
+fn joined(text: &mut Vec<u8>, sections: Vec<Section>) -> Result<Vec<Desk<Global>>, OutOfMemory>
+    ensures desks { IfOk result (λ desks. desks.items ≡ map (λ (s : SectionView). s.journal) sections.items) }
+    ensures text { OnOk result (text.new.items ≡ text.old.items ++ flat_map (λ (s : SectionView). s.text) sections.items) }
+    ensures had_memory { OnOk result (All (λ (s : SectionView). s.lacks_memory ≡ false) sections.items) }
+{
+    let mut desks = Vec::with_capacity(*sections.allocator(), sections.len())?;
+    for section in sections {
+        let (desk, lines) = section.into_parts()?;
+        text.extend_from_slice(lines.as_slice())?;
+        desks.push(desk)?;
+    }
+    Ok(desks)
+}

@@ -1,0 +1,298 @@
+//! A day that workers share.
+ghost use Rattle.std.specs.Prelude.{ℕ, ◌≡◌, ◌≢◌, ◌+◌, ◌≤◌, ◌++◌, List, [], IfOk, None, Some, length, map, slice_get, sum_by, true};
+ghost use Rattle.xm_rows.specs.Taken.{DesksEnd, RowsRun, commands_in};
+ghost use Rattle.xm_workers.specs.Workers.{AreJournals, HasOpened, HasShared, HaveWorked, IsShared, WorkerView, accepted_by, fresh_worker, rows_of, taken_by, taken_in};
+ghost use Rattle.xm_files.specs.Batches.{text_left};
+ghost use Rattle.xm_files.specs.Orders.{max_rows};
+ghost use Rattle.xm_files.specs.Timetable.{is_one_round};
+ghost use Rattle.xm_files.specs.declared.bytes.TheConstants.{MAX_BYTES};
+ghost use Rattle.xm_segment.specs.Gathering.{AreGathered, IsOneHistory, all_sums};
+ghost use Rattle.xm_segment.specs.Names.{NamesSegment};
+ghost use Rattle.xm_segment.specs.Seats.{AreSeats};
+ghost use Rattle.xm_segment.specs.declared.config.SegmentConfig.{SegmentConfig};
+ghost use Rattle.xm_segment.specs.declared.gathered.GatherFault.TheVariants as GatherFault;
+ghost use Rattle.xm_segment.specs.declared.opening.TheConstants.{MAX_WORKERS};
+ghost use Rattle.xm_segment.specs.declared.rows.Row.{Row};
+
+use crate::shares::take_members;
+use crate::worker::Worker;
+use std::alloc::Global;
+use std::marker::{Brand, Model};
+use std::sync::Wait;
+use std::thread::Threads;
+use xm_desk::{Desk, OpenFault};
+use xm_files::{Batch, FileFault, Part, RowReader, SegmentNames, first_phase};
+use xm_memory::OutOfMemory;
+use xm_names::Storage;
+use xm_rows::{DayFault, DayReport, OpenDay, Told};
+use xm_segment::{Gate, GatherFault, Naming, Opened, Row, Seat, Segment, SegmentConfig};
+
+/// Reads the rows of an order file of these bytes, round by round, and has so many workers take them, on a segment whose type is
+/// picked here. The fault of the file is answered, if it has one, and else what came of its rows.
+pub fn run_shared<T: Threads + Wait + Sync, G: Gate + Sync>(
+    rt: &T,
+    gate: &G,
+    workers: u32,
+    storage: Storage<Global>,
+    config: &SegmentConfig,
+    names: &SegmentNames,
+    bytes: Vec<u8>,
+) -> Result<Result<OpenDay, DayFault>, FileFault>
+    requires some { 1 ≤ workers }
+    requires few { workers ≤ MAX_WORKERS }
+    requires short { length bytes.items ≤ MAX_BYTES }
+    ensures { RowsRun (DesksEnd (IsShared workers)) config.now names.now (text_left bytes.items None 1) result }
+{
+    let opened = Opened::new(storage, config, workers, 0);
+    run_named::<Brand, T, G>(
+        rt,
+        gate,
+        workers,
+        storage.alloc,
+        opened,
+        config,
+        names,
+        bytes,
+    )
+}
+
+/// Runs the rows on the segment that has this name, where it could be opened.
+fn run_named<S: Naming + Send + Sync, T: Threads + Wait + Sync, G: Gate + Sync>(
+    rt: &T,
+    gate: &G,
+    workers: u32,
+    alloc: Global,
+    opened: Result<Opened, OpenFault>,
+    config: &SegmentConfig,
+    names: &SegmentNames,
+    bytes: Vec<u8>,
+) -> Result<Result<OpenDay, DayFault>, FileFault>
+    requires named { IfOk opened (λ o. NamesSegment S.settings S.ledgers S.boards S.workers o) }
+    requires seats { S.workers ≡ workers }
+    requires opened { HasOpened config.now workers opened }
+    requires some { 1 ≤ workers }
+    requires few { workers ≤ MAX_WORKERS }
+    requires short { length bytes.items ≤ MAX_BYTES }
+    ensures { RowsRun (DesksEnd (IsShared workers)) config.now names.now (text_left bytes.items None 1) result }
+{
+    let mut file = RowReader::of(bytes.as_slice());
+    let day = SharedDay::<S>::open(alloc, workers, opened, config);
+    match take_file(rt, gate, alloc, day, config, names, &mut file) {
+        Ok(day) => Ok(closed(alloc, day)),
+        Err(fault) => Err(fault),
+    }
+}
+
+/// Reads the rows of an order file, round by round, and has them taken. A fault of the file comes before any other: where the
+/// segment can't be opened or memory is wanting, the rest is read all the same.
+fn take_file<S: Naming + Send + Sync, T: Threads + Wait + Sync, G: Gate + Sync>(
+    rt: &T,
+    gate: &G,
+    alloc: Global,
+    opened: Result<SharedDay<S>, DayFault>,
+    config: &SegmentConfig,
+    names: &SegmentNames,
+    file: &mut RowReader<'_>,
+) -> Result<Result<SharedDay<S>, DayFault>, FileFault>
+    requires { HasShared S.settings S.workers config.now [] opened }
+    ensures { RowsRun (HasShared S.settings S.workers) config.now names.now file.old result }
+{
+    let mut batch = Batch::new(alloc);
+    let mut day = opened;
+    'rounds: loop {
+        let more = match file.read(alloc, &mut batch, Part::Round, names, config) {
+            Ok(more) => more,
+            Err(fault) => return Err(fault),
+        };
+        day = take_more(rt, gate, day, batch.rows());
+        if !more {
+            return Ok(day);
+        }
+    }
+}
+
+/// Takes the rows of a round, where nothing went wrong before.
+fn take_more<S: Naming + Send + Sync, T: Threads + Wait + Sync, G: Gate + Sync>(
+    rt: &T,
+    gate: &G,
+    day: Result<SharedDay<S>, DayFault>,
+    rows: &[Row],
+) -> Result<SharedDay<S>, DayFault>
+    requires room { IfOk day (λ d. taken_by d + length rows.now ≤ max_rows) }
+    requires round { is_one_round rows.now ≡ true }
+    ensures { (config : SegmentConfig) (taken : List Row) → HasShared S.settings S.workers config taken day → HasShared S.settings S.workers config (taken ++ rows.now) result }
+{
+    Ok(day?.take_round(rt, gate, rows)?)
+}
+
+/// Gathers the segment of a day whose rows were taken.
+fn closed<S: Naming>(
+    alloc: Global,
+    day: Result<SharedDay<S>, DayFault>,
+) -> Result<OpenDay, DayFault>
+    ensures { (config : SegmentConfig) (rows : List Row) → HasShared S.settings S.workers config rows day → DesksEnd (IsShared S.workers) config rows result }
+{
+    Ok(day?.gathered(alloc)?)
+}
+
+/// A segment, and its workers, in the order of their numbers, which are what a clause sees. The segment is large, and stays in
+/// its place while rounds hand the day on.
+struct SharedDay<S: Naming> {
+    segment: Box<Segment<S>>,
+    workers: Vec<Worker<S>>,
+}
+
+impl<S: Naming> Drop for SharedDay<S> {
+    fn drop(self) {
+        let SharedDay {
+            segment: _segment,
+            workers: _workers,
+        } = self;
+    }
+}
+
+impl<S: Naming> Model for SharedDay<S> {
+    ghost use Rattle.std.specs.Prelude.{◌≡◌, ◌≤◌, List, length};
+    ghost use Rattle.xm_workers.specs.Workers.{WorkerView, taken_by};
+    ghost use Rattle.xm_files.specs.Orders.{max_rows};
+    ghost use Rattle.xm_segment.specs.declared.opening.TheConstants.{MAX_WORKERS};
+
+    ghost Value = { List WorkerView };
+
+    ghost view = { λ d. d.workers.items };
+
+    ghost invariant = { λ d. record {
+      all : length d.workers.items ≡ S.workers;
+      some : 1 ≤ S.workers;
+      few : S.workers ≤ MAX_WORKERS;
+      within : taken_by d.workers.items ≤ max_rows;
+    } };
+}
+
+impl<S: Naming> SharedDay<S> {
+    /// A worker for each seat of a segment, where it could be opened.
+    fn open(
+        alloc: Global,
+        workers: u32,
+        opened: Result<Opened, OpenFault>,
+        config: &SegmentConfig,
+    ) -> Result<SharedDay<S>, DayFault>
+        requires named { IfOk opened (λ o. NamesSegment S.settings S.ledgers S.boards S.workers o) }
+        requires opened { HasOpened config.now workers opened }
+        requires some { 1 ≤ workers }
+        requires few { workers ≤ MAX_WORKERS }
+        ensures { HasShared S.settings S.workers config.now [] result }
+    {
+        let (segment, seats, _rows) = Segment::open(alloc, opened?)?;
+        let segment = boxed(alloc, segment)?;
+        let workers = seated(seats)?;
+        Ok(SharedDay { segment, workers })
+    }
+
+    /// Takes the rows of a round: those of the members side by side, and then those of the phases, which the first worker takes.
+    fn take_round<T: Threads + Wait + Sync, G: Gate + Sync>(
+        self,
+        rt: &T,
+        gate: &G,
+        rows: &[Row],
+    ) -> Result<SharedDay<S>, OutOfMemory>
+    where
+        S: Send + Sync,
+        requires room { taken_by self + length rows.now ≤ max_rows }
+        requires round { is_one_round rows.now ≡ true }
+        ensures worked { IfOk result (λ day. HaveWorked S.settings (λ number. rows_of number S.workers rows.now) self day) }
+        ensures taken { IfOk result (λ day. taken_by day ≡ taken_by self + length rows.now) }
+    {
+        let SharedDay { segment, workers } = self;
+        let (members, phases) = rows.split_at(first_phase(rows));
+        let mut workers = take_members(rt, gate, &segment, workers, members)?;
+        workers[0].work(rt, gate, &segment, phases)?;
+        Ok(SharedDay { segment, workers })
+    }
+
+    /// The desks of the segment, and what was counted.
+    fn gathered(self, alloc: Global) -> Result<OpenDay, OutOfMemory>
+        ensures journals { IfOk result (λ day. AreJournals S.settings day.desks.items) }
+        ensures history { IfOk result (λ day. IsOneHistory day.desks.items (map (λ (w : WorkerView). w.seat) self) []) }
+        ensures commands { IfOk result (λ day. day.report.accepted ≡ commands_in day.desks.items) }
+        ensures accepted { IfOk result (λ day. day.report.accepted ≡ sum_by (λ (w : WorkerView). w.report.accepted) self) }
+        ensures refused { IfOk result (λ day. day.report.refused ≡ sum_by (λ (w : WorkerView). w.report.refused) self) }
+    {
+        let SharedDay { segment, workers } = self;
+        let (seats, report) = counted(workers)?;
+        let desks = desks_of(Box::into_inner(segment), alloc, seats)?;
+        Ok(OpenDay {
+            desks,
+            report,
+            told: Told::nothing(),
+        })
+    }
+}
+
+/// A segment in a place of its own.
+fn boxed<S: Naming>(alloc: Global, segment: Segment<S>) -> Result<Box<Segment<S>>, OutOfMemory> {
+    Ok(Box::new(alloc, segment)?)
+}
+
+/// The desks of a segment whose seats are all there.
+fn desks_of<S: Naming>(
+    segment: Segment<S>,
+    alloc: Global,
+    seats: Vec<Seat<S>>,
+) -> Result<Vec<Desk<Global>>, OutOfMemory>
+    requires { S.workers ≤ length seats.items }
+    ensures gathered { IfOk result (λ desks. AreGathered S.settings (all_sums seats.items) desks.items) }
+    ensures history { IfOk result (λ desks. IsOneHistory desks.items seats.items []) }
+{
+    let mut rows = Vec::new(alloc);
+    match segment.gather(alloc, seats, rows.as_mut_slice()) {
+        Ok(gathered) => Ok(gathered.desks),
+        Err(back) => Err(want_of_memory(back.2)),
+    }
+}
+
+/// The want of memory that a segment wasn't gathered for, whose seats are all there.
+fn want_of_memory(fault: GatherFault) -> OutOfMemory
+    requires { fault ≢ GatherFault.MissingSeat }
+{
+    match fault {
+        GatherFault::OutOfMemory(error) => error,
+        GatherFault::MissingSeat => unreachable!(),
+    }
+}
+
+/// A worker for each seat, in which nothing is counted.
+fn seated<S: Naming>(seats: Vec<Seat<S>>) -> Result<Vec<Worker<S>>, OutOfMemory>
+    requires { AreSeats S.settings S.workers seats.items }
+    ensures all { IfOk result (λ workers. length workers.items ≡ S.workers) }
+    ensures each { IfOk result (λ workers. (number : ℕ) (w : WorkerView) → slice_get workers.items number ≡ Some w → w ≡ fresh_worker S.settings number) }
+    ensures none { IfOk result (λ workers. taken_by workers.items ≡ 0) }
+{
+    let mut workers = Vec::with_capacity(*seats.allocator(), seats.len())?;
+    for seat in seats {
+        workers.push(Worker::new(seat))?;
+    }
+    Ok(workers)
+}
+
+/// The seats of workers, and what all of them counted.
+fn counted<S: Naming>(workers: Vec<Worker<S>>) -> Result<(Vec<Seat<S>>, DayReport), OutOfMemory>
+    requires { taken_by workers.items ≤ max_rows }
+    ensures seats { IfOk result (λ parts. parts.0.items ≡ map (λ (w : WorkerView). w.seat) workers.items) }
+    ensures ledgers { IfOk result (λ parts. parts.1.accepted ≡ accepted_by parts.0.items) }
+    ensures accepted { IfOk result (λ parts. parts.1.accepted ≡ sum_by (λ (w : WorkerView). w.report.accepted) workers.items) }
+    ensures refused { IfOk result (λ parts. parts.1.refused ≡ sum_by (λ (w : WorkerView). w.report.refused) workers.items) }
+{
+    let mut seats = Vec::with_capacity(*workers.allocator(), workers.len())?;
+    let mut sum = DayReport {
+        accepted: 0,
+        refused: 0,
+    };
+    for worker in workers {
+        let (seat, report) = worker.into_parts();
+        seats.push(seat)?;
+        sum.accepted += report.accepted;
+        sum.refused += report.refused;
+    }
+    Ok((seats, sum))
+}
