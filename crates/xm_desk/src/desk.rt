@@ -27,11 +27,21 @@ use xm_ticks::Price;
 
 /// One security. A clause sees it as its journal: the settings that it was opened with, and the
 /// commands that it accepted. The journal is lawful, and the state is its replay.
-#[derive(Drop)]
 pub struct Desk<A: Allocator + Copy> {
     market: Market<A>,
     journal: Vec<Command, A>,
     positions: Positions<A>,
+}
+
+// In a function of its own, so that whoever drops one proves one call.
+impl<A: Allocator + Copy> Drop for Desk<A> {
+    fn drop(self) {
+        let Desk {
+            market: _market,
+            journal: _journal,
+            positions: _positions,
+        } = self;
+    }
 }
 
 impl<A: Allocator + Copy> Model for Desk<A> {

@@ -49,9 +49,15 @@ pub(crate) struct FilePart {
 }
 
 /// Room for the rows of as many parts of an order file as are read side by side.
-#[derive(Drop)]
 pub struct FileParts {
     parts: Vec<FilePart>,
+}
+
+// In a function of its own, so that whoever drops them proves one call.
+impl Drop for FileParts {
+    fn drop(self) {
+        let FileParts { parts: _parts } = self;
+    }
 }
 
 /// What is left of a file behind the parts that were read.

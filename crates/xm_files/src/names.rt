@@ -215,10 +215,19 @@ fn place_of(number: u128) -> usize
 
 /// The names of the members and the securities of a segment, in index order. A clause sees the
 /// lists of their bytes.
-#[derive(Drop)]
 pub struct SegmentNames {
     members: NameList,
     securities: NameList,
+}
+
+// In a function of its own, so that whoever drops them proves one call.
+impl Drop for SegmentNames {
+    fn drop(self) {
+        let SegmentNames {
+            members: _members,
+            securities: _securities,
+        } = self;
+    }
 }
 
 impl Model for SegmentNames {

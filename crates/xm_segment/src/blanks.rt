@@ -9,16 +9,31 @@ use crate::share_row::ShareRow;
 use std::marker::Model;
 
 /// The ledgers of a segment. A clause sees those of each of eight lanes.
-#[derive(Drop)]
 pub(crate) struct Blanks {
-    pub(crate) b0: LaneBlanks,
-    pub(crate) b1: LaneBlanks,
-    pub(crate) b2: LaneBlanks,
-    pub(crate) b3: LaneBlanks,
-    pub(crate) b4: LaneBlanks,
-    pub(crate) b5: LaneBlanks,
-    pub(crate) b6: LaneBlanks,
-    pub(crate) b7: LaneBlanks,
+    b0: LaneBlanks,
+    b1: LaneBlanks,
+    b2: LaneBlanks,
+    b3: LaneBlanks,
+    b4: LaneBlanks,
+    b5: LaneBlanks,
+    b6: LaneBlanks,
+    b7: LaneBlanks,
+}
+
+// In a function of its own, so that whoever drops them proves one call.
+impl Drop for Blanks {
+    fn drop(self) {
+        let Blanks {
+            b0: _b0,
+            b1: _b1,
+            b2: _b2,
+            b3: _b3,
+            b4: _b4,
+            b5: _b5,
+            b6: _b6,
+            b7: _b7,
+        } = self;
+    }
 }
 
 impl Model for Blanks {

@@ -21,9 +21,18 @@ pub struct SecurityConfig {
 }
 
 /// The settings of the securities of a segment, in index order. A clause sees their list.
-#[derive(Drop, Debug)]
+#[derive(Debug)]
 pub struct Securities {
     settings: Vec<SecurityConfig>,
+}
+
+// In a function of its own, so that whoever drops them proves one call.
+impl Drop for Securities {
+    fn drop(self) {
+        let Securities {
+            settings: _settings,
+        } = self;
+    }
 }
 
 impl Model for Securities {

@@ -81,14 +81,9 @@ impl Gathered {
         ensures history { IsOneHistory result.desks.items seats.items rows.old }
         ensures told { WereTold result.desks.items seats.items rows.old rows.new }
     {
-        let _ = segment.workers; // There are at most eight securities.
-        let Segment {
-            lanes,
-            own,
-            workers: _,
-        } = segment;
+        let (lanes, own) = segment.into_parts();
         let mut lanes = UnlockedLanes::of(lanes);
-        let shares = merged(&mut lanes, own.into_row(), seats);
+        let shares = merged(&mut lanes, own, seats);
         tell_all(&mut lanes, rows);
         self.with_desks(lanes, shares)
     }

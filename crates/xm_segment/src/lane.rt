@@ -1,5 +1,5 @@
 //! A security of a segment, which has its own lock and its own board.
-ghost use Rattle.std.specs.Prelude.{◌≡◌, ◌<◌, ◌≤◌, ℕ, slice_get};
+ghost use Rattle.std.specs.Prelude.{◌≡◌, ◌<◌, ◌≤◌, ℕ, is_some, slice_get};
 ghost use Rattle.xm_rules.specs.declared.totals.TheConstants.{MAX_TRADED_QUANTITY};
 ghost use Rattle.xm_segment.specs.Answers.{IsAnswered, IsShown};
 ghost use Rattle.xm_segment.specs.Ledgers.{with_answer};
@@ -14,9 +14,15 @@ use std::sync::{Mutex, Wait};
 use xm_rules::{Command, Quote, Refusal, Reply};
 
 /// The lane of the security with this index, if the segment has that many.
-#[derive(Drop)]
 pub(crate) struct Lane<S: Naming, const K: usize> {
     pub(crate) open: Option<OpenLane<S, K>>,
+}
+
+// In a function of its own, so that whoever drops one proves one call.
+impl<S: Naming, const K: usize> Drop for Lane<S, K> {
+    fn drop(self) {
+        let Lane { open: _open } = self;
+    }
 }
 
 /// What a security has: its lock, and the board beside it.
@@ -37,6 +43,14 @@ impl<S: Naming, const K: usize> Model for Lane<S, K> {
 }
 
 impl<S: Naming, const K: usize> Lane<S, K> {
+    /// What its security has, if it has one.
+    pub(crate) fn into_open(self) -> Option<OpenLane<S, K>>
+        ensures { is_some result ≡ is_some (slice_get S.settings K) }
+    {
+        let Lane { open } = self;
+        open
+    }
+
     /// Takes a command under the lock.
     pub(crate) fn submit<R: Wait, G: Gate>(
         &self,

@@ -8,11 +8,21 @@ use std::sync::ledger::{Blank, Book, Share};
 use xm_rules::Reply;
 
 /// The three ledgers of a security, before a segment has them.
-#[derive(Drop)]
 pub struct LaneBlanks {
-    pub(crate) accepted: Blank,
-    pub(crate) quantity: Blank,
-    pub(crate) money: Blank,
+    accepted: Blank,
+    quantity: Blank,
+    money: Blank,
+}
+
+// In a function of its own, so that whoever drops them proves one call.
+impl Drop for LaneBlanks {
+    fn drop(self) {
+        let LaneBlanks {
+            accepted: _accepted,
+            quantity: _quantity,
+            money: _money,
+        } = self;
+    }
 }
 
 impl Model for LaneBlanks {
@@ -28,11 +38,21 @@ impl Model for LaneBlanks {
 }
 
 /// The three books of a security. A clause sees their totals.
-#[derive(Drop)]
 pub struct Books<S: Naming, const K: usize> {
     accepted: Book<Accepted<S, K>>,
     quantity: Book<Quantity<S, K>>,
     money: Book<Money<S, K>>,
+}
+
+// As that of `LaneBlanks`.
+impl<S: Naming, const K: usize> Drop for Books<S, K> {
+    fn drop(self) {
+        let Books {
+            accepted: _accepted,
+            quantity: _quantity,
+            money: _money,
+        } = self;
+    }
 }
 
 impl<S: Naming, const K: usize> Model for Books<S, K> {
@@ -44,11 +64,21 @@ impl<S: Naming, const K: usize> Model for Books<S, K> {
 }
 
 /// A share of each of the three ledgers of a security. A clause sees how many parts they have, and their amounts.
-#[derive(Drop)]
 pub struct Shares<S: Naming, const K: usize> {
     accepted: Share<Accepted<S, K>>,
     quantity: Share<Quantity<S, K>>,
     money: Share<Money<S, K>>,
+}
+
+// As that of `LaneBlanks`.
+impl<S: Naming, const K: usize> Drop for Shares<S, K> {
+    fn drop(self) {
+        let Shares {
+            accepted: _accepted,
+            quantity: _quantity,
+            money: _money,
+        } = self;
+    }
 }
 
 impl<S: Naming, const K: usize> Model for Shares<S, K> {

@@ -82,11 +82,21 @@ fn find_own<S: Naming, const K: usize>(watch: &Option<QuoteWatch<S, K>>)
 
 /// A worker's seat: its share of the ledgers of each security, and a row of watches. A clause sees the worker's number, for each
 /// of eight lanes what the worker's accepted commands counted there, and the row.
-#[derive(Drop)]
 pub struct Seat<S: Naming> {
     pub(crate) number: u32,
     pub(crate) shares: ShareRow<S>,
     pub(crate) row: WatchRow<S>,
+}
+
+// In a function of its own, so that whoever drops one proves one call.
+impl<S: Naming> Drop for Seat<S> {
+    fn drop(self) {
+        let Seat {
+            number: _,
+            shares: _shares,
+            row: _row,
+        } = self;
+    }
 }
 
 impl<S: Naming> Model for Seat<S> {

@@ -1,8 +1,9 @@
 //! The securities of a segment, each behind its own lock.
-ghost use Rattle.std.specs.Prelude.{◌≡◌, slice_get};
+ghost use Rattle.std.specs.Prelude.{◌≡◌, ◌≤◌, length, slice_get};
 ghost use Rattle.xm_segment.specs.Answers.{IsAnsweredOn};
 ghost use Rattle.xm_segment.specs.Ledgers.{AreWithinDay, nothing_counted, with_answer_on};
 ghost use Rattle.xm_segment.specs.Seats.{IsRead, IsTaken};
+ghost use Rattle.xm_segment.specs.declared.opening.TheConstants.{MAX_SECURITIES};
 
 use crate::gate::{Gate, NoGate};
 use crate::lane::Lane;
@@ -27,11 +28,21 @@ pub(crate) struct Lanes<S: Naming> {
 }
 
 /// A segment that workers and watchers share.
-#[derive(Drop)]
 pub struct Segment<S: Naming> {
     pub(crate) lanes: Lanes<S>,
     pub(crate) own: OwnShares<S>,
     pub(crate) workers: u32,
+}
+
+// In a function of its own, so that whoever drops one proves one call.
+impl<S: Naming> Drop for Segment<S> {
+    fn drop(self) {
+        let Segment {
+            lanes: _lanes,
+            own: _own,
+            workers: _,
+        } = self;
+    }
 }
 
 impl<S: Naming> Model for Segment<S> {
@@ -49,6 +60,19 @@ impl<S: Naming> Model for Segment<S> {
 }
 
 impl<S: Naming> Segment<S> {
+    /// Its lanes, and the shares that it kept.
+    pub(crate) fn into_parts(self) -> (Lanes<S>, ShareRow<S>)
+        ensures own { result.1 ≡ record { parts = 1; sums = nothing_counted } }
+        ensures few { length S.settings ≤ MAX_SECURITIES }
+    {
+        let Segment {
+            lanes,
+            own,
+            workers: _,
+        } = self;
+        (lanes, own.into_row())
+    }
+
     /// Takes a command on the security with this index, under its lock.
     ///
     /// An accepted command raises the seat's three shares of the security by one, its reply's quantity and its money; it is

@@ -44,8 +44,7 @@ impl<S: Naming, const K: usize> UnlockedLane<S, K> {
     fn of(lane: Lane<S, K>) -> UnlockedLane<S, K>
         ensures { is_some result ≡ is_some (slice_get S.settings K) }
     {
-        let Lane { open } = lane;
-        let held = match open {
+        let held = match lane.into_open() {
             Some(open) => Some(Held {
                 locked: open.lock.into_inner(),
                 board: open.board,
