@@ -5,6 +5,7 @@ ghost use Rattle.xm_rules.specs.Step.{replay};
 ghost use Rattle.xm_ticks.specs.Writing.{money_text};
 
 use crate::quoted::push_field;
+use crate::told::begun;
 use crate::words::refusal_word;
 use std::alloc::{Allocator, Global};
 use std::marker::Model;
@@ -44,14 +45,14 @@ impl Answers {
     ghost use Rattle.xm_rules.specs.Step.{replay};
 
     /// None are asked for.
-    pub fn unasked() -> Answers
+    pub(crate) fn unasked() -> Answers
         ensures { result ≡ None }
     {
         Answers { text: None }
     }
 
     /// The answers to no row: the header, if they are asked for.
-    pub fn of(alloc: Global, asked: bool) -> Result<Answers, OutOfMemory>
+    pub(crate) fn of(alloc: Global, asked: bool) -> Result<Answers, OutOfMemory>
         ensures begun { IfOk result (λ answers. answers ≡ where_asked asked answers_header) }
         ensures asked { OnErr result (asked ≡ true) }
     {
@@ -105,12 +106,7 @@ pub fn begun_answers(alloc: Global, asked: bool) -> Result<Option<Vec<u8>>, OutO
     ensures begun { IfOk result (λ text. option_map (λ told. told.items) text ≡ where_asked asked answers_header) }
     ensures asked { OnErr result (asked ≡ true) }
 {
-    if !asked {
-        return Ok(None);
-    }
-    let mut text = Vec::new(alloc);
-    push_text(&mut text, HEADER)?;
-    Ok(Some(text))
+    begun(alloc, asked, HEADER)
 }
 
 /// The line of a row, whose record has this free text.

@@ -1,9 +1,10 @@
 //! The levels behind rows, where these changed them.
-ghost use Rattle.std.specs.Prelude.{◌≡◌, ◌++◌, IfOk, OnOk, map, option_map};
+ghost use Rattle.std.specs.Prelude.{◌≡◌, ◌++◌, true, IfOk, OnErr, OnOk, map, option_map};
 ghost use Rattle.xm_rows.specs.MarketDepth.{change_lines, depth_header, level_line, limit_field, limit_line, limit_lines, market_depth, row_fields, same_depth, same_side_depth, side_depth, side_lines, worse_level};
 ghost use Rattle.xm_rows.specs.RowAnswers.{where_asked};
 ghost use Rattle.xm_rules.specs.Step.{replay};
 
+use crate::told::begun;
 use std::alloc::{Allocator, Global};
 use std::marker::Model;
 use xm_desk::Desk;
@@ -167,14 +168,14 @@ impl Depths {
     ghost use Rattle.xm_rules.specs.Step.{replay};
 
     /// None is asked for.
-    pub fn unasked() -> Depths
+    pub(crate) fn unasked() -> Depths
         ensures { result ≡ None }
     {
         Depths { shown: None }
     }
 
     /// The feed before any row of these desks: the header, if it is asked for.
-    pub fn of<A: Allocator + Copy>(
+    pub(crate) fn of<A: Allocator + Copy>(
         alloc: Global,
         desks: &[Desk<A>],
         asked: bool,
@@ -243,14 +244,10 @@ impl Depths {
 
 /// The levels behind no row: the header, if they are asked for.
 pub fn begun_levels(alloc: Global, asked: bool) -> Result<Option<Vec<u8>>, OutOfMemory>
-    ensures { IfOk result (λ text. option_map (λ told. told.items) text ≡ where_asked asked depth_header) }
+    ensures begun { IfOk result (λ text. option_map (λ told. told.items) text ≡ where_asked asked depth_header) }
+    ensures asked { OnErr result (asked ≡ true) }
 {
-    if !asked {
-        return Ok(None);
-    }
-    let mut text = Vec::new(alloc);
-    push_text(&mut text, HEADER)?;
-    Ok(Some(text))
+    begun(alloc, asked, HEADER)
 }
 
 /// What is shown of each desk.

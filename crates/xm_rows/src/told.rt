@@ -1,5 +1,5 @@
 //! What is told of rows beside the statement of their day.
-ghost use Rattle.std.specs.Prelude.{◌≡◌, map, option_map, slice_get, IfOk, OnErr, OnOk};
+ghost use Rattle.std.specs.Prelude.{◌≡◌, true, map, option_map, slice_get, IfOk, OnErr, OnOk};
 ghost use Rattle.xm_rows.specs.Taken.{AsksNothing, TellsNothing};
 ghost use Rattle.xm_rows.specs.Feeds.{next_feed};
 ghost use Rattle.xm_rows.specs.MarketDepth.{depth_header, market_depth};
@@ -16,6 +16,7 @@ use xm_files::{RecordTexts, SegmentNames};
 use xm_memory::OutOfMemory;
 use xm_rules::{Refusal, Reply};
 use xm_segment::Row;
+use xm_statement::texts::push_text;
 
 /// The texts so far that are told beside a statement, as far as they are asked for.
 #[derive(Drop)]
@@ -69,4 +70,21 @@ impl Told {
         self.depth.tell(names, desks, row)?;
         Ok(())
     }
+}
+
+/// A text that is its header so far, if it is asked for.
+pub(crate) fn begun(
+    alloc: Global,
+    asked: bool,
+    header: &str,
+) -> Result<Option<Vec<u8>>, OutOfMemory>
+    ensures begun { IfOk result (λ text. option_map (λ told. told.items) text ≡ where_asked asked header.now) }
+    ensures asked { OnErr result (asked ≡ true) }
+{
+    if !asked {
+        return Ok(None);
+    }
+    let mut text = Vec::new(alloc);
+    push_text(&mut text, header)?;
+    Ok(Some(text))
 }
