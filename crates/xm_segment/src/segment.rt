@@ -114,7 +114,7 @@ impl<S: Naming> Segment<S> {
         )
     }
 
-    /// Takes a command, counts it in a worker's shares, and tells its row of watches.
+    /// Takes a command in the lane with this index, counts it in a worker's shares, and tells its row of watches.
     fn count<R: Wait, G: Gate>(
         &self,
         rt: &R,
@@ -122,43 +122,26 @@ impl<S: Naming> Segment<S> {
         worker: u32,
         shares: &mut ShareRow<S>,
         row: &mut WatchRow<S>,
-        security: u32,
+        lane: u32,
         command: &Command,
     ) -> Result<Reply, Refusal>
         requires { shares.old.parts ≡ 1 }
-        ensures shares { shares.new ≡ record { parts = 1; sums = with_answer_on security shares.old.sums result } }
+        ensures shares { shares.new ≡ record { parts = 1; sums = with_answer_on lane shares.old.sums result } }
         ensures within { AreWithinDay shares.old.sums → AreWithinDay shares.new.sums }
         ensures number { row.new.number ≡ row.old.number }
-        ensures watches { IsAnsweredOn security (slice_get S.settings security) command.now result row.old.watches row.new.watches }
+        ensures watches { IsAnsweredOn lane (slice_get S.settings lane) command.now result row.old.watches row.new.watches }
     {
         let _ = self.workers; // There are at most eight securities.
         let lanes = &self.lanes;
-        let (s, w) = (shares, row);
-        match security {
-            0 => lanes
-                .l0
-                .submit(rt, gate, worker, security, &mut s.s0, &mut w.w0, command),
-            1 => lanes
-                .l1
-                .submit(rt, gate, worker, security, &mut s.s1, &mut w.w1, command),
-            2 => lanes
-                .l2
-                .submit(rt, gate, worker, security, &mut s.s2, &mut w.w2, command),
-            3 => lanes
-                .l3
-                .submit(rt, gate, worker, security, &mut s.s3, &mut w.w3, command),
-            4 => lanes
-                .l4
-                .submit(rt, gate, worker, security, &mut s.s4, &mut w.w4, command),
-            5 => lanes
-                .l5
-                .submit(rt, gate, worker, security, &mut s.s5, &mut w.w5, command),
-            6 => lanes
-                .l6
-                .submit(rt, gate, worker, security, &mut s.s6, &mut w.w6, command),
-            7 => lanes
-                .l7
-                .submit(rt, gate, worker, security, &mut s.s7, &mut w.w7, command),
+        match lane {
+            0 => lanes.l0.submit(rt, gate, worker, lane, &mut shares.s0, &mut row.w0, command),
+            1 => lanes.l1.submit(rt, gate, worker, lane, &mut shares.s1, &mut row.w1, command),
+            2 => lanes.l2.submit(rt, gate, worker, lane, &mut shares.s2, &mut row.w2, command),
+            3 => lanes.l3.submit(rt, gate, worker, lane, &mut shares.s3, &mut row.w3, command),
+            4 => lanes.l4.submit(rt, gate, worker, lane, &mut shares.s4, &mut row.w4, command),
+            5 => lanes.l5.submit(rt, gate, worker, lane, &mut shares.s5, &mut row.w5, command),
+            6 => lanes.l6.submit(rt, gate, worker, lane, &mut shares.s6, &mut row.w6, command),
+            7 => lanes.l7.submit(rt, gate, worker, lane, &mut shares.s7, &mut row.w7, command),
             _ => Err(Refusal::UnknownSecurity),
         }
     }
