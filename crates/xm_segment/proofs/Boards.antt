@@ -1,6 +1,6 @@
 -- Boards, watches and rows of a segment that opens, taken from the last on.
 use Rattle.atomic_table.specs.Seated.{TableId}
-use Rattle.std.proofs.Common.{◌≡◌, ℕ, zero, suc, ◌+◌, ◌<◌, List, [], ◌∷◌, ◌++◌, length, get_or, map, take, Option, Some, None, refl, sym, ap, ◌∙◌, subst, arith, ⊎_elim}
+use Rattle.std.proofs.Common.{Box, Global, ◌≡◌, ℕ, zero, suc, ◌+◌, ◌<◌, List, [], ◌∷◌, ◌++◌, length, get_or, map, take, Option, Some, None, refl, sym, ap, ◌∙◌, subst, arith, ⊎_elim}
 use Rattle.std.specs.Option.{option_to_list}
 use Rattle.std.specs.Prelude.{option_map, slice_get}
 use Rattle.std.proofs.lemmas.List.{length-append, length-map, map-append, take-map, take_more}
@@ -165,13 +165,23 @@ pub record OpensLane (settings : List DeskSettings) (k : ℕ) (left : List Journ
   pub fresh : desk.commands ≡ []
   pub unwritten : board.published ≡ opening_of desk.settings
 
-pub last-opens : (settings : List DeskSettings) (k rows : ℕ) (desks left : List Journal) (desk : Journal) (board : NamedView) → desks ≡ map fresh_journal (take (k + 1) settings) → desks ≡ left ++ desk ∷ []
+last-opens : (settings : List DeskSettings) (k rows : ℕ) (desks left : List Journal) (desk : Journal) (board : NamedView) → desks ≡ map fresh_journal (take (k + 1) settings) → desks ≡ left ++ desk ∷ []
     → IsFresh rows (slice_get settings k) (Some board) → OpensLane settings k left desk board
 last-opens settings k rows desks left desk board are is fresh =
     let b = fresh-some rows (slice_get settings k) board fresh in
     let d = last-fresh settings k b.0 left desk b.1 (sym is ∙ are) in
     let same : b.0 ≡ desk.settings = let both = sym b.1 ∙ d.1 in cc in
     record { left_are = d.0; opened = d.1; fresh = d.2; unwritten = b.2 ∙ ap opening_of same }
+
+-- desks that each lie in a place of its own
+pub last-taken : (settings : List DeskSettings) (k rows : ℕ) (desks left : List (Box Journal Global)) (taken : Option (Box Journal Global)) (desk : Box Journal Global) (board : NamedView)
+    → map (λ desk. desk.value) desks ≡ map fresh_journal (take (k + 1) settings) → desks ≡ left ++ option_to_list taken → taken ≡ Some desk → IsFresh rows (slice_get settings k) (Some board)
+    → OpensLane settings k (map (λ desk. desk.value) left) desk.value board
+last-taken settings k rows desks left taken desk board are was is fresh =
+    let value : Box Journal Global → Journal = λ desk. desk.value in
+    let popped = was ∙ ap (λ (o : Option (Box Journal Global)). left ++ option_to_list o) is in
+    let values = ap (λ (ds : List (Box Journal Global)). map value ds) popped ∙ map-append value left (desk ∷ []) in
+    last-opens settings k rows (map value desks) (map value left) desk.value board are values fresh
 
 -- ---- the watches of a lane, taken from the last on
 

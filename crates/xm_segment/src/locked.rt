@@ -24,10 +24,11 @@ pub type QuoteWatch<S, const K: usize> = Watch<Quotes<S, K>>;
 /// What stands behind the lock of the security with this index: its desk, the books of its three ledgers, and the pen of its
 /// board. A clause sees the journal that is published, each command with the number of the watch that it is for. Without the
 /// numbers it is the desk's, which is lawful. It began with the settings of this security, and the books tell how many commands
-/// it has, and the quantity and the money of its trades.
+/// it has, and the quantity and the money of its trades. A desk is large, and lies in a place of its own, so that what holds eight of
+/// these is small where it is handed on.
 #[derive(Drop)]
 pub struct Locked<S: Naming, const K: usize> {
-    desk: Desk<Global>,
+    desk: Box<Desk<Global>>,
     books: Books<S, K>,
     pen: Pen<Quotes<S, K>>,
 }
@@ -44,22 +45,22 @@ impl<S: Naming, const K: usize> Model for Locked<S, K> {
 
     ghost invariant = { λ l. record {
       opened : slice_get S.settings K ≡ Some l.pen.settings;
-      published : unnumbered l.pen ≡ l.desk;
-      counted : l.books ≡ ledger_sums l.desk;
+      published : unnumbered l.pen ≡ l.desk.value;
+      counted : l.books ≡ ledger_sums l.desk.value;
     } };
 }
 
 impl<S: Naming, const K: usize> Locked<S, K> {
     /// A desk that has taken no command, books that have counted none, and a pen that has published none.
     pub(crate) fn new(
-        desk: Desk<Global>,
+        desk: Box<Desk<Global>>,
         books: Books<S, K>,
         pen: Pen<Quotes<S, K>>,
     ) -> Locked<S, K>
-        requires opened { slice_get S.settings K ≡ Some desk.settings }
-        requires fresh { desk.commands ≡ [] }
+        requires opened { slice_get S.settings K ≡ Some desk.value.settings }
+        requires fresh { desk.value.commands ≡ [] }
         requires nothing { books ≡ no_sums }
-        requires unwritten { pen ≡ opening_of desk.settings }
+        requires unwritten { pen ≡ opening_of desk.value.settings }
         ensures { result ≡ pen }
     {
         Locked { desk, books, pen }
@@ -121,7 +122,7 @@ impl<S: Naming, const K: usize> Locked<S, K> {
         } = self;
         books.audit(shares);
         let _ = desk.journal();
-        desk
+        Box::into_inner(desk)
     }
 }
 

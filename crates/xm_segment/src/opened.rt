@@ -30,7 +30,7 @@ use xm_names::Storage;
 /// A segment that is opened, and which no type names yet: its desks, its boards and its ledgers. Whoever opens it picks its type by
 /// their names. A clause sees the settings of its securities, the boards, the ledgers, and for how many workers and watchers it is.
 pub struct Opened {
-    desks: Vec<Desk<Global>>,
+    desks: Vec<Box<Desk<Global>>>,
     boards: Vec<xm_board::Opened<Global>>,
     blanks: Blanks,
     workers: u32,
@@ -61,7 +61,7 @@ impl Model for Opened {
     ghost view = { λ o. record { settings = map (λ board. board.settings) o.boards.items; boards = o.boards.items; ledgers = o.blanks; workers = o.workers; watchers = o.watchers } };
 
     ghost invariant = { λ o. record {
-      desks : o.desks.items ≡ map (λ board. fresh_journal board.settings) o.boards.items;
+      desks : map (λ desk. desk.value) o.desks.items ≡ map (λ board. fresh_journal board.settings) o.boards.items;
       parts : HaveParts (o.workers + 1) o.blanks;
       few : length o.boards.items ≤ MAX_SECURITIES;
       few_workers : o.workers ≤ MAX_WORKERS;
@@ -93,6 +93,7 @@ impl Opened {
         }
         let desks = desks_of(storage, config)?;
         let boards = boards_of(storage.alloc, desks.as_slice())?;
+        let desks = boxed(storage.alloc, desks)?;
         Ok(Opened {
             desks,
             boards,
@@ -101,6 +102,18 @@ impl Opened {
             watchers,
         })
     }
+}
+
+/// The same desks, each in a place of its own.
+fn boxed(alloc: Global, desks: Vec<Desk<Global>>) -> Result<Vec<Box<Desk<Global>>>, OutOfMemory>
+    ensures { IfOk result (λ boxes. map (λ desk. desk.value) boxes.items ≡ desks.items) }
+{
+    let mut boxes = Vec::with_capacity(alloc, desks.len())?;
+    for desk in desks {
+        let place = Box::new(alloc, desk)?;
+        boxes.push_reserved(place);
+    }
+    Ok(boxes)
 }
 
 /// A board for each desk that has taken no command.
@@ -180,12 +193,12 @@ impl Opened {
 
 /// The lanes of these desks and boards, and the watches of each.
 fn lanes_of<S: Naming>(
-    mut desks: Vec<Desk<Global>>,
+    mut desks: Vec<Box<Desk<Global>>>,
     books: BookRow<S>,
     named: NamedBoards<S>,
 ) -> (Lanes<S>, Columns<S>)
     requires few { length S.settings ≤ MAX_SECURITIES }
-    requires desks { desks.items ≡ map fresh_journal S.settings }
+    requires desks { map (λ desk. desk.value) desks.items ≡ map fresh_journal S.settings }
     requires books { books ≡ nothing_counted }
     requires boards { (rows : ℕ) × AreFreshFrom 0 S.settings rows named }
     ensures { (rows : ℕ) → AreFreshFrom 0 S.settings rows named → AreColumnsFrom 0 S.settings rows result.1 }
@@ -243,14 +256,14 @@ fn lanes_of<S: Naming>(
 
 /// The lane with this index, for which the last desk is taken where the segment has that many, and the watches of its board.
 fn last_lane<S: Naming, const K: usize>(
-    desks: &mut Vec<Desk<Global>>,
+    desks: &mut Vec<Box<Desk<Global>>>,
     books: Books<S, K>,
     named: Option<NamedBoard<S, K>>,
 ) -> (Lane<S, K>, Option<Vec<QuoteWatch<S, K>>>)
-    requires desks { desks.old.items ≡ map fresh_journal (take (K + 1) S.settings) }
+    requires desks { map (λ desk. desk.value) desks.old.items ≡ map fresh_journal (take (K + 1) S.settings) }
     requires books { books ≡ no_sums }
     requires board { (rows : ℕ) × IsFresh rows (slice_get S.settings K) named }
-    ensures left { desks.new.items ≡ map fresh_journal (take K S.settings) }
+    ensures left { map (λ desk. desk.value) desks.new.items ≡ map fresh_journal (take K S.settings) }
     ensures column { (rows : ℕ) → IsFresh rows (slice_get S.settings K) named → IsColumn rows (slice_get S.settings K) (option_map (λ v. v.items) result.1) }
 {
     let Some(named) = named else {

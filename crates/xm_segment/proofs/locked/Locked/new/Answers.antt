@@ -11,6 +11,6 @@ invariant_of-result g c =
     let unwritten = c.requires.unwritten in
     record {
       opened = c.requires.opened ∙ ap (λ (j : NumberedJournal). Some j.settings) (sym unwritten);
-      published = ap unnumbered unwritten ∙ ap (λ (cs : List Command). journal_of c.args.desk.settings cs) (sym c.requires.fresh);
-      counted = c.requires.nothing ∙ fresh-counts c.args.desk c.requires.fresh;
+      published = ap unnumbered unwritten ∙ ap (λ (cs : List Command). journal_of c.args.desk.value.settings cs) (sym c.requires.fresh);
+      counted = c.requires.nothing ∙ fresh-counts c.args.desk.value c.requires.fresh;
     }

@@ -1,4 +1,4 @@
-use Rattle.std.proofs.Common.{◌≡◌, ◌+◌, ◌∙◌, ℕ, ap, arith, length, subst, sym}
+use Rattle.std.proofs.Common.{◌≡◌, ◌+◌, ◌∙◌, ℕ, ap, arith, length, map, subst, sym}
 use Rattle.xm_segment.proofs.Boards.{boards-named, named-desks}
 use Rattle.xm_segment.specs.Boards.{AreLeft}
 use Rattle.xm_segment.specs.Names.{UnnamedSegment, board_names}
@@ -14,7 +14,7 @@ named_boards-requires-clause-boards g c =
 pub lanes_of-lanes-requires-clause-desks : goal.lanes_of-lanes-requires-clause-desks
 lanes_of-lanes-requires-clause-desks g c =
     let named = c.requires.named in
-    named-desks g.S.Naming.settings c.self.inside.desks.items c.self.inside.boards.items (named.settings_are ∙ ap (λ (o : UnnamedSegment). o.settings) (sym c.self.view_is)) c.self.invariant.desks
+    named-desks g.S.Naming.settings (map (λ desk. desk.value) c.self.inside.desks.items) c.self.inside.boards.items (named.settings_are ∙ ap (λ (o : UnnamedSegment). o.settings) (sym c.self.view_is)) c.self.invariant.desks
 
 pub seated-seats-requires-clause-rows : goal.seated-seats-requires-clause-rows
 seated-seats-requires-clause-rows g c =

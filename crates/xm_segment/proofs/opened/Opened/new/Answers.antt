@@ -25,7 +25,7 @@ invariant_of-result c =
     let boards = c.in_ok-boards.boards.items in
     let long = ap (λ (ss : List DeskSettings). length ss) both.0 in
     record {
-      desks = both.1;
+      desks = c.in_ok-desks-2.ensures ∙ both.1;
       parts = c.new.ensures;
       few = omega (arith, sound-few config c.args.workers c.args.watchers sound, long, length-map boards (λ (b : Unnamed). b.settings), length-map config.securities (settings_of config));
       few_workers = search (rules, arith);
