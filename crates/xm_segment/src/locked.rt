@@ -24,8 +24,8 @@ pub type QuoteWatch<S, const K: usize> = Watch<Quotes<S, K>>;
 /// What stands behind the lock of the security with this index: its desk, the books of its three ledgers, and the pen of its
 /// board. A clause sees the journal that is published, each command with the number of the watch that it is for. Without the
 /// numbers it is the desk's, which is lawful. It began with the settings of this security, and the books tell how many commands
-/// it has, and the quantity and the money of its trades. A desk is large, and lies in a place of its own, so that what holds eight of
-/// these is small where it is handed on.
+/// it has, and the quantity and the money of its trades. A desk is large, and lies in a place of its own, so that what holds eight
+/// of these is small where it is handed on.
 #[derive(Drop)]
 pub struct Locked<S: Naming, const K: usize> {
     desk: Box<Desk<Global>>,
