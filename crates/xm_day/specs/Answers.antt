@@ -64,7 +64,7 @@ FileRun taken config names orders result =
 -- the desks have taken these rows, and the text is the statement of their day, unless the segment can't be opened or memory is wanting
 abbrev pub RowsStated : AskedTexts → NameLists → List ℕ → SegmentConfig → List Row → Result StatedDay DayFault → Type 0
 RowsStated asked names orders config rows (Ok s) =
-    TookRows asked names orders config rows s.day × (s.text.items ≡ statement_of names (day_of s.day.desks.items s.day.report.accepted s.day.report.refused))
+    TookRows asked names orders config rows s.day × (s.text ≡ statement_of names (day_of s.day.desks.items s.day.report.accepted s.day.report.refused))
 RowsStated asked names orders config rows (Err (Open fault)) = IsOpenFault config fault
 RowsStated asked names orders config rows (Err (OutOfMemory _)) = segment_fault config ≡ None
 RowsStated asked names orders config rows (Err fault) = ⊥

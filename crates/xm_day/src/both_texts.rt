@@ -8,8 +8,9 @@ ghost use Rattle.xm_statement.specs.Statement.{statement};
 ghost use Rattle.xm_rules.specs.Step.{replay};
 ghost use Rattle.xm_ticks.specs.Writing.{AppendsPrefix};
 
+use crate::statement_text::StatementText;
 use crate::texts::write_text;
-use std::alloc::Allocator;
+use std::alloc::{Allocator, Global};
 use std::io::Write;
 use xm_desk::Desk;
 use xm_files::SegmentNames;
@@ -18,8 +19,8 @@ use xm_statement::{carry_text, statement_text};
 
 /// Writes the statement of the desks of a segment, sees that all of it went out, and then writes, to another output, their carry
 /// file. Both texts are made whole first.
-pub(crate) fn write_both<A: Allocator + Copy, B: Allocator + Copy, W: Write, K: Write>(
-    alloc: A,
+pub(crate) fn write_both<B: Allocator + Copy, W: Write, K: Write>(
+    alloc: Global,
     desks: &[Desk<B>],
     names: &SegmentNames,
     report: &DayReport,
@@ -38,14 +39,15 @@ pub(crate) fn write_both<A: Allocator + Copy, B: Allocator + Copy, W: Write, K: 
     ensures faults { IfErr result IsOfWriting }
 {
     let text = statement_text(alloc, desks, names, report.accepted, report.refused)?;
-    write_made(alloc, text.as_slice(), desks, names, out, keep)
+    let text = StatementText::whole(alloc, text);
+    write_made(alloc, &text, desks, names, out, keep)
 }
 
 /// Writes a text, which is the statement of the desks of a segment, sees that all of it went out, and then writes their carry file, which
 /// is made first.
-pub(crate) fn write_made<A: Allocator, B: Allocator + Copy, W: Write, K: Write>(
-    alloc: A,
-    text: &[u8],
+pub(crate) fn write_made<B: Allocator + Copy, W: Write, K: Write>(
+    alloc: Global,
+    text: &StatementText,
     desks: &[Desk<B>],
     names: &SegmentNames,
     out: &mut W,
@@ -65,12 +67,12 @@ pub(crate) fn write_made<A: Allocator, B: Allocator + Copy, W: Write, K: Write>(
 }
 
 /// Writes a text, and sees that all of it went out.
-fn send_text<W: Write>(out: &mut W, text: &[u8]) -> Result<(), DayFault>
+fn send_text<W: Write>(out: &mut W, text: &StatementText) -> Result<(), DayFault>
     ensures sent { OnOk result (Appends (W.contents out.old) (W.contents out.new) text.now) }
     ensures failed { OnErr result (AppendsPrefix (W.contents out.old) (W.contents out.new) text.now ⊎ Appends (W.contents out.old) (W.contents out.new) text.now) }
     ensures fault { IfErr result (λ fault. fault ≡ DayFault.WriteFailed) }
 {
-    write_text(out, text)?;
+    text.write(out)?;
     match out.flush() {
         Ok(()) => Ok(()),
         Err(_) => Err(DayFault::WriteFailed),

@@ -116,14 +116,7 @@ pub(crate) fn write_stated<W: Write, K: Write>(
     ensures untouched { IfErr result (λ fault. fault ≢ DayFault.WriteFailed → (out.new ≡ out.old) × (keep.new ≡ keep.old)) }
 {
     let StatedDay { day, text } = made?;
-    write_made(
-        alloc,
-        text.as_slice(),
-        day.desks.as_slice(),
-        names,
-        out,
-        keep,
-    )?;
+    write_made(alloc, &text, day.desks.as_slice(), names, out, keep)?;
     Ok(day.report)
 }
 

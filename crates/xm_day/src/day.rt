@@ -10,7 +10,6 @@ ghost use Rattle.xm_segment.specs.declared.opening.TheConstants.{MAX_WORKERS};
 use crate::order_file::{share_orders, take_orders};
 use crate::stated::{StatedDay, stated};
 use crate::statements::statement;
-use crate::texts::write_text;
 use std::alloc::Global;
 use std::io;
 use std::sync::Wait;
@@ -79,7 +78,7 @@ pub(crate) fn write_statement<W: io::Write>(
     ensures untouched { IfErr result (λ fault. fault ≢ DayFault.WriteFailed → out.new ≡ out.old) }
 {
     let StatedDay { day, text } = made?;
-    write_text(out, text.as_slice())?;
+    text.write(out)?;
     Ok(ToldDay {
         report: day.report,
         answers: day.told.answers.into_text(alloc),

@@ -9,6 +9,7 @@ mod day;
 pub mod examples;
 mod order_file;
 mod stated;
+mod statement_text;
 mod statements;
 mod texts;
 mod threaded;

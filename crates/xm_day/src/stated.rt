@@ -7,6 +7,7 @@ ghost use Rattle.xm_rows.specs.declared.report.AskedTexts.{AskedTexts};
 ghost use Rattle.xm_rules.specs.Step.{replay};
 ghost use Rattle.xm_segment.specs.Opening.{segment_fault};
 
+use crate::statement_text::StatementText;
 use std::alloc::Global;
 use std::thread::Threads;
 use xm_desk::Desk;
@@ -14,14 +15,14 @@ use xm_files::SegmentNames;
 use xm_memory::OutOfMemory;
 use xm_rows::{DayFault, DayReport, OpenDay};
 use xm_segment::SegmentConfig;
-use xm_statement::{push_day, push_members, push_rows, room_for_trades, statement_text};
-use xm_threads::push_sections;
+use xm_statement::{push_day, push_members, push_rows, statement_text};
+use xm_threads::security_texts;
 
 /// A day whose rows are taken, with the text of its statement.
 #[derive(Drop)]
 pub(crate) struct StatedDay {
     pub(crate) day: OpenDay,
-    pub(crate) text: Vec<u8>,
+    pub(crate) text: StatementText,
 }
 
 /// Makes the statement of a day whose rows are taken.
@@ -44,6 +45,7 @@ pub(crate) fn stated(
         day.report.accepted,
         day.report.refused,
     )?;
+    let text = StatementText::whole(alloc, text);
     Ok(StatedDay { day, text })
 }
 
@@ -83,16 +85,22 @@ fn statement_apart<T: Threads + Sync>(
     desks: Vec<Desk<Global>>,
     names: &SegmentNames,
     report: &DayReport,
-) -> Result<(Vec<Desk<Global>>, Vec<u8>), OutOfMemory>
+) -> Result<(Vec<Desk<Global>>, StatementText), OutOfMemory>
     requires some { 0 < length desks.items }
     requires names { length names.now.securities ≡ length desks.items }
     ensures desks { IfOk result (λ made. made.0.items ≡ desks.items) }
-    ensures text { IfOk result (λ made. made.1.items ≡ statement names.now (map replay desks.items) report.now.accepted report.now.refused) }
+    ensures text { IfOk result (λ made. made.1 ≡ statement names.now (map replay desks.items) report.now.accepted report.now.refused) }
 {
-    let mut text = Vec::with_capacity(alloc, room_for_trades(desks.as_slice()))?;
-    push_day(&mut text, desks[0].settings().today)?;
-    let desks = push_sections(rt, threads, &mut text, desks, names)?;
-    push_members(&mut text, desks.as_slice(), names)?;
-    push_rows(&mut text, report.accepted, report.refused)?;
+    let mut beginning = Vec::new(alloc);
+    let mut end = Vec::new(alloc);
+    push_day(&mut beginning, desks[0].settings().today)?;
+    let (desks, securities) = security_texts(rt, threads, desks, names)?;
+    push_members(&mut end, desks.as_slice(), names)?;
+    push_rows(&mut end, report.accepted, report.refused)?;
+    let text = StatementText {
+        beginning,
+        securities,
+        end,
+    };
     Ok((desks, text))
 }

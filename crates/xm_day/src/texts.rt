@@ -1,6 +1,7 @@
 //! Texts that are written.
 ghost use Rattle.std.specs.Prelude.{◌≡◌, IfErr, OnErr, OnOk};
 ghost use Rattle.std.specs.Io.KnownBytes.{Appends};
+ghost use Rattle.std.specs.List.{flat_map};
 ghost use Rattle.xm_ticks.specs.Writing.{AppendsPrefix};
 
 use std::io;
@@ -17,4 +18,16 @@ pub(crate) fn write_text<W: io::Write>(out: &mut W, text: &[u8]) -> Result<(), D
         Ok(()) => Ok(()),
         Err(_) => Err(DayFault::WriteFailed),
     }
+}
+
+/// Writes texts, one after another.
+pub(crate) fn write_each<W: io::Write>(out: &mut W, texts: &[Vec<u8>]) -> Result<(), DayFault>
+    ensures ok { OnOk result (Appends (W.contents out.old) (W.contents out.new) (flat_map (λ text. text.items) texts.now)) }
+    ensures failed { OnErr result (AppendsPrefix (W.contents out.old) (W.contents out.new) (flat_map (λ text. text.items) texts.now)) }
+    ensures fault { IfErr result (λ fault. fault ≡ DayFault.WriteFailed) }
+{
+    for text in texts {
+        write_text(out, text.as_slice())?;
+    }
+    Ok(())
 }

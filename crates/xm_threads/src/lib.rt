@@ -8,4 +8,4 @@ mod merged;
 mod sections;
 
 pub use crate::batches::run_apart;
-pub use crate::sections::push_sections;
+pub use crate::sections::security_texts;

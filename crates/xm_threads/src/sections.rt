@@ -2,17 +2,17 @@
 ghost use Rattle.std.specs.Prelude.{◌≡◌, ◌++◌, ◌<◌, ◌^◌, All, IfOk, OnOk, false, length, map};
 ghost use Rattle.std.specs.List.{flat_map};
 ghost use Rattle.xm_threads.specs.Sections.{SectionView, SectionsTold, blank_sections};
-ghost use Rattle.xm_statement.specs.Statement.{securities_text};
+ghost use Rattle.xm_statement.specs.Statement.{securities_text, security_text};
 ghost use Rattle.xm_rules.specs.Step.{replay};
 
 use std::alloc::Global;
 use std::marker::Model;
-use std::thread;
 use std::thread::Threads;
+use std::{slice, thread};
 use xm_desk::Desk;
 use xm_files::SegmentNames;
 use xm_memory::OutOfMemory;
-use xm_statement::push_security;
+use xm_statement::{push_security, room_for_trades};
 
 /// The desk of a security, the lines of the statement that tell of it, and the want of memory that they met.
 #[derive(Drop)]
@@ -53,7 +53,7 @@ impl Section {
         ensures { self.new.lacks_memory ≡ false → self.new ≡ told_section names.now self.old }
     {
         if self.wanting.is_none() {
-            self.wanting = push_security(&mut self.text, &self.desk, names, self.index).err();
+            self.wanting = push_lines(&mut self.text, &self.desk, names, self.index).err();
         }
     }
 
@@ -75,22 +75,34 @@ impl Section {
     }
 }
 
-/// Adds the securities of a statement to a text, made on so many threads, and gives back their desks.
-pub fn push_sections<T: Threads + Sync>(
+/// Adds the lines of a security to a text, in which there is room for its trades first.
+fn push_lines(
+    text: &mut Vec<u8>,
+    desk: &Desk<Global>,
+    names: &SegmentNames,
+    index: u32,
+) -> Result<(), OutOfMemory>
+    ensures { OnOk result (text.new.items ≡ text.old.items ++ security_text names.now index (replay desk.now)) }
+{
+    text.reserve(room_for_trades(slice::from_ref(desk)))?;
+    push_security(text, desk, names, index)
+}
+
+/// The lines of each security of a statement, made on so many threads, in a text of its own, and the desks, which are given back.
+pub fn security_texts<T: Threads + Sync>(
     rt: &T,
     threads: u32,
-    text: &mut Vec<u8>,
     desks: Vec<Desk<Global>>,
     names: &SegmentNames,
-) -> Result<Vec<Desk<Global>>, OutOfMemory>
+) -> Result<(Vec<Desk<Global>>, Vec<Vec<u8>>), OutOfMemory>
     requires names { length names.now.securities ≡ length desks.items }
-    ensures desks { IfOk result (λ same. same.items ≡ desks.items) }
-    ensures text { OnOk result (text.new.items ≡ text.old.items ++ securities_text names.now (map replay desks.items)) }
+    ensures desks { IfOk result (λ made. made.0.items ≡ desks.items) }
+    ensures texts { IfOk result (λ made. flat_map (λ text. text.items) made.1.items ≡ securities_text names.now (map replay desks.items)) }
     ensures few { OnOk result (length desks.items < 2 ^ 32) }
 {
     let mut sections = sections_of(desks, names)?;
     tell_sections(rt, threads, names, sections.as_mut_slice());
-    joined(text, sections)
+    taken_apart(sections)
 }
 
 /// The securities of these desks, of which nothing is told yet.
@@ -128,17 +140,19 @@ fn tell_sections<T: Threads + Sync>(
     );
 }
 
-/// Adds the lines of securities to a text, one after another, and gives back their desks.
-fn joined(text: &mut Vec<u8>, sections: Vec<Section>) -> Result<Vec<Desk<Global>>, OutOfMemory>
-    ensures desks { IfOk result (λ desks. desks.items ≡ map (λ (s : SectionView). s.journal) sections.items) }
-    ensures text { OnOk result (text.new.items ≡ text.old.items ++ flat_map (λ (s : SectionView). s.text) sections.items) }
+/// The desks of securities and their lines, unless memory was wanting for those of one.
+fn taken_apart(sections: Vec<Section>) -> Result<(Vec<Desk<Global>>, Vec<Vec<u8>>), OutOfMemory>
+    ensures desks { IfOk result (λ made. made.0.items ≡ map (λ (s : SectionView). s.journal) sections.items) }
+    ensures texts { IfOk result (λ made. flat_map (λ text. text.items) made.1.items ≡ flat_map (λ (s : SectionView). s.text) sections.items) }
     ensures had_memory { OnOk result (All (λ (s : SectionView). s.lacks_memory ≡ false) sections.items) }
 {
-    let mut desks = Vec::with_capacity(*sections.allocator(), sections.len())?;
+    let alloc = *sections.allocator();
+    let mut desks = Vec::with_capacity(alloc, sections.len())?;
+    let mut texts = Vec::with_capacity(alloc, sections.len())?;
     for section in sections {
-        let (desk, lines) = section.into_parts()?;
-        text.extend_from_slice(lines.as_slice())?;
+        let (desk, text) = section.into_parts()?;
         desks.push(desk)?;
+        texts.push(text)?;
     }
-    Ok(desks)
+    Ok((desks, texts))
 }

@@ -502,16 +502,18 @@ fn readers_that_fail(rt: HostRuntime) {
     }
 }
 
-/// Compares what a writer with this room holds, which then fails, behind the day of `CASCADE` on so many threads.
+/// Compares what a writer with this room holds, which then fails, behind the day of two texts on so many threads.
 fn fails_after(
     rt: &(impl Abort + AllocGlobal + Threads + Sync),
     threads: u32,
+    segment: &str,
+    orders: &str,
     statement: &[u8],
     room: usize,
 ) {
     for failure in FAILURES {
         let mut out = ShortWriter::new(rt.alloc(), room, failure);
-        let (mut segment, mut orders) = (SEGMENT.as_bytes(), CASCADE.as_bytes());
+        let (mut segment, mut orders) = (segment.as_bytes(), orders.as_bytes());
         let ended = tell(rt, threads, &mut segment, &mut orders, &mut out, BOTH);
         assert!(rt; matches!(ended, Err(DayFault::WriteFailed)));
         assert!(rt; out.bytes.as_slice() == statement.get(..room).unwrap_or(b""));
@@ -520,9 +522,12 @@ fn fails_after(
 
 #[test]
 fn writers_that_fail(rt: HostRuntime) {
-    let alone = tell_alone(&rt, SEGMENT, CASCADE);
-    for room in (0..alone.statement.len()).step_by(41) {
-        fails_after(&rt, 2, alone.statement.as_slice(), room);
-        fails_after(&rt, 8, alone.statement.as_slice(), room);
+    for (segment, orders) in [(SEGMENT, CASCADE), (TWO, APART)] {
+        let alone = tell_alone(&rt, segment, orders);
+        let statement = alone.statement.as_slice();
+        for room in (0..statement.len()).step_by(41) {
+            fails_after(&rt, 2, segment, orders, statement, room);
+            fails_after(&rt, 8, segment, orders, statement, room);
+        }
     }
 }

@@ -1,12 +1,12 @@
-use Rattle.std.proofs.Common.{◌≡◌, ◌++◌, ℕ, All, List, false, length, map, ap, arith, subst, ◌∙◌}
+use Rattle.std.proofs.Common.{◌≡◌, All, List, false, length, map, ap, arith, subst, ◌∙◌}
 use Rattle.std.specs.List.{flat_map}
 use Rattle.xm_rows.proofs.Days.{lent_back}
-use Rattle.xm_rows.proofs.Then.{if_ok-both, ok-both}
+use Rattle.xm_rows.proofs.Then.{if_ok-both}
 use Rattle.xm_threads.proofs.Sectioned.{all-lines, map-each, same-journals}
 use Rattle.xm_threads.specs.Sections.{SectionView, SectionsTold, blank_sections, told_section}
 use Rattle.xm_files.specs.Names.{NameLists}
 use Rattle.xm_rules.specs.Step.{Journal}
-use Rattle.xm_threads.proofs.sections.push_sections.Goals as goal
+use Rattle.xm_threads.proofs.sections.security_texts.Goals as goal
 
 -- where none lacked memory
 all-told : (names : NameLists) (desks : List Journal) (old new kept : List SectionView) → old ≡ blank_sections 0 desks → length new ≡ length old → SectionsTold names old new → kept ≡ new → All (λ (s : SectionView). s.lacks_memory ≡ false) kept
@@ -23,18 +23,16 @@ returns-clause-desks g c =
     let new = c.tell_sections.new.sections in
     let lent = lent_back new old.items old.len (c.tell_sections.auto.sections ∙ ap length c.as_mut_slice.ensures.value) old.ok.0 in
     let blank = c.as_mut_slice.ensures.value ∙ c.in_ok-sections.ensures.blank in
-    if_ok-both c.joined.result c.joined.ensures.desks c.joined.ensures.had_memory
-    (λ same is had. is ∙ ap (map (λ (s : SectionView). s.journal)) (all-told names desks c.as_mut_slice.result.now new _ blank c.tell_sections.auto.sections c.tell_sections.ensures lent had) ∙ same-journals names 0 desks)
+    if_ok-both c.taken_apart.result c.taken_apart.ensures.desks c.taken_apart.ensures.had_memory
+    (λ made is had. is ∙ ap (map (λ (s : SectionView). s.journal)) (all-told names desks c.as_mut_slice.result.now new _ blank c.tell_sections.auto.sections c.tell_sections.ensures lent had) ∙ same-journals names 0 desks)
 
-pub returns-clause-text : goal.returns-clause-text
-returns-clause-text g c =
+pub returns-clause-texts : goal.returns-clause-texts
+returns-clause-texts g c =
     let names = c.args.names.now in
     let desks = c.args.desks.items in
     let old = c.in_ok-sections.sections in
     let new = c.tell_sections.new.sections in
-    let text = c.args.text.now.items in
     let lent = lent_back new old.items old.len (c.tell_sections.auto.sections ∙ ap length c.as_mut_slice.ensures.value) old.ok.0 in
     let blank = c.as_mut_slice.ensures.value ∙ c.in_ok-sections.ensures.blank in
-    ok-both c.joined.result c.joined.ensures.text c.joined.ensures.had_memory
-    (λ is had. is ∙ ap (λ (ss : List SectionView). text ++ flat_map (λ (s : SectionView). s.text) ss) (all-told names desks c.as_mut_slice.result.now new _ blank c.tell_sections.auto.sections c.tell_sections.ensures lent had)
-    ∙ ap (λ (lines : List ℕ). text ++ lines) (all-lines names 0 desks))
+    if_ok-both c.taken_apart.result c.taken_apart.ensures.texts c.taken_apart.ensures.had_memory
+    (λ made is had. is ∙ ap (flat_map (λ (s : SectionView). s.text)) (all-told names desks c.as_mut_slice.result.now new _ blank c.tell_sections.auto.sections c.tell_sections.ensures lent had) ∙ all-lines names 0 desks)
