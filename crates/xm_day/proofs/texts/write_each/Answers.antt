@@ -2,7 +2,8 @@ use Rattle.std.proofs.Common.{rules, ◌≡◌, ◌<◌, ◌++◌, ◌∷◌, �
 use Rattle.std.specs.List.{flat_map}
 use Rattle.std.proofs.Math.Seq.{drop-cons}
 use Rattle.std.proofs.lemmas.List.Concat.{flat_map-append}
-use Rattle.xm_day.proofs.Written.{always-err, part-behind, part-first}
+use Rattle.xm_day.proofs.Written.{part-behind, part-first}
+use Rattle.xm_files.proofs.PassedErrors.{on_err}
 use Rattle.xm_ticks.specs.Writing.{AppendsPrefix}
 use Rattle.xm_day.proofs.texts.write_each.Goals as goal
 
@@ -25,4 +26,4 @@ returns-in_err-write_text-clause-failed g c =
     let rest = joined (drop (suc at) texts) in
     let parts = parts-of texts at one (search rules) (search (rules, c.text-item.is)) in
     let failed : AppendsPrefix mid new one.items = search (rules, c.in_err-write_text.ensures.failed, c.as_slice.ensures.value) in
-    always-err c.from_residual.result _ (subst (AppendsPrefix old new) (sym parts) (part-behind old mid new (joined (take at texts)) (one.items ++ rest) c.loop-text.invariant (part-first mid new one.items rest failed)))
+    on_err c.from_residual.result (subst (AppendsPrefix old new) (sym parts) (part-behind old mid new (joined (take at texts)) (one.items ++ rest) c.loop-text.invariant (part-first mid new one.items rest failed)))

@@ -2,7 +2,8 @@ use Rattle.std.proofs.Common.{rules, ◌++◌, ℕ, Global, Vec, OnErr, subst}
 use Rattle.std.specs.Io.KnownBytes.{Appends}
 use Rattle.std.specs.List.{flat_map}
 use Rattle.xm_ticks.proofs.Prefixes.{Appends-more}
-use Rattle.xm_day.proofs.Written.{always-err, on-err, part-behind, part-first}
+use Rattle.xm_day.proofs.Written.{err-then, part-behind, part-first}
+use Rattle.xm_files.proofs.PassedErrors.{on_err}
 use Rattle.xm_ticks.specs.Writing.{AppendsPrefix}
 use Rattle.xm_day.proofs.statement_text.StatementText.write.Goals as goal
 
@@ -15,7 +16,7 @@ returns-in_err-write_each-clause-failed g c =
     let lines = flat_map (λ (t : Vec ℕ Global). t.items) c.self.inside.securities.items in
     let written : Appends old mid first = search (rules, c.in_ok-write_text.ensures.ok, c.as_slice.ensures.value) in
     let failed : AppendsPrefix mid new lines = search (rules, c.in_err-write_each.ensures.failed, c.as_slice-2.ensures.value) in
-    always-err c.from_residual-in_err-write_each.result _ (subst (AppendsPrefix old new) c.self.view_is (part-first old new (first ++ lines) c.self.inside.end.items (part-behind old mid new first lines written failed)))
+    on_err c.from_residual-in_err-write_each.result (subst (AppendsPrefix old new) c.self.view_is (part-first old new (first ++ lines) c.self.inside.end.items (part-behind old mid new first lines written failed)))
 
 pub returns-clause-failed : goal.returns-clause-failed
 returns-clause-failed g c =
@@ -29,4 +30,4 @@ returns-clause-failed g c =
     let written : Appends old mid first = search (rules, c.in_ok-write_text.ensures.ok, c.as_slice.ensures.value) in
     let each : Appends mid next lines = search (rules, c.in_ok-write_each.ensures.ok, c.as_slice-2.ensures.value) in
     let failed : OnErr c.write_text-2.result (AppendsPrefix next new end) = search (rules, c.write_text-2.ensures.failed, c.as_slice-3.ensures.value) in
-    on-err c.write_text-2.result failed (λ part. subst (AppendsPrefix old new) c.self.view_is (part-behind old next new (first ++ lines) end (Appends-more old mid next first lines written each) part))
+    err-then c.write_text-2.result failed (λ part. subst (AppendsPrefix old new) c.self.view_is (part-behind old next new (first ++ lines) end (Appends-more old mid next first lines written each) part))
