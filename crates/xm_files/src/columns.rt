@@ -5,7 +5,7 @@ ghost use Rattle.xm_files.specs.Rows.{column_index, title_of};
 use crate::order_format::MOST_COLUMNS;
 
 /// A column that a format may have.
-#[derive(Clone, Copy, PartialEq, Eq, Debug)]
+#[derive(Clone, Copy)]
 pub(crate) enum Column {
     Command,
     Member,

@@ -11,7 +11,7 @@ use std::marker::Model;
 use xm_memory::OutOfMemory;
 
 /// Where the reading of records stands.
-#[derive(Clone, Copy, PartialEq, Eq, Debug)]
+#[derive(Clone, Copy)]
 enum Standing {
     /// The record that was read last waits.
     Ahead,

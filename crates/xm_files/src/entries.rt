@@ -13,14 +13,14 @@ use xm_segment::{SecurityConfig, SegmentConfig};
 use xm_ticks::TickSize;
 
 /// What a record says: a command on one security, or on each.
-#[derive(Clone, Copy, PartialEq, Eq, Debug)]
+#[derive(Clone, Copy)]
 pub(crate) enum RecordEntry {
     One(u32, Command),
     Each(Command),
 }
 
 /// The command words.
-#[derive(Clone, Copy, PartialEq, Eq, Debug)]
+#[derive(Clone, Copy)]
 pub(crate) enum Word {
     Enter,
     Change,

@@ -12,7 +12,7 @@ use xm_rules::{Command, Condition, Kind, Order, Restriction, Stop, Validity, is_
 use xm_segment::SecurityConfig;
 
 /// An order or a stop that an earlier day left.
-#[derive(Clone, Copy, PartialEq, Eq, Debug)]
+#[derive(Clone, Copy)]
 pub(crate) enum Entry {
     Order(Order),
     Stop(Stop),
@@ -31,7 +31,7 @@ impl Entry {
 }
 
 /// What a record says: an order or a stop of the security with this index.
-#[derive(Clone, Copy, PartialEq, Eq, Debug)]
+#[derive(Clone, Copy)]
 pub(crate) struct Listed {
     pub(crate) security: u32,
     pub(crate) entry: Entry,

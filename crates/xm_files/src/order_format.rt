@@ -11,7 +11,7 @@ pub(crate) const MOST_COLUMNS: usize = 13;
 
 /// A format of order files, or that of the carry file. It says which columns a record has, in which order, and which commands
 /// records give.
-#[derive(Clone, Copy, PartialEq, Eq, Debug)]
+#[derive(Clone, Copy)]
 pub(crate) enum OrderFormat {
     First,
     /// With a free text behind the columns of the first.
