@@ -61,10 +61,13 @@ carry_app =
 abbrev pub check_app : App
 check_app = with_rule (new_app (codes "check")) (path_rule (codes "SEGMENT"))
 
+-- `xetra-day` without its subcommands, of which one has to be given
+abbrev pub top_app : App
+top_app = on_top (λ s. record s { has_version = true; subcommand_required = true; arg_required_else_help = true }) (new_app (codes "xetra-day"))
+
 -- `xetra-day`, with a subcommand
 abbrev pub day_app : App
-day_app = with_subcommand (with_subcommand (with_subcommand (on_top (λ s. record s { has_version = true; subcommand_required = true; arg_required_else_help = true })
-    (new_app (codes "xetra-day"))) run_app.top) carry_app.top) check_app.top
+day_app = with_subcommand (with_subcommand (with_subcommand top_app run_app.top) carry_app.top) check_app.top
 
 -- ---- what the words ask for
 

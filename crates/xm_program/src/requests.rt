@@ -1,9 +1,9 @@
 //! What the words of the command line ask for.
 ghost use Rattle.std.specs.Prelude.{◌≡◌, [], IfOk, IfErr, IfSome, IsSome, None, codes, map, option_and_then, option_map, string_bytes, false, true};
-ghost use Rattle.clap.specs.Words.{app_of, fault_of, first_of, found_of, kind_of, one_of, rows_of, rule_of, subcommand_rows_of, takes};
+ghost use Rattle.clap.specs.Words.{app_of, fault_of, first_of, found_of, kind_of, new_app, one_of, rows_of, rule_of, subcommand_rows_of, takes};
 ghost use Rattle.clap.specs.declared.builder.command.Command.TheViews.{out-Command as fields_of};
 ghost use Rattle.clap.specs.declared.error.kind.ErrorKind.TheVariants as kind;
-ghost use Rattle.xm_program.specs.Requests.{AnswersWords, Asked, Asks, IsGranted, IsOfWords, IsRequest, IsTold, IsUnread, answer_of, asked_in, asked_of, can_tell, carry_app, carry_to, check_app, concurrency_in, count_in, count_rule, day_app, failure_status, file_rule, is_file, is_one_path, path_rule, run_app, run_to, told_run};
+ghost use Rattle.xm_program.specs.Requests.{AnswersWords, Asked, Asks, IsGranted, IsOfWords, IsRequest, IsTold, IsUnread, answer_of, asked_in, asked_of, can_tell, carry_app, carry_to, check_app, concurrency_in, count_in, count_rule, day_app, failure_status, file_rule, is_file, is_one_path, path_rule, run_app, run_to, told_run, top_app};
 
 use crate::concurrency::{Concurrency, concurrency_of};
 use crate::count::Count;
@@ -17,6 +17,8 @@ use xm_segment::MAX_WORKERS;
 
 /// What `--version` prints behind the name; the script `xetra-day` reads it here.
 const VERSION: &str = "0.1.0";
+
+const PROGRAM: &str = "xetra-day";
 
 const RUN: &str = "run";
 
@@ -46,10 +48,14 @@ const ORDERS_HELP: &str =
 const KEEP_HELP: &str =
     "The carry file (CSV) of the next day, which is written behind the statement";
 
+const DAY_SHORT: &str = "Replays a trading day of a segment of securities and writes its statement";
+
 const DAY_HELP: &str = "Replays a trading day of a segment of securities and writes its statement.
 
 docs/FORMATS.md tells all of the files that are read and written.
 `xetra-day run --help` shows a whole small day.";
+
+const RUN_SHORT: &str = "Runs the day of two files and writes its statement to standard output";
 
 const RUN_HELP: &str = "Runs the day of two files and writes its statement to standard output.
 
@@ -77,6 +83,9 @@ orders.csv
   close,,,*,,,,,,,,
   uncross,,,*,,,,,,,,
   end,,,*,,,,,,,,";
+
+const CARRY_SHORT: &str =
+    "Runs the day of two files with what earlier days left, and writes what it leaves";
 
 const CARRY_HELP: &str =
     "Runs the day of two files with what earlier days left, and writes what it leaves.
@@ -144,6 +153,8 @@ const THREADS_HELP: &str =
 For a replay: as many as there are processors. What is written is what one thread writes, byte for
 byte. Each thread takes the rows of securities of its own while the file is read ahead of it, so a
 day of one security gains from the reading alone. It goes with one worker.";
+
+const CHECK_SHORT: &str = "Checks a segment file and writes how many securities and members it has";
 
 const CHECK_HELP: &str = "Checks a segment file and writes how many securities and members it has.
 
@@ -493,18 +504,22 @@ fn bytes_error(alloc: Global) -> Result<Error, OutOfMemory>
 fn command_line<'a>(alloc: Global) -> Result<Command<'a>, OutOfMemory>
     ensures { IfOk result (λ command. app_of command ≡ day_app) }
 {
-    let command = Command::new(alloc, "xetra-day")
-        .bin_name("xetra-day")?
-        .version(VERSION)
-        .about("Replays a trading day of a segment of securities and writes its statement")
-        .long_about(DAY_HELP)
-        .after_help(STATUS_HELP)
-        .subcommand_required(true)
-        .arg_required_else_help(true)
+    let command = top_command(alloc)
+        .bin_name(PROGRAM)?
         .subcommand(run_command(alloc)?)?
         .subcommand(carry_command(alloc)?)?
         .subcommand(check_command(alloc)?)?;
     Ok(command)
+}
+
+/// The command line without its parts.
+fn top_command<'a>(alloc: Global) -> Command<'a>
+    ensures { app_of result ≡ top_app }
+{
+    titled(alloc, PROGRAM, DAY_SHORT, DAY_HELP)
+        .version(VERSION)
+        .subcommand_required(true)
+        .arg_required_else_help(true)
 }
 
 /// The part of the command line that runs a day.
@@ -512,12 +527,9 @@ fn run_command<'a>(alloc: Global) -> Result<Command<'a>, OutOfMemory>
     ensures app { IfOk result (λ command. app_of command ≡ run_app) }
     ensures local { IfOk result (λ command. (fields_of command).has_globals ≡ false) }
 {
-    let command = Command::new(alloc, RUN)
-        .about("Runs the day of two files and writes its statement to standard output")
-        .long_about(RUN_HELP)
-        .after_help(STATUS_HELP)
-        .arg(path(alloc, SEGMENT).help(SEGMENT_HELP))?
-        .arg(path(alloc, ORDERS).help(ORDERS_HELP))?
+    let command = titled(alloc, RUN, RUN_SHORT, RUN_HELP)
+        .arg(path(alloc, SEGMENT, SEGMENT_HELP))?
+        .arg(path(alloc, ORDERS, ORDERS_HELP))?
         .arg(count(alloc, WORKERS, WORKERS_SHORT, WORKERS_HELP))?
         .arg(count(alloc, THREADS, THREADS_SHORT, THREADS_HELP))?
         .arg(file(alloc, ANSWERS, ANSWERS_SHORT, ANSWERS_HELP))?
@@ -530,14 +542,11 @@ fn carry_command<'a>(alloc: Global) -> Result<Command<'a>, OutOfMemory>
     ensures app { IfOk result (λ command. app_of command ≡ carry_app) }
     ensures local { IfOk result (λ command. (fields_of command).has_globals ≡ false) }
 {
-    let command = Command::new(alloc, CARRY)
-        .about("Runs the day of two files with what earlier days left, and writes what it leaves")
-        .long_about(CARRY_HELP)
-        .after_help(STATUS_HELP)
-        .arg(path(alloc, SEGMENT).help(SEGMENT_HELP))?
-        .arg(path(alloc, CARRIED).help(CARRIED_HELP))?
-        .arg(path(alloc, ORDERS).help(ORDERS_HELP))?
-        .arg(path(alloc, KEEP).help(KEEP_HELP))?
+    let command = titled(alloc, CARRY, CARRY_SHORT, CARRY_HELP)
+        .arg(path(alloc, SEGMENT, SEGMENT_HELP))?
+        .arg(path(alloc, CARRIED, CARRIED_HELP))?
+        .arg(path(alloc, ORDERS, ORDERS_HELP))?
+        .arg(path(alloc, KEEP, KEEP_HELP))?
         .arg(count(alloc, WORKERS, WORKERS_SHORT, WORKERS_HELP))?
         .arg(count(alloc, THREADS, THREADS_SHORT, THREADS_HELP))?;
     Ok(command)
@@ -548,20 +557,30 @@ fn check_command<'a>(alloc: Global) -> Result<Command<'a>, OutOfMemory>
     ensures app { IfOk result (λ command. app_of command ≡ check_app) }
     ensures local { IfOk result (λ command. (fields_of command).has_globals ≡ false) }
 {
-    let command = Command::new(alloc, CHECK)
-        .about("Checks a segment file and writes how many securities and members it has")
-        .long_about(CHECK_HELP)
-        .after_help(STATUS_HELP)
-        .arg(path(alloc, SEGMENT).help(SEGMENT_HELP))?;
-    Ok(command)
+    let segment = path(alloc, SEGMENT, SEGMENT_HELP);
+    Ok(titled(alloc, CHECK, CHECK_SHORT, CHECK_HELP).arg(segment)?)
 }
 
-/// The path of a file, which has to be given.
-fn path<'a>(alloc: Global, name: &'a str) -> Arg<'a>
+/// A command with its help in short and at length, behind which the exit statuses stand.
+fn titled<'a>(alloc: Global, name: &'a str, short: &'a str, long: &'a str) -> Command<'a>
+    ensures app { app_of result ≡ new_app name.entry.now }
+    ensures local { (fields_of result).has_globals ≡ false }
+{
+    Command::new(alloc, name)
+        .about(short)
+        .long_about(long)
+        .after_help(STATUS_HELP)
+}
+
+/// The path of a file, which has to be given, with its help.
+fn path<'a>(alloc: Global, name: &'a str, help: &'a str) -> Arg<'a>
     ensures rule { rule_of result ≡ path_rule name.entry.now }
     ensures local { result.global ≡ false }
 {
-    Arg::new(alloc, name).required(true).action(ArgAction::Set)
+    Arg::new(alloc, name)
+        .required(true)
+        .action(ArgAction::Set)
+        .help(help)
 }
 
 /// A number of workers or of threads, which may be left out, with its help in short and at length.
