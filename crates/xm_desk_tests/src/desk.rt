@@ -2,7 +2,6 @@
 //! and refusals are shown by the cases in `crates/xetra_cases/data`. Commands and answers stand in tables: a table is a value, while
 //! each call in a test is proved.
 
-mod book_or_cancel;
 mod carried;
 mod cascades;
 mod day;
