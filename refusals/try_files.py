@@ -1,5 +1,6 @@
 """Runs the built program on files that are made to hurt, and on ordinary ones. Each must say what is promised, in at most twice the
-processor time that the ordinary one takes for as many bytes, of three runs the least, or in so many times as stand beside it.
+processor time that the ordinary one takes for as many bytes, of three runs the least, or in so many times as stand beside it. Where
+it takes more, both are run once more, one behind the other, since the speed of a machine may change.
 
 Usage: try_files.py PROGRAM ROOM [WORD..]
 
@@ -174,32 +175,39 @@ def size_of(day):
     return len(day.segment if day.orders is None else day.orders)
 
 
-def ordinary_times(program, room, titles):
-    """The processor time that the ordinary files with these titles take for a byte."""
-    times = {}
-    for title in titles:
-        day = ORDINARY[title]()
-        run = run_least(program, room, day, 120)
-        if run.line != day.promise:
-            sys.exit(f"try_files.py: {title}: {run.line} in place of {day.promise}")
-        show(title, size_of(day), run, None, "")
-        times[title] = run.seconds / size_of(day)
-    return times
+def ordinary_time(program, room, title):
+    """The processor time that the ordinary file with this title takes for a byte."""
+    day = ORDINARY[title]()
+    run = run_least(program, room, day, 120)
+    if run.line != day.promise:
+        sys.exit(f"try_files.py: {title}: {run.line} in place of {day.promise}")
+    show(title, size_of(day), run, None, "")
+    return run.seconds / size_of(day)
 
 
-def attempt(program, room, trial, time):
-    """Tries a file, for a byte of which an ordinary one takes this time; answers whether it ended with status 0, and whether it is
-    wrong."""
+def attempt(program, room, trial, times):
+    """Tries a file, beside the ordinary ones, which take these times for a byte; answers whether it ended with status 0, and
+    whether it is wrong."""
     day = trial.make()
-    ordinary = time * size_of(day)
-    most = max(FLOOR, trial.most * ordinary)
-    run = run_least(program, room, day, 5 + round(END_TIMES * most))
+    size = size_of(day)
+
+    def most():
+        return max(FLOOR, trial.most * times[trial.ordinary] * size)
+
+    def run_day():
+        return run_least(program, room, day, 5 + round(END_TIMES * most()))
+
+    run = run_day()
+    if run.seconds > most():
+        # The machine may have become slower since the ordinary file was run.
+        times[trial.ordinary] = ordinary_time(program, room, trial.ordinary)
+        run = run_day()
     wrong = ""
-    if run.seconds > most:
+    if run.seconds > most():
         wrong = f"wrong: more than {trial.most} times {trial.ordinary}"
     if run.line != day.promise:
         wrong = f"wrong: {run.line} in place of {day.promise}"
-    show(trial.title, size_of(day), run, ordinary, wrong)
+    show(trial.title, size, run, times[trial.ordinary] * size, wrong)
     return run.line.startswith(("ROWS", "OK")), bool(wrong)
 
 
@@ -208,8 +216,9 @@ def main(program, room, words):
     trials = [*order_files(), *segment_files(), *name_files(f"{room}/collide"), *days(), *dear_days()]
     trials = [trial for trial in trials if not words or any(word in trial.title for word in words)]
     print(f"{'File':50} {'bytes':>10} {'seconds':>7} {'times':>6}")
-    times = ordinary_times(program, room, [title for title in ORDINARY if any(trial.ordinary == title for trial in trials)])
-    ends = [attempt(program, room, trial, times[trial.ordinary]) for trial in trials]
+    needed = {trial.ordinary for trial in trials}
+    times = {title: ordinary_time(program, room, title) for title in ORDINARY if title in needed}
+    ends = [attempt(program, room, trial, times) for trial in trials]
     wrong = sum(is_wrong for _, is_wrong in ends)
     whole = sum(is_whole and not is_wrong for is_whole, is_wrong in ends)
     with open(f"{room}/table", "a", encoding="ascii") as table:
