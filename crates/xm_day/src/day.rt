@@ -132,8 +132,9 @@ pub fn run_told<S: io::Read, R: io::Read, W: io::Write>(
 /// Runs the day of a segment file and an order file with so many workers. One takes the rows as `run_alone` does.
 ///
 /// Several take each round of the order file side by side, each the rows of its members, in their order, in a thread of its
-/// own; then the round's phase rows are taken. So two runs may differ where members compete. What is written is the
-/// statement of lawful journals, one for each security, whose commands are the accepted rows.
+/// own, or on the calling one where one worker alone has rows; then the round's phase rows are taken. So two runs may differ
+/// where members compete. What is written is the statement of lawful journals, one for each security, whose commands are the
+/// accepted rows.
 ///
 /// The faults are those of `run_alone`, in their order. `OutOfMemory` also tells that a thread's start was refused.
 pub fn run_day<T: Threads + Wait + Sync, G: Gate + Sync, S: io::Read, R: io::Read, W: io::Write>(

@@ -1,4 +1,5 @@
-//! The day of a segment: its rows run on desks, its statement, and beside it the answers to its rows and the levels behind them.
+//! The day of a segment: its rows run on desks, its statement, beside it the answers to its rows and the levels behind them, and what
+//! it leaves to the next day; and the check of a segment file.
 #![tactic(auto)]
 
 mod both_texts;

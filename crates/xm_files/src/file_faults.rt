@@ -27,8 +27,9 @@ pub enum FileCause {
     DuplicateName,
     /// An order file or a carry file has no record, or the first isn't the header.
     BadHeader,
-    /// A command word, an empty required field, a filled field that must be empty, or a text that
-    /// isn't listed. In a carry file, an unknown name, or a number or a price out of range, too.
+    /// A command word, an empty required field, a filled field that must be empty, a text that isn't
+    /// listed, or a free text of more than 64 bytes. In a carry file, an unknown name, a number or a
+    /// price out of range, or a validity of the day, too.
     BadField,
     /// An order file has more than 1,000,000 rows, or a carry file more than 100,000 entries of a
     /// security.

@@ -186,7 +186,8 @@ impl<'a> RowReader<'a> {
     /// Reads the next rows as `read` does, with as many threads side by side as there are parts, so that only the time that it takes
     /// depends on them. Answers whether there may be more.
     ///
-    /// Lines without quotes are read in parts; where a part can't be read so, `read` goes on from what comes before it.
+    /// Lines without quotes are read in parts. Where a part can't be read so, the batch ends before it; where that is the first,
+    /// `read` goes on.
     pub fn read_in_parts<T: Threads + Sync>(
         &mut self,
         rt: &T,

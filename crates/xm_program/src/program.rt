@@ -227,6 +227,9 @@ fn read_command_line<R: Env + AllocGlobal>(rt: &R) -> Result<Vec<String>, Failur
 }
 
 /// Writes the statement of the day in two files, whose rows are taken so, and sees that all of it went out.
+///
+/// The faults are those of `xm_day::run_day`, in their order, as `told` gives them. `WriteFailed` also tells that the writer
+/// couldn't be flushed.
 pub fn run<R: Threads + Wait + Sync, S: Read, O: Read, W: Write>(
     rt: &R,
     storage: Storage<Global>,
@@ -294,7 +297,8 @@ fn tell_rows<R: Threads + Sync, S: Read, O: Read, W: Write>(
 /// Writes the statement of the day in two files that opens with a carry file, whose rows are taken so, sees that all of it went
 /// out, and then does so with the carry file of the next day.
 ///
-/// `WriteFailed` tells that one of both writers failed. The second got nothing unless the whole statement was written.
+/// `WriteFailed` tells that one of both writers failed. The second got nothing unless the whole statement was written. The other
+/// faults are those of `xm_day::carry_day`, in their order, as `told` gives them.
 pub fn carry_over<R: Threads + Wait + Sync, S: Read, C: Read, O: Read, W: Write, K: Write>(
     rt: &R,
     storage: Storage<Global>,
@@ -359,7 +363,8 @@ fn carry_rows<R: Threads + Wait + Sync, S: Read, C: Read, O: Read, W: Write, K: 
 /// does so with the answers to its rows and with the levels behind them, as far as they are asked for. Where one isn't, nothing
 /// is written to its writer.
 ///
-/// `WriteFailed` tells that one of the writers failed. Those behind it got nothing.
+/// `WriteFailed` tells that one of the writers failed. Those behind it got nothing. The other faults are those of
+/// `xm_day::run_told`, in their order, as `told` gives them.
 pub fn run_told<R: Threads + Sync, S: Read, O: Read, W: Write, A: Write, D: Write>(
     rt: &R,
     storage: Storage<Global>,
@@ -414,6 +419,9 @@ fn send<W: Write>(out: &mut W, text: &[u8]) -> Result<(), DayFault>
 }
 
 /// Writes the line of a segment file that opens, and sees that all of it went out.
+///
+/// The faults are those of `xm_day::check`, in their order, as `told` gives them. `WriteFailed` also tells that the writer couldn't
+/// be flushed.
 pub fn check<S: Read, W: Write>(
     storage: Storage<Global>,
     segment: &mut S,

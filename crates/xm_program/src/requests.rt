@@ -204,7 +204,7 @@ pub enum Request<'a> {
 /// Why the program ends without what it was asked for.
 #[derive(Debug, Drop)]
 pub enum Failure {
-    /// The day has no statement, or the segment file isn't one that opens.
+    /// The day has no statement, a text beside it or a help text didn't go out whole, or the segment file isn't one that opens.
     Day(DayFault),
     /// The words are mistaken, as the text says.
     Words(Error),

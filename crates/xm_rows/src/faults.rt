@@ -7,7 +7,8 @@ use xm_desk::OpenFault;
 use xm_files::FileFault;
 use xm_memory::OutOfMemory;
 
-/// Why a day has no statement, in the order of the checks.
+/// Why a day has no statement, in the order of the checks. `WriteFailed` may also come before all of them, where a file that is to
+/// be written can't be made, and behind a whole statement, where another text failed.
 #[derive(Clone, Copy, PartialEq, Eq, Debug, Error)]
 pub enum DayFault {
     /// The segment file has a fault.
@@ -25,7 +26,7 @@ pub enum DayFault {
     /// A growth was refused.
     #[error("out of memory")]
     OutOfMemory(OutOfMemory),
-    /// The writer failed, or took no byte.
+    /// A writer failed, or took no byte, or a file that is to be written can't be made.
     #[error("write failed")]
     WriteFailed,
 }

@@ -73,8 +73,8 @@ impl Opened {
     /// Opens a segment for so many workers and watchers.
     ///
     /// The fault is the first of these: no security; more than `MAX_SECURITIES` of them, `MAX_MEMBERS` members,
-    /// `MAX_WORKERS` workers or as many watchers; widths of a security that aren't lawful. It is `OutOfMemory` where a growth
-    /// was refused.
+    /// `MAX_WORKERS` workers or as many watchers; widths of a security that aren't lawful; orders or stops of one that earlier
+    /// days can't have left. It is `OutOfMemory` where a growth was refused.
     pub fn new(
         storage: Storage<Global>,
         config: &SegmentConfig,
