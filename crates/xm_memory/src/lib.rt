@@ -1,4 +1,4 @@
-//! Want of memory, which nothing but a refused growth can say, or a refused start of a thread.
+//! Want of memory, which nothing can say but a refused growth, a refused start of a thread, or a count that no memory reaches.
 #![tactic(auto)]
 
 ghost use Rattle.std.specs.Prelude.{◌<◌, ◌≤◌, OnErr, OnOk};
@@ -7,10 +7,10 @@ use std::alloc::{AllocError, AllocFailed};
 use std::marker::Model;
 use std::thread::SpawnError;
 
-/// A growth was refused, or the start of a thread.
+/// A growth was refused, or the start of a thread; or a count is above a limit that no memory reaches.
 ///
-/// It has no public constructor: it is made of the error of such a refusal alone, so an answer that carries it can't
-/// be made up. A clause sees all of them as one.
+/// It has no public constructor: it is made of the error of such a refusal, or of such a count, alone, so an answer that
+/// carries it can't be made up. A clause sees all of them as one.
 #[derive(Clone, Copy, PartialEq, Eq, Hash, Debug)]
 pub struct OutOfMemory {
     refused: (),
