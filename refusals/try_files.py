@@ -185,14 +185,14 @@ def ordinary_time(program, room, title):
     return run.seconds / size_of(day)
 
 
-def attempt(program, room, trial, times):
-    """Tries a file, beside the ordinary ones, which take these times for a byte; answers whether it ended with status 0, and
-    whether it is wrong."""
+def attempt(program, room, trial, time):
+    """Tries a file, for a byte of which an ordinary one takes this time; answers whether it ended with status 0, and whether it is
+    wrong."""
     day = trial.make()
     size = size_of(day)
 
     def most():
-        return max(FLOOR, trial.most * times[trial.ordinary] * size)
+        return max(FLOOR, trial.most * time * size)
 
     def run_day():
         return run_least(program, room, day, 5 + round(END_TIMES * most()))
@@ -200,14 +200,14 @@ def attempt(program, room, trial, times):
     run = run_day()
     if run.seconds > most():
         # The machine may have become slower since the ordinary file was run.
-        times[trial.ordinary] = ordinary_time(program, room, trial.ordinary)
+        time = ordinary_time(program, room, trial.ordinary)
         run = run_day()
     wrong = ""
     if run.seconds > most():
         wrong = f"wrong: more than {trial.most} times {trial.ordinary}"
     if run.line != day.promise:
         wrong = f"wrong: {run.line} in place of {day.promise}"
-    show(trial.title, size, run, times[trial.ordinary] * size, wrong)
+    show(trial.title, size, run, time * size, wrong)
     return run.line.startswith(("ROWS", "OK")), bool(wrong)
 
 
@@ -218,7 +218,7 @@ def main(program, room, words):
     print(f"{'File':50} {'bytes':>10} {'seconds':>7} {'times':>6}")
     needed = {trial.ordinary for trial in trials}
     times = {title: ordinary_time(program, room, title) for title in ORDINARY if title in needed}
-    ends = [attempt(program, room, trial, times) for trial in trials]
+    ends = [attempt(program, room, trial, times[trial.ordinary]) for trial in trials]
     wrong = sum(is_wrong for _, is_wrong in ends)
     whole = sum(is_whole and not is_wrong for is_whole, is_wrong in ends)
     with open(f"{room}/table", "a", encoding="ascii") as table:
