@@ -1,5 +1,5 @@
 //! Files that are made to hurt, and what they answer. How long the built program takes over such files at the limit of bytes,
-//! `./hostile files` sees.
+//! `dev/hostile/run files` sees.
 use super::fixtures::{Filler, HEADER, SECOND, replaced};
 use super::{order_files, segment_files};
 use std::alloc::Global;

@@ -21,16 +21,17 @@ data=$copy/crates/xetra_cases/data
 # What the stand-in gives for an order file: the files NAME.statement and NAME.answers.csv, or NAME.fault. Its levels are a name. What
 # it leaves of a day that opens with a carry file is that file with a line more.
 gives=$room/gives
-mkdir -p "$data" "$gives" "$copy/out" "$room/rooms"
-cp -- "$here/cases" "$copy"
+mkdir -p "$data" "$gives" "$copy/dev" "$copy/dist" "$room/rooms"
+cp -- "$here/dev/cases" "$copy/dev"
 TMPDIR=$room/rooms
 export TMPDIR
 
 cat >"$copy/xetra-day" <<END
 #!/bin/sh
 [ ! -e "$room/unbuilt" ] || exit 3
+[ "\$1" != --path ] || echo "$copy/dist/xetra-day"
 END
-cat >"$copy/out/xetra-day" <<END
+cat >"$copy/dist/xetra-day" <<END
 #!/bin/sh
 if [ "\$1" = carry ]; then
     { cat "\$3"; basename "\$4"; } >"\$5"
@@ -45,7 +46,7 @@ cat "$gives/\$name.answers.csv" >"\$5"
 echo "\$name" >"\$7"
 cat "$gives/\$name.statement"
 END
-chmod +x "$copy/xetra-day" "$copy/out/xetra-day"
+chmod +x "$copy/xetra-day" "$copy/dist/xetra-day"
 
 # Two days and a fault, each as it is stored.
 touch "$data/segment.toml" "$data/one.segment.toml"
@@ -62,7 +63,7 @@ store_all() {
 store_all
 
 call() {
-    "$copy/cases" "$@" >"$room/out" 2>"$room/err"
+    "$copy/dev/cases" "$@" >"$room/out" 2>"$room/err"
 }
 
 call

@@ -23,9 +23,9 @@ check() {
 }
 
 # low has two edits beside the gate's one, high stands on it and has none.
-mkdir -p "$room/bin" "$room/clones" "$room/copy/crates/low/src" "$room/copy/crates/low/out" "$room/copy/crates/low/must-fail" \
+mkdir -p "$room/bin" "$room/clones" "$room/copy/dev" "$room/copy/crates/low/src" "$room/copy/crates/low/out" "$room/copy/crates/low/must-fail" \
     "$room/copy/crates/low/wrong-bodies" "$room/copy/crates/high/src"
-cp -- "$here/wrong-bodies" "$room/copy"
+cp -- "$here/dev/wrong-bodies" "$room/copy/dev"
 printf '# libraries\nlow: slab\nhigh tests_may=Wait: low\n' >"$room/copy/crates.txt"
 echo 'Handles allowed: none.' >"$room/copy/HANDLES"
 printf 'fn first() {}\n\n#[inline]\npub fn second() {\n    first()\n}\n' >"$room/copy/crates/low/src/lib.rt"
@@ -43,7 +43,7 @@ TMPDIR=$room/clones
 export TMPDIR
 
 call() {
-    "$room/copy/wrong-bodies" "$@" >"$room/out" 2>"$room/err"
+    "$room/copy/dev/wrong-bodies" "$@" >"$room/out" 2>"$room/err"
 }
 
 cat >"$room/said" <<'END'
@@ -88,7 +88,7 @@ check 'a mistaken name' 'wrong-bodies: crates.txt names no crate nowhere' "$(cat
 : >"$room/waits"
 for signal in HUP TERM; do
     rm -f -- "$room/waiting"
-    "$room/copy/wrong-bodies" low >"$room/out" 2>"$room/err" &
+    "$room/copy/dev/wrong-bodies" low >"$room/out" 2>"$room/err" &
     called=$!
     until [ -s "$room/waiting" ]; do sleep 0.1; done
     kill -s "$signal" "$called"
