@@ -45,23 +45,23 @@ const DESCRIPTORS: &str = "/proc/self/fd";
 /// The file that standard output goes to, which gets the statement.
 const STATEMENT_PATH: &str = "/proc/self/fd/1";
 
-/// The files for answers and levels, as far as there are paths. Where one of the two files that are to be read lies at such a
-/// path, or the one that standard output goes to, it is not touched, and that is an error; it is one too where both would be the
-/// same file, or where standard output is closed, whose place a file would take.
+/// The files for two texts, as far as there are paths. Where one of the files that are to be read lies at such a path, or the one
+/// that standard output goes to, it is not touched, and that is an error; it is one too where both would be the same file, or where
+/// standard output is closed, whose place a file would take.
 pub(crate) fn make_files<R: Files>(
     rt: &R,
-    answers: Option<&str>,
-    depth: Option<&str>,
-    inputs: [&str; 2],
+    first: Option<&str>,
+    second: Option<&str>,
+    inputs: &[&str],
 ) -> io::Result<(Output<R::File>, Output<R::File>)> {
-    if is_closed(rt)? || is_taken(rt, answers, inputs)? || is_taken(rt, depth, inputs)? {
+    if is_closed(rt)? || is_taken(rt, first, inputs)? || is_taken(rt, second, inputs)? {
         return Err(io::Error::from(io::ErrorKind::AlreadyExists));
     }
-    let made = make_file(rt, answers)?;
-    if is_one(rt, answers, depth)? {
+    let made = make_file(rt, first)?;
+    if is_one(rt, first, second)? {
         return Err(io::Error::from(io::ErrorKind::AlreadyExists));
     }
-    Ok((made, make_file(rt, depth)?))
+    Ok((made, make_file(rt, second)?))
 }
 
 /// The file at a path, empty, where there is a path.
@@ -78,12 +78,16 @@ fn is_closed<R: Files>(rt: &R) -> io::Result<bool> {
 }
 
 /// Whether at a path, if there is one, lies a file that is to be read, or the one that standard output goes to.
-fn is_taken<R: Files>(rt: &R, path: Option<&str>, inputs: [&str; 2]) -> io::Result<bool> {
+fn is_taken<R: Files>(rt: &R, path: Option<&str>, inputs: &[&str]) -> io::Result<bool> {
     let Some(path) = path else {
         return Ok(false);
     };
-    let [segment, orders] = inputs;
-    Ok(is_same(rt, path, segment)? || is_same(rt, path, orders)? || has_statement(rt, path)?)
+    for input in inputs {
+        if is_same(rt, path, input)? {
+            return Ok(true);
+        }
+    }
+    has_statement(rt, path)
 }
 
 /// Whether both paths are there, and the same file lies at them.

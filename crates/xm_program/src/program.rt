@@ -134,7 +134,7 @@ fn tell_files<R: AllocGlobal + Files + RandomSource + Threads + Sync, W: Write>(
         rt,
         answers,
         depth,
-        [segment, orders],
+        &[segment, orders],
     ) {
         Ok(files) => files,
         Err(_) => return Err(DayFault::WriteFailed),
@@ -155,7 +155,7 @@ fn tell_files<R: AllocGlobal + Files + RandomSource + Threads + Sync, W: Write>(
 }
 
 /// Writes the statement of the day in the files at two paths, which opens with the carry file at another, and the carry file of the
-/// next day to that at the last, which is made before any is read.
+/// next day to that at the last, which is made before any is read and is none of these.
 fn carry_files<R: AllocGlobal + Files + RandomSource + Threads + Wait + Sync, W: Write>(
     rt: &R,
     segment: &str,
@@ -168,7 +168,12 @@ fn carry_files<R: AllocGlobal + Files + RandomSource + Threads + Wait + Sync, W:
     ensures ends { CarryFilesEnd concurrency (W.contents out.old) (W.contents out.new) result }
     ensures untouched { IfErr result (λ fault. fault ≢ DayFault.WriteFailed → out.new ≡ out.old) }
 {
-    let (mut keep, _) = match outputs::make_files(rt, Some(keep), None, [segment, orders]) {
+    let (mut keep, _) = match outputs::make_files(
+        rt,
+        Some(keep),
+        None,
+        &[segment, carried, orders],
+    ) {
         Ok(files) => files,
         Err(_) => return Err(DayFault::WriteFailed),
     };
