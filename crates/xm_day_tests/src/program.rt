@@ -33,7 +33,7 @@ mod runtime;
 
 use crate::files::fixtures::{CASCADE, HEADER, SEGMENT};
 use crate::memory::want_of_memory;
-use ends::{CANNOT_KEEP, CANNOT_SHARE, CANNOT_TELL, Printed};
+use ends::{CANNOT_KEEP, CANNOT_SHARE, CANNOT_SHARE_CARRIED, CANNOT_TELL, Printed};
 use std::alloc::Global;
 use std::fs::File;
 use std::io::{Read, Write};
@@ -328,7 +328,7 @@ const CARRIES: [Answered; 6] = [
             "--threads=8",
             "--workers=8",
         ],
-        CANNOT_SHARE,
+        CANNOT_SHARE_CARRIED,
     ),
 ];
 

@@ -388,6 +388,10 @@ pub of_words : (faults : Kinds) (asked : Option Asked) (error : Error) → HasKi
 of_words faults asked error (inl memory) = inl memory
 of_words faults asked error (inr fault) = inr (inl fault)
 
+-- an error of another text, and of the same kind, is of the same words
+pub of_kind : (faults : Kinds) (asked : Option Asked) (error told : Error) → kind_of told ≡ kind_of error → IsOfWords faults asked error → IsOfWords faults asked told
+of_kind faults asked error told is of = rw is of
+
 -- help or the version is among the faults of words that are answered with it
 among : (faults : Kinds) (asked : Option Asked) (error : Error) → (kind_of error ≡ kind.DisplayHelp) ⊎ (kind_of error ≡ kind.DisplayVersion) → IsOfWords faults asked error → IsAmong (kind_of error) faults
 among faults asked error is (inr (inl fault)) = fault

@@ -11,12 +11,13 @@ use clap::error::ErrorKind;
 use clap::{Arg, ArgAction, ArgMatches, Command, Error, value_parser};
 use std::alloc::Global;
 use std::io;
+use strsim::osa_distance;
 use xm_day::DayFault;
 use xm_memory::OutOfMemory;
 use xm_segment::MAX_WORKERS;
 
 /// What `--version` prints behind the name; the script `xetra-day` reads it here.
-const VERSION: &str = "0.1.0";
+const VERSION: &str = "0.2.0";
 
 const PROGRAM: &str = "xetra-day";
 
@@ -25,6 +26,9 @@ const RUN: &str = "run";
 const CARRY: &str = "carry";
 
 const CHECK: &str = "check";
+
+/// The command that prints help, which clap adds.
+const HELP: &str = "help";
 
 const SEGMENT: &str = "SEGMENT";
 
@@ -59,30 +63,34 @@ const RUN_SHORT: &str = "Runs the day of two files and writes its statement to s
 
 const RUN_HELP: &str = "Runs the day of two files and writes its statement to standard output.
 
-docs/FORMATS.md tells all of the files that are read and written. A whole small day:
+docs/FORMATS.md tells all of the files that are read and written. SEGMENT and ORDERS may be pipes,
+as /dev/stdin or <(zcat day.csv.gz), and so may FILE, as >(gzip > answers.csv.gz). A whole small
+day, whose two files can be copied as they stand:
 
-segment.toml
-  date = 20260105
-  members = [\"ALPHA\", \"BETA\"]
+segment.toml:
 
-  [[security]]
-  name = \"ACME\"
-  tick = 100              # ten-thousandths of a euro
-  reference = \"10.00\"
-  dynamic = 20            # widths of the price ranges, in thousandths
-  static = 50
-  wide = 40
-  journal = 1000          # how many commands the security takes
+date = 20260105
+members = [\"ALPHA\", \"BETA\"]
 
-orders.csv
-  command,member,reference,security,side,kind,limit,trigger,quantity,validity,restriction,condition
-  open,,,*,,,,,,,,
-  enter,ALPHA,1,ACME,buy,limit,10.05,,100,,,
-  enter,BETA,1,ACME,sell,limit,9.95,,60,,,
-  uncross,,,*,,,,,,,,
-  close,,,*,,,,,,,,
-  uncross,,,*,,,,,,,,
-  end,,,*,,,,,,,,";
+[[security]]
+name = \"ACME\"
+tick = 100              # the step of its prices, in ten-thousandths of a euro
+reference = \"10.00\"     # the price before the day, in euros
+dynamic = 20            # widths of its price ranges, in thousandths
+static = 50
+wide = 40
+journal = 1000000       # how many commands it takes at most
+
+orders.csv:
+
+command,member,reference,security,side,kind,limit,trigger,quantity,validity,restriction,condition
+open,,,*,,,,,,,,
+enter,ALPHA,1,ACME,buy,limit,10.05,,100,,,
+enter,BETA,1,ACME,sell,limit,9.95,,60,,,
+uncross,,,*,,,,,,,,
+close,,,*,,,,,,,,
+uncross,,,*,,,,,,,,
+end,,,*,,,,,,,,";
 
 const CARRY_SHORT: &str =
     "Runs the day of two files with what earlier days left, and writes what it leaves";
@@ -91,16 +99,18 @@ const CARRY_HELP: &str =
     "Runs the day of two files with what earlier days left, and writes what it leaves.
 
 The statement goes to standard output, and then the carry file of the next day to OUT: the orders
-and stops that are valid beyond the day. OUT is made, empty, before any file is read, so IN is
-another file. docs/FORMATS.md tells all of the files that are read and written. Two days in a row:
+and stops that are valid beyond the day. OUT is made, empty, before any file is read. Where it is
+one of the files that are read, that is a failed write, and nothing is touched. docs/FORMATS.md
+tells all of the files that are read and written. Before the first day nothing was left:
 
-none.csv
-  security,member,reference,side,kind,limit,trigger,quantity,validity,restriction
+none.csv:
 
-  xetra-day carry monday.toml none.csv monday.csv left.csv
-  xetra-day carry tuesday.toml left.csv tuesday.csv left_again.csv
+security,member,reference,side,kind,limit,trigger,quantity,validity,restriction
 
-The segment file of the second day has its date, and its reference prices.";
+Two days in a row, where the segment file of the second has its date and its reference prices:
+
+xetra-day carry monday.toml none.csv monday.csv left.csv
+xetra-day carry tuesday.toml left.csv tuesday.csv left_again.csv";
 
 const ANSWERS: &str = "answers";
 
@@ -251,10 +261,53 @@ pub fn read_words<'a>(alloc: Global, words: &'a [String]) -> Result<Request<'a>,
     ensures answered { AnswersWords (fault_of day_app (map string_bytes words.entry.now)) (asked_of (map string_bytes words.entry.now)) result }
     ensures granted { (asked : Asked) → Asks (map string_bytes words.entry.now) asked → IsGranted result asked }
 {
-    match read_request(command_line(alloc)?, words) {
+    match read_request(alloc, command_line(alloc)?, words) {
         Ok(request) => Ok(request),
-        Err(error) => answer(error),
+        Err(error) => answer(hinted(alloc, words, error)),
     }
+}
+
+/// The same error, which tells the nearest command where the words name one that isn't there.
+fn hinted(alloc: Global, words: &[String], error: Error) -> Error
+    ensures { kind_of result ≡ kind_of error }
+{
+    match error.kind() {
+        ErrorKind::InvalidSubcommand => close_command(alloc, words)
+            .unwrap_or(None)
+            .unwrap_or(error),
+        _ => error,
+    }
+}
+
+/// The mistake of a first word that is close to a command.
+fn close_command(alloc: Global, words: &[String]) -> Result<Option<Error>, OutOfMemory>
+    ensures { IfOk result (λ found. IfSome found (λ error. kind_of error ≡ kind.InvalidSubcommand)) }
+{
+    let Some(word) = words.get(1) else {
+        return Ok(None);
+    };
+    let Some(command) = nearest_command(alloc, word)? else {
+        return Ok(None);
+    };
+    let message = format!(in alloc;
+        "unrecognized subcommand '{word}'\n\n  tip: a similar subcommand exists: '{command}'"
+    )?;
+    let error = command_line(alloc)?.error(ErrorKind::InvalidSubcommand, message.as_str())?;
+    Ok(Some(error))
+}
+
+/// The command to which the fewest edits lead from a word, if these are at most a third of its letters, or one.
+fn nearest_command(alloc: Global, word: &str) -> Result<Option<&'static str>, OutOfMemory> {
+    let mut nearest = None;
+    let mut fewest = usize::MAX;
+    for command in [RUN, CARRY, CHECK, HELP] {
+        let edits = osa_distance(alloc, word, command)?;
+        if 0 < edits && edits <= (command.len() / 3).max(1) && edits < fewest {
+            nearest = Some(command);
+            fewest = edits;
+        }
+    }
+    Ok(nearest)
 }
 
 /// What is answered where nothing is done.
@@ -269,7 +322,11 @@ fn answer<'a>(error: Error) -> Result<Request<'a>, Failure>
 }
 
 /// The run or the check that the words ask for.
-fn read_request<'a>(mut command: Command<'a>, words: &'a [String]) -> Result<Request<'a>, Error>
+fn read_request<'a>(
+    alloc: Global,
+    mut command: Command<'a>,
+    words: &'a [String],
+) -> Result<Request<'a>, Error>
     requires { app_of command ≡ day_app }
     ensures ok { IfOk result (IsRequest (asked_of (map string_bytes words.entry.now))) }
     ensures err { IfErr result (λ e. takes day_app (map string_bytes words.entry.now) ≡ true
@@ -280,7 +337,21 @@ fn read_request<'a>(mut command: Command<'a>, words: &'a [String]) -> Result<Req
     let matches = command.try_get_matches_from_mut(words)?;
     match request_in(&matches) {
         Some(request) => Ok(request),
-        None => Err(command.error(ErrorKind::ArgumentConflict, why_not(&matches))?),
+        None => {
+            let mut at_hand = command_at_hand(alloc, &matches).unwrap_or(command);
+            Err(at_hand.error(ErrorKind::ArgumentConflict, why_not(&matches))?)
+        }
+    }
+}
+
+/// The command that was met, with the name by which it is called.
+fn command_at_hand<'a>(
+    alloc: Global,
+    matches: &ArgMatches<'_>,
+) -> Result<Command<'a>, OutOfMemory> {
+    match matches.subcommand() {
+        Some((CARRY, _)) => Ok(carry_command(alloc)?.bin_name("xetra-day carry")?),
+        _ => Ok(run_command(alloc)?.bin_name("xetra-day run")?),
     }
 }
 

@@ -195,7 +195,7 @@ const WRITTEN: [End; 4] = [
 
 /// What is told where the answers can't be written as the words ask.
 pub const CANNOT_TELL: Printed = Printed::Text(
-    "error: --answers and --depth go with one worker, and with a file each: standard output has the statement\n\nUsage: xetra-day <COMMAND>\n\nFor more information, try '--help'.\n",
+    "error: --answers and --depth go with one worker, and with a file each: standard output has the statement\n\nUsage: xetra-day run [OPTIONS] <SEGMENT> <ORDERS>\n\nFor more information, try '--help'.\n",
 );
 
 /// Runs that write no answers: the order file is at fault, the file is one that is read, or it can't be made, and mistakes.
@@ -278,17 +278,22 @@ const UNANSWERED: [End; 8] = [
 
 /// What is told where several workers would each have several threads.
 pub const CANNOT_SHARE: Printed = Printed::Text(
-    "error: --threads goes with one worker: each of several takes its rows on a thread of its own\n\nUsage: xetra-day <COMMAND>\n\nFor more information, try '--help'.\n",
+    "error: --threads goes with one worker: each of several takes its rows on a thread of its own\n\nUsage: xetra-day run [OPTIONS] <SEGMENT> <ORDERS>\n\nFor more information, try '--help'.\n",
+);
+
+/// The same of a day that hands on what it leaves.
+pub const CANNOT_SHARE_CARRIED: Printed = Printed::Text(
+    "error: --threads goes with one worker: each of several takes its rows on a thread of its own\n\nUsage: xetra-day carry [OPTIONS] <SEGMENT> <IN> <ORDERS> <OUT>\n\nFor more information, try '--help'.\n",
 );
 
 /// What is told where what is left would go to standard output.
 pub const CANNOT_KEEP: Printed = Printed::Text(
-    "error: OUT is a file: standard output has the statement\n\nUsage: xetra-day <COMMAND>\n\nFor more information, try '--help'.\n",
+    "error: OUT is a file: standard output has the statement\n\nUsage: xetra-day carry [OPTIONS] <SEGMENT> <IN> <ORDERS> <OUT>\n\nFor more information, try '--help'.\n",
 );
 
 /// Days that hand on what they leave, to the file that is made, and such as don't: a file is at fault, what they leave would go to
 /// one that is read or can't be made, and a mistake.
-const CARRIED: [End; 11] = [
+const CARRIED: [End; 13] = [
     writes!(
         NONE_LEFT,
         b"carry",
@@ -317,7 +322,7 @@ const CARRIED: [End; 11] = [
     ),
     complains!(
         2,
-        CANNOT_SHARE,
+        CANNOT_SHARE_CARRIED,
         b"carry",
         b"day.toml",
         b"in.csv",
@@ -370,6 +375,24 @@ const CARRIED: [End; 11] = [
         b"in.csv",
         b"day.csv",
         b"day.csv"
+    ),
+    complains!(
+        1,
+        UNWRITTEN,
+        b"carry",
+        b"day.toml",
+        b"in.csv",
+        b"day.csv",
+        b"in.csv"
+    ),
+    complains!(
+        1,
+        UNWRITTEN,
+        b"carry",
+        b"day.toml",
+        b"in.csv",
+        b"day.csv",
+        b"day.toml"
     ),
     complains!(
         1,
@@ -444,7 +467,12 @@ const FAULTS: [End; 10] = [
     ),
 ];
 
-const MISTAKES: [End; 4] = [
+/// What is told of a command that is one letter from `run`.
+const IS_NEAR_RUN: Printed = Printed::Text(
+    "error: unrecognized subcommand 'rn'\n\n  tip: a similar subcommand exists: 'run'\n\nUsage: xetra-day <COMMAND>\n\nFor more information, try '--help'.\n",
+);
+
+const MISTAKES: [End; 7] = [
     complains!(
         2,
         Printed::Text(
@@ -470,6 +498,22 @@ const MISTAKES: [End; 4] = [
             "error: unrecognized subcommand 'walk'\n\nUsage: xetra-day <COMMAND>\n\nFor more information, try '--help'.\n",
         ),
         b"walk"
+    ),
+    complains!(2, IS_NEAR_RUN, b"rn", b"day.toml", b"day.csv"),
+    complains!(
+        2,
+        Printed::Text(
+            "error: unrecognized subcommand 'cehck'\n\n  tip: a similar subcommand exists: 'check'\n\nUsage: xetra-day <COMMAND>\n\nFor more information, try '--help'.\n",
+        ),
+        b"cehck"
+    ),
+    complains!(
+        2,
+        Printed::Text(
+            "error: unrecognized subcommand 'rn'\n\nUsage: xetra-day <COMMAND>\n\nFor more information, try '--help'.\n",
+        ),
+        b"help",
+        b"rn"
     ),
     complains!(
         2,

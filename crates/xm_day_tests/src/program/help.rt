@@ -8,30 +8,34 @@ use std::process::Abort;
 /// What `run --help` prints.
 const RUN_HELP: &str = "Runs the day of two files and writes its statement to standard output.
 
-docs/FORMATS.md tells all of the files that are read and written. A whole small day:
+docs/FORMATS.md tells all of the files that are read and written. SEGMENT and ORDERS may be pipes,
+as /dev/stdin or <(zcat day.csv.gz), and so may FILE, as >(gzip > answers.csv.gz). A whole small
+day, whose two files can be copied as they stand:
 
-segment.toml
-  date = 20260105
-  members = [\"ALPHA\", \"BETA\"]
+segment.toml:
 
-  [[security]]
-  name = \"ACME\"
-  tick = 100              # ten-thousandths of a euro
-  reference = \"10.00\"
-  dynamic = 20            # widths of the price ranges, in thousandths
-  static = 50
-  wide = 40
-  journal = 1000          # how many commands the security takes
+date = 20260105
+members = [\"ALPHA\", \"BETA\"]
 
-orders.csv
-  command,member,reference,security,side,kind,limit,trigger,quantity,validity,restriction,condition
-  open,,,*,,,,,,,,
-  enter,ALPHA,1,ACME,buy,limit,10.05,,100,,,
-  enter,BETA,1,ACME,sell,limit,9.95,,60,,,
-  uncross,,,*,,,,,,,,
-  close,,,*,,,,,,,,
-  uncross,,,*,,,,,,,,
-  end,,,*,,,,,,,,
+[[security]]
+name = \"ACME\"
+tick = 100              # the step of its prices, in ten-thousandths of a euro
+reference = \"10.00\"     # the price before the day, in euros
+dynamic = 20            # widths of its price ranges, in thousandths
+static = 50
+wide = 40
+journal = 1000000       # how many commands it takes at most
+
+orders.csv:
+
+command,member,reference,security,side,kind,limit,trigger,quantity,validity,restriction,condition
+open,,,*,,,,,,,,
+enter,ALPHA,1,ACME,buy,limit,10.05,,100,,,
+enter,BETA,1,ACME,sell,limit,9.95,,60,,,
+uncross,,,*,,,,,,,,
+close,,,*,,,,,,,,
+uncross,,,*,,,,,,,,
+end,,,*,,,,,,,,
 
 Usage: xetra-day run [OPTIONS] <SEGMENT> <ORDERS>
 
@@ -135,7 +139,7 @@ const HELP: [End; 10] = [
     prints!(WHOLE_HELP, b"-h"),
     prints!(WHOLE_HELP, b"help"),
     complains!(2, WHOLE_HELP,),
-    prints!(Printed::Text("xetra-day 0.1.0\n"), b"--version"),
+    prints!(Printed::Text("xetra-day 0.2.0\n"), b"--version"),
 ];
 
 #[test]
@@ -156,23 +160,17 @@ MEMBER BETA 603.0000
 ROWS 7 0
 ";
 
-/// The lines of a help text between two of its lines, without their indentation.
-fn shown(rt: &(impl Abort + AllocGlobal), text: &str, title: &str, next: &str) -> String {
+/// The part of a help text between two of its titles: a file that it shows, as it is copied from there.
+fn shown<'a>(rt: &(impl Abort + AllocGlobal), text: &'a str, title: &str, next: &str) -> &'a str {
     let (_, from_title) = text.split_once(title).expect(rt, "no title");
-    let (part, _) = from_title.split_once(next).expect(rt, "no next title");
-    let mut file = String::new(rt.alloc());
-    for line in part.split('\n') {
-        let line = line.strip_prefix("  ").unwrap_or(line);
-        file.push_str(line).expect(rt, "memory");
-        file.push_str("\n").expect(rt, "memory");
-    }
+    let (file, _) = from_title.split_once(next).expect(rt, "no next title");
     file
 }
 
 #[test]
 fn the_day_of_the_help_runs(rt: HostRuntime) {
-    let segment = shown(&rt, RUN_HELP, "\nsegment.toml\n", "\n\norders.csv\n");
-    let orders = shown(&rt, RUN_HELP, "\norders.csv\n", "\n\nUsage:");
-    let statement = statement_of(&rt, segment.as_str(), orders.as_str(), 1);
+    let segment = shown(&rt, RUN_HELP, "\nsegment.toml:\n\n", "\norders.csv:\n\n");
+    let orders = shown(&rt, RUN_HELP, "\norders.csv:\n\n", "\nUsage:");
+    let statement = statement_of(&rt, segment, orders, 1);
     assert!(rt; statement.as_slice() == STATEMENT.as_bytes());
 }

@@ -1,7 +1,7 @@
-use Rattle.std.proofs.Common.{ap, ◌≡◌, ◌∙◌, true, map, string_bytes}
-use Rattle.clap.specs.Words.{App, app_of, fault_of, kind_of, takes}
+use Rattle.std.proofs.Common.{ap, ◌≡◌, ◌∙◌, None, inr, refl, subst, sym, true, map, string_bytes}
+use Rattle.clap.specs.Words.{App, HasMatchesOf, app_of, fault_of, kind_of, subcommand_of, subcommand_rows_of, takes}
 use Rattle.clap.specs.declared.error.kind.ErrorKind.TheVariants as kind
-use Rattle.xm_program.specs.Requests.{day_app, asked_of}
+use Rattle.xm_program.specs.Requests.{asked_in, asked_of, day_app, is_mistake}
 use Rattle.xm_program.proofs.Runs.{err_from, fault-met, no_fault, of_words}
 use Rattle.xm_program.proofs.requests.read_request.Goals as goal
 
@@ -20,3 +20,12 @@ returns-in_err-matches-clause-fault c =
 
 pub returns-in-Some-clause-faultless : goal.returns-in-Some-clause-faultless
 returns-in-Some-clause-faultless c = no_fault _ (map string_bytes c.args.words.now) c.requires c.in_ok-matches.ensures.kinds
+
+pub returns-clause-fault : goal.returns-clause-fault
+returns-clause-fault c =
+    let words = map string_bytes c.args.words.now in
+    let mistake : is_mistake (kind_of c.in_ok-error-in-None.field-0) ≡ true = rw c.in_ok-error-in-None.ensures.kind refl in
+    let matched = subst (λ (a : App). HasMatchesOf a words c.in_ok-matches.matches) c.requires c.in_ok-matches.ensures.ok.2 in
+    let same : subcommand_rows_of c.in_ok-matches.matches ≡ subcommand_of day_app words = (matched refl).1 in
+    let none : asked_of words ≡ None = ap asked_in (sym same) ∙ c.request_in.ensures.none c.in-None.is in
+    inr (inr (mistake, no_fault _ words c.requires c.in_ok-matches.ensures.kinds, none))

@@ -1,10 +1,10 @@
-use Rattle.std.proofs.Common.{rules, ◌≡◌, Option, Err, refl, subst, map, string_bytes}
+use Rattle.std.proofs.Common.{rules, ◌≡◌, ◌∙◌, Option, Err, refl, subst, map, string_bytes}
 use Rattle.clap.specs.Words.{fault_of, kind_of}
 use Rattle.clap.specs.declared.error.kind.ErrorKind.TheVariants as kind
 use Rattle.xm_rows.specs.declared.faults.DayFault.TheVariants.{OutOfMemory}
 use Rattle.xm_program.specs.Requests.{Asked, IsRequest, asked_of, day_app}
 use Rattle.xm_program.specs.declared.requests.Failure.TheVariants.{Day}
-use Rattle.xm_program.proofs.Runs.{answer-memory, answered, requested, taken}
+use Rattle.xm_program.proofs.Runs.{answer-memory, answered, of_kind, requested, taken}
 use Rattle.xm_program.proofs.requests.read_words.Goals as goal
 
 pub returns-in_err-command_line-clause-granted : goal.returns-in_err-command_line-clause-granted
@@ -23,9 +23,10 @@ pub returns-in-Err-clause-granted : goal.returns-in-Err-clause-granted
 returns-in-Err-clause-granted c = λ asked asks.
     let is = taken _ asked asks in
     let memory : kind_of c.in-Err.error ≡ kind.OutOfMemory = c.in-Err.ensures.err is.taken (rw is.asks refl) in
-    rw (c.answer.ensures, answer-memory c.in-Err.error memory) refl
+    rw (c.answer.ensures, answer-memory c.hinted.result (c.hinted.ensures ∙ memory)) refl
 
 pub returns-in-Err-clause-answered : goal.returns-in-Err-clause-answered
 returns-in-Err-clause-answered c =
     let words = map string_bytes c.args.words.now in
-    rw c.answer.ensures (answered (fault_of day_app words) (asked_of words) c.in-Err.error c.in-Err.ensures.fault)
+    let of = of_kind (fault_of day_app words) (asked_of words) c.in-Err.error c.hinted.result c.hinted.ensures c.in-Err.ensures.fault in
+    rw c.answer.ensures (answered (fault_of day_app words) (asked_of words) c.hinted.result of)
