@@ -134,11 +134,14 @@ def read_answers(path):
                 raise Fault(f"{path} is empty, as answers are after a fault: run xetra-day again, and see what it says")
             if rows.fieldnames != COLUMNS:
                 raise Fault(f"{path} holds no answers: its first line isn't {','.join(COLUMNS)}")
-            return list(rows)
+            records = list(rows)
     except OSError as error:
         raise Fault(f"{path}: {error.strerror}") from error
     except csv.Error as error:
         raise Fault(f"{path} holds no answers: {error}") from error
+    if any(None in it.values() for it in records):
+        raise Fault(f"{path} is cut off: a line has too few fields")
+    return records
 
 
 def price(text):
@@ -152,9 +155,9 @@ def times_of(rows):
         try:
             time = float(row["text"])
         except ValueError:
-            raise Fault(f"the text of record {row['record']} is no number, '{row['text']}': leave --text-is-time out") from None
+            raise Fault(f"the text of record {row['record']} is no number, {row['text']!r}: leave --text-is-time out") from None
         if not math.isfinite(time) or times and time < times[-1]:
-            raise Fault(f"the text of record {row['record']}, {row['text']}, is no time: it is below the one before it")
+            raise Fault(f"the text of record {row['record']}, {row['text']!r}, is no time: it is below the one before it")
         times.append(time)
     return times
 
@@ -308,9 +311,9 @@ def draw_bands(strip, axes, bands):
 
 
 def draw_stages(axes, bands):
-    """A line where an interrupted or an extended call begins."""
+    """A line where an interrupted or an extended call begins, which the first phase that is shown doesn't here."""
     for end, colour in STAGES.items():
-        begins = [begin for phase, begin, _ in bands if phase.endswith(end)]
+        begins = [begin for phase, begin, _ in bands[1:] if phase.endswith(end)]
         for number, begin in enumerate(begins):
             label = f"an {end[1:]} call begins" if number == 0 else None
             axes.axvline(begin, color=colour, linewidth=1.8, linestyle=(0, (5, 2)), zorder=2, label=label)

@@ -62,7 +62,7 @@ def faults_of_files(found, strays):
         if ".orders.csv" not in endings:
             yield f"{name} has no orders"
         if endings - {".orders.csv", ".segment.toml"} not in (*RESULTS, *CARRIED_RESULTS):
-            yield f"{name} has not a statement and answers or a carry file, or a fault alone: ./cases --update {name}"
+            yield f"{name} has not a statement and answers or a carry file, or a fault alone: dev/cases --update {name}"
     if len(found) < FEWEST:
         yield f"there are {len(found)} cases, and {FEWEST} are wanted"
 
@@ -72,7 +72,7 @@ def faults_of_list(found):
     printed = [f"{name} as stored" for name in names] + [f"{len(names)} cases, 0 differ"]
     for file, wanted in (("args", names), ("stdout", printed)):
         if (CRATE / file).read_text().splitlines() != wanted:
-            yield f"crates/xetra_cases/{file} isn't the list of the cases: ./cases --list"
+            yield f"crates/xetra_cases/{file} isn't the list of the cases: dev/cases --list"
 
 
 def settings_of(path):

@@ -12,6 +12,7 @@ import sys
 import tempfile
 import tomllib
 
+sys.dont_write_bytecode = True
 ROOT = pathlib.Path(__file__).resolve().parent.parent
 EXAMPLES = ROOT / "examples"
 SCRIPT = EXAMPLES / "plot_day.py"
@@ -137,6 +138,8 @@ def faults_of_options(pictures):
 
 def faults_of_refusals(pictures):
     day = (EXAMPLES / "whole_day.answers.csv", EXAMPLES / "whole_day.segment.toml")
+    cut = pictures.room / "cut.csv"
+    cut.write_bytes(day[0].read_bytes()[:-40])
     falls = with_texts(pictures.room, "falls.csv", lambda record: str(-record))
     named = with_texts(pictures.room, "named.csv", lambda record: "noon")
     for said, call in (
@@ -146,6 +149,7 @@ def faults_of_refusals(pictures):
         ("is no number, ''", lambda: pictures.call(*day, "--text-is-time")),
         ("is no number, 'noon'", lambda: pictures.call(named, day[1], "--text-is-time")),
         ("below the one before it", lambda: pictures.call(falls, day[1], "--text-is-time")),
+        ("is cut off", lambda: pictures.call(cut, day[1])),
     ):
         drawn, text = call()
         wanted = "holds no answers" if said == "isn't there" else said

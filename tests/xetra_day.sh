@@ -100,7 +100,7 @@ printf '%s\n' "\$@" >>"$room/digests"
 exec $(command -v sha256sum) "\$@"
 END
 chmod +x "$room/bin/rt" "$room/bin/sha256sum" "$room/program" "$room/given"
-for tool in sh awk cat cp cut date dirname find grep mkdir mkfifo mv readlink rm sed sha256sum sort touch uname wc xargs; do
+for tool in sh awk cat cmp cp cut date dirname find grep mkdir mkfifo mv readlink rm sed sha256sum sort tr uname wc xargs; do
     ln -s "$(command -v "$tool")" "$room/tools"
 done
 echo segment >"$room/elsewhere/segment.toml"
@@ -188,6 +188,19 @@ touch "$copy/crates/xetra_day/src/main.rt"
 call who
 check 'a call after a touch, digests' no "$([ "$(count_digests)" -eq 0 ] && echo yes || echo no)"
 check 'a call after a touch, which' given "$(cat "$room/out")"
+sleep 3
+call who
+# Each leaves other sources, in a way that is seen.
+for change in 'mkdir crates/xetra_day/specs' 'mv crates/xetra_day/src/main.rt crates/xetra_day/src/other.rt' 'touch -d 2030-01-01 out/xetra-day.seen'; do
+    (cd "$copy" && $change && echo '// other' >>crates/xm_program/src/requests.rt)
+    PATH=$room/tools "$copy/xetra-day" who >"$room/out" 2>"$room/err"
+    check "$change, status" 3 $?
+    check "$change, why" yes "$(has_line "$room/err" 'not of these sources')"
+    sed -i '$d' "$copy/crates/xm_program/src/requests.rt"
+    (cd "$copy" && rmdir crates/xetra_day/specs; mv crates/xetra_day/src/other.rt crates/xetra_day/src/main.rt) 2>/dev/null
+done
+call who
+check 'the same sources again' given "$(cat "$room/out")"
 call --build
 check 'a build beside dist/, builds' 1 "$(count_builds)"
 call who
@@ -254,6 +267,13 @@ done
 
 fresh_copy
 stand_in build
+for wanted in sha256sum xargs; do
+    mv "$room/tools/$wanted" "$room/$wanted.away"
+    PATH=$room/tools "$copy/xetra-day" run segment.toml orders.csv >"$room/out" 2>"$room/err"
+    check "no $wanted, status" 3 $?
+    check "no $wanted, what it says" yes "$(has_line "$room/err" "the sources can't be digested")"
+    mv "$room/$wanted.away" "$room/tools/$wanted"
+done
 PATH=$room/tools "$copy/xetra-day" run segment.toml orders.csv >"$room/out" 2>"$room/err"
 check 'no rt, status' 3 $?
 check 'no rt, what it says' yes "$(has_line "$room/err" "there is no command 'rt' on the path")"

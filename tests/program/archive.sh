@@ -31,11 +31,13 @@ esac
 
 if [ "$(id -u)" -eq 0 ]; then
     inside="chroot $tree"
+    may='chroot / true'
 else
     inside="unshare --map-root-user --root=$tree"
+    may='unshare --map-root-user true'
 fi
-if ! $inside /xetra-day --version >/dev/null 2>"$room/said"; then
-    printf 'archive: not tried over the C library alone, as %s failed: %s\n' "${inside%% *}" "$(cat -- "$room/said")"
+if ! $may 2>"$room/said"; then
+    printf 'archive: not tried over the C library alone, as nobody may: %s\n' "$(cat -- "$room/said")"
     exit 0
 fi
 $inside /xetra-day run examples/segment.toml examples/small_day.orders.csv >"$room/statement" 2>&1 ||

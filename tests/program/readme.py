@@ -29,9 +29,9 @@ def fenced(page, language):
 
 
 def fresh_copy(room):
-    """What a clone of the checkout as it stands would have."""
+    """What a clone of the checkout would have, with its files as they stand."""
     copy = room / "copy"
-    listed = subprocess.run(["git", "ls-files", "-coz", "--exclude-standard"], cwd=ROOT, capture_output=True, check=True).stdout
+    listed = subprocess.run(["git", "ls-files", "-cz"], cwd=ROOT, capture_output=True, check=True).stdout
     for name in filter(None, listed.decode().split("\0")):
         if (ROOT / name).is_file():
             (copy / name).parent.mkdir(parents=True, exist_ok=True)
@@ -56,6 +56,8 @@ def statement_of(line):
 
 def faults_of_calls(copy):
     lines = [(page, line) for page in PAGES for block in fenced(page, "sh") for line in block.splitlines() if line != "./test"]
+    for page in set(PAGES) - {page for page, _ in lines}:
+        yield f"{page} has no call"
     for page, line in lines:
         if "plot_day.py" in line and not has_matplotlib(copy):
             print(f"readme: not called, as there is no matplotlib: {line}")
