@@ -21,8 +21,8 @@ crates_of_program() {
     ' "$root/crates.txt" | LC_ALL=C sort
 }
 
-# A digest of what the program is made of: of its crates the lines of crates.txt, the sources, the definitions and the proofs. Fails
-# where it can't be had.
+# A digest of what the program is made of: of its crates the lines of crates.txt, the sources and the definitions. How they are proved
+# makes no other program, and the gate compares its bytes. Fails where it can't be had.
 digest_of_sources() {
     (
         cd -- "$root" || exit 1
@@ -30,7 +30,7 @@ digest_of_sources() {
         lines=$(for name in $names; do grep -e "^${name}[ :]" crates.txt; done)
         sums=$(
             for name in $names; do
-                find "crates/$name" -name out -prune -o -type f \( -path '*/src/*' -o -path '*/specs/*' -o -path '*/proofs/*' \) -print
+                find "crates/$name" -name out -prune -o -name proofs -prune -o -type f \( -path '*/src/*' -o -path '*/specs/*' \) -print
             done | LC_ALL=C sort | xargs -d '\n' sha256sum --
         ) || exit 1
         [ -n "$sums" ] && printf '%s\n' "$lines" "$sums" | sha256sum | cut -d ' ' -f 1
