@@ -100,7 +100,7 @@ printf '%s\n' "\$@" >>"$room/digests"
 exec $(command -v sha256sum) "\$@"
 END
 chmod +x "$room/bin/rt" "$room/bin/sha256sum" "$room/program" "$room/given"
-for tool in sh awk cat cmp cp cut date dirname find grep mkdir mkfifo mv readlink rm sed sha256sum sort tr uname wc xargs; do
+for tool in sh awk cat cmp cp cut date dirname find grep mkdir mkfifo mv readlink rm sed sha256sum sort tr wc xargs; do
     ln -s "$(command -v "$tool")" "$room/tools"
 done
 echo segment >"$room/elsewhere/segment.toml"
