@@ -5,10 +5,8 @@ use std::marker::Model;
 use xm_desk::Desk;
 use xm_names::Storage;
 use xm_rules::{
-    Carried, Command, Condition, DeskSettings, Kind, Order, Phase, Quote, Refusal, Reply,
-    Restriction, Side, Stop, Trade, Validity, Widths,
+    Carried, Command, DeskSettings, Order, Phase, Quote, Refusal, Reply, Side, Stop, Trade, Widths,
 };
-use xm_segment::SecurityConfig;
 use xm_ticks::{JournalLimit, Price, TickSize};
 
 /// The load did not run as it should, or could not be told.
@@ -34,17 +32,6 @@ impl Opening {
         Some(DeskSettings {
             today: TODAY,
             members: self.members,
-            tick: TickSize::new(TICK)?,
-            reference: Price::new(self.reference)?,
-            widths: self.widths,
-            limit: JournalLimit::new(self.limit)?,
-            carried: Carried::none(),
-        })
-    }
-
-    /// The settings of a security of a segment.
-    pub fn security(self) -> Option<SecurityConfig> {
-        Some(SecurityConfig {
             tick: TickSize::new(TICK)?,
             reference: Price::new(self.reference)?,
             widths: self.widths,
@@ -159,37 +146,4 @@ impl Loaded {
     pub fn last_price(&self) -> u32 {
         self.desk.ref1().get()
     }
-
-    /// Whether a call has a price.
-    pub fn has_price(&self) -> bool {
-        self.desk.indicative().is_some()
-    }
-}
-
-/// A free and plain entry for the day.
-pub fn plain_entry(member: u32, reference: u32, side: Side, kind: Kind, quantity: u32) -> Command {
-    Command::Enter {
-        member,
-        reference,
-        side,
-        kind,
-        quantity,
-        validity: Validity::Day,
-        restriction: Restriction::Free,
-        condition: Condition::Plain,
-    }
-}
-
-/// A buy at an even place, a sell at an odd one.
-pub fn side_at(place: u32) -> Side {
-    if place % 2 == 0 {
-        Side::Buy
-    } else {
-        Side::Sell
-    }
-}
-
-/// A place in another order: each one of `orders`, if that has no factor in common with the step.
-pub fn mixed(place: u32, orders: u32) -> u32 {
-    (u64::from(place) * 7919 % u64::from(orders.max(1))) as u32
 }

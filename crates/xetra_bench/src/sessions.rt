@@ -10,7 +10,7 @@ use xm_rules::Command;
 /// About how many commands a day has that is counted, and one that is measured.
 const COUNTED: u32 = 20_000;
 
-pub const MEASURED: u32 = 300_000;
+const MEASURED: u32 = 300_000;
 
 /// How many desks in turn take the commands of a day that is measured.
 const RUNS: u32 = 5;
@@ -65,7 +65,7 @@ fn tell_runs<R: AllocGlobal + Print + Clock>(
 }
 
 /// Draws about so many commands, beside a desk that ends with them.
-pub fn draw<R: AllocGlobal>(rt: &R, flow: &mut Flow, commands: u32) -> Result<(), LoadFault> {
+fn draw<R: AllocGlobal>(rt: &R, flow: &mut Flow, commands: u32) -> Result<(), LoadFault> {
     let mut loaded = Loaded::open(rt.alloc(), OPENING)?;
     flow.day(&mut loaded, commands);
     if flow.is_whole {
