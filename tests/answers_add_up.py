@@ -1,12 +1,14 @@
 #!/usr/bin/env python3
 """The answers of each example and of each case add up to its statement: accepted and refused rows, and of each security the
-trades, their quantity and their money; and where its levels are stored, the best ones are the best limits of the answers. Prints
-each sum and each record that differs, and ends with status 1 where one does."""
+trades, their quantity and their money; where its trades are stored, they are those of the statement that each answer counts;
+and where its levels are stored, the best ones are the best limits of the answers. Prints each sum, each record and the first trade
+that differs, and ends with status 1 where one does."""
 import csv
 import pathlib
 import sys
 from collections import Counter
 from decimal import Decimal
+from itertools import zip_longest
 
 ROOT = pathlib.Path(__file__).resolve().parent.parent
 FOLDERS = (ROOT / "examples", ROOT / "crates/xetra_cases/data")
@@ -49,6 +51,39 @@ def of_statement(path):
     return rows, those_traded(traded)
 
 
+def trades_of_statement(path):
+    """The fields of the trades of each security of a statement."""
+    trades = {}
+    for line in path.read_text().splitlines():
+        word, *fields = line.split(" ")
+        if word == "SECURITY":
+            security = trades.setdefault(fields[0], [])
+        elif word == "TRADE":
+            security.append(fields)
+    return trades
+
+
+def trades_of_answers(answers, trades):
+    """The trades that each answer counts, of these of its security: record, security, fields, text."""
+    with answers.open(newline="") as file:
+        for line in csv.DictReader(file):
+            if int(line["trades"] or 0):
+                first = int(line["first_trade"])
+                for fields in trades[line["security"]][first : first + int(line["trades"])]:
+                    yield [line["record"], line["security"], *fields, line["text"]]
+
+
+def line_that_differs(answers, trades):
+    """The first line of a file of trades that isn't what answers and statement say, if there is one."""
+    stated = trades_of_statement(answers.with_name(answers.name.replace(".answers.csv", ".statement")))
+    with trades.open(newline="") as file:
+        told = list(csv.reader(file))[1:]
+    for number, (one, other) in enumerate(zip_longest(told, trades_of_answers(answers, stated)), 2):
+        if one != other:
+            return f"line {number} is {one}, and answers and statement give {other}"
+    return None
+
+
 def best_levels(path):
     """The limit and the units of the best level of each side, behind each record and security that changed the levels."""
     shown = {}
@@ -80,6 +115,11 @@ def main():
         stated = of_statement(answers.with_name(f"{name}.statement"))
         if told != stated:
             print(f"answers_add_up: {answers.relative_to(ROOT).parent}/{name}: the answers give {told}, and the statement has {stated}")
+            failed = 1
+        trades = answers.with_name(f"{name}.trades.csv")
+        difference = line_that_differs(answers, trades) if trades.exists() else None
+        if difference:
+            print(f"answers_add_up: {trades.relative_to(ROOT)}: {difference}")
             failed = 1
         depth = answers.with_name(f"{name}.depth.csv")
         for record in those_that_differ(answers, depth) if depth.exists() else []:

@@ -22,12 +22,17 @@ FEWEST = 60
 WORKED_DAYS = ("cascade", "opening_call", "small_day", "whole_day")
 AGAIN = "_in_version_2"
 # What a case may have beside its orders, and what it must.
-ENDINGS = (".orders.csv", ".segment.toml", ".in.csv", ".statement", ".answers.csv", ".depth.csv", ".out.csv", ".fault")
-RESULTS = ({".statement", ".answers.csv"}, {".statement", ".answers.csv", ".depth.csv"}, {".fault"})
-# The same where its day opens with a carry file.
-CARRIED_RESULTS = ({".in.csv", ".statement", ".out.csv"}, {".in.csv", ".fault"})
+BESIDE = (".answers.csv", ".trades.csv", ".depth.csv")
+ENDINGS = (".orders.csv", ".segment.toml", ".in.csv", ".statement", *BESIDE, ".out.csv", ".fault")
 # What the index calls the files that come out.
-GIVEN = {"statement": ".statement", "answers": ".answers.csv", "depth": ".depth.csv", "carry": ".out.csv", "fault": ".fault"}
+GIVEN = {
+    "statement": ".statement",
+    "answers": ".answers.csv",
+    "trades": ".trades.csv",
+    "depth": ".depth.csv",
+    "carry": ".out.csv",
+    "fault": ".fault",
+}
 # The rules that no file can show.
 UNSHOWN = {"want of memory"}
 # What the fields of accepted rows say; a date is any validity of digits, and what is left out is empty.
@@ -53,6 +58,15 @@ def files_by_case():
     return found, strays
 
 
+def has_result(given):
+    """Whether these are what a day gives: a fault alone, or a statement, which has answers where the day opens with no carry file."""
+    if ".fault" in given:
+        return given <= {".in.csv", ".fault"}
+    if ".in.csv" in given:
+        return given - set(BESIDE) == {".in.csv", ".statement", ".out.csv"}
+    return given - {".trades.csv", ".depth.csv"} == {".statement", ".answers.csv"}
+
+
 def faults_of_files(found, strays):
     for name in strays:
         yield f"{name} is no file of a case"
@@ -61,7 +75,7 @@ def faults_of_files(found, strays):
             yield f"{name}: a name has at most 40 lower-case letters, digits and _"
         if ".orders.csv" not in endings:
             yield f"{name} has no orders"
-        if endings - {".orders.csv", ".segment.toml"} not in (*RESULTS, *CARRIED_RESULTS):
+        if not has_result(endings - {".orders.csv", ".segment.toml"}):
             yield f"{name} has not a statement and answers or a carry file, or a fault alone: dev/cases --update {name}"
     if len(found) < FEWEST:
         yield f"there are {len(found)} cases, and {FEWEST} are wanted"

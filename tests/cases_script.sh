@@ -18,7 +18,8 @@ check() {
 
 copy=$room/copy
 data=$copy/crates/xetra_cases/data
-# What the stand-in gives for an order file: the files NAME.statement and NAME.answers.csv, or NAME.fault. Its levels are a name. What
+# What the stand-in gives for an order file: the files NAME.statement and NAME.answers.csv, or NAME.fault. Its levels are a name, as
+# are its trades. What
 # it leaves of a day that opens with a carry file is that file with a line more.
 gives=$room/gives
 mkdir -p "$data" "$gives" "$copy/dev" "$copy/dist" "$room/rooms"
@@ -43,7 +44,8 @@ echo "\$2" >"$room/segment"
 [ ! -e "$room/killed" ] || { echo 'gone' >&2; exit 137; }
 [ ! -e "$gives/\$name.fault" ] || { true >"\$5"; cat "$gives/\$name.fault" >&2; exit 1; }
 cat "$gives/\$name.answers.csv" >"\$5"
-echo "\$name" >"\$7"
+echo "trades of \$name" >"\$7"
+echo "\$name" >"\$9"
 cat "$gives/\$name.statement"
 END
 chmod +x "$copy/xetra-day" "$copy/dist/xetra-day"
@@ -124,9 +126,11 @@ check 'levels that differ' 'two: two.depth.csv differs
   stored: (the file ends)
   given:  two
 1 cases, 1 differ' "$(cat "$room/out")"
+echo stored >"$data/two.trades.csv"
 call --update two
-check 'update, levels' two "$(cat "$data/two.depth.csv")"
-rm -- "$data/two.depth.csv" "$data/two.statement"
+check 'update, trades and levels' 'trades of two
+two' "$(cat "$data/two.trades.csv" "$data/two.depth.csv")"
+rm -- "$data/two.trades.csv" "$data/two.depth.csv" "$data/two.statement"
 call --list
 check 'list, without what gives nothing' 'one
 wrong' "$(cat "$copy/crates/xetra_cases/args")"

@@ -9,10 +9,19 @@ use std::sync::Wait;
 use std::thread::Threads;
 use xm_day::{AskedTexts, DayFault};
 use xm_names::Storage;
-use xm_program::{Concurrency, Count, Input, carry_over, fault_line, open_input, run_told};
+use xm_program::{
+    Concurrency, Count, Input, Output, TextFiles, carry_over, fault_line, open_input, run,
+};
 
 /// On how many threads the rows of a case are taken, in turn.
 const NUMBERS: [u32; 2] = [1, 3];
+
+/// The texts beside a statement that are compared.
+const ALL_TEXTS: AskedTexts = AskedTexts {
+    answers: true,
+    trades: true,
+    depth: true,
+};
 
 /// Runs the day of a case on each number of threads, prints whether it gives what is stored, and tells it.
 pub fn is_as_stored<R: AllocGlobal + Files + Print + Threads + Wait + Sync>(
@@ -45,7 +54,7 @@ fn is_day_as_stored<R: AllocGlobal + Files + Print + Threads + Wait + Sync>(
     }
 }
 
-/// The same of a day that opens with a carry file.
+/// The same of a day that opens with a carry file. Its answers may be stored.
 fn is_carry_as_stored<R: AllocGlobal + Files + Print + Threads + Wait + Sync, C: Read>(
     rt: &R,
     name: &str,
@@ -53,25 +62,27 @@ fn is_carry_as_stored<R: AllocGlobal + Files + Print + Threads + Wait + Sync, C:
     threads: Count,
 ) -> Result<bool, CaseFault> {
     let mut statement = Vec::new(rt.alloc());
-    let mut keep = Vec::new(rt.alloc());
-    let ended = carry_day(rt, name, carried, threads, &mut statement, &mut keep)?;
-    match ended {
+    let mut files = made_files(rt);
+    match carry_day(rt, name, carried, threads, &mut statement, &mut files)? {
         Ok(()) => {
-            let left = differences::is_stored(rt, name, "out.csv", keep.as_slice())?;
-            compare(rt, name, b"", statement.as_slice(), b"", left)
+            let left = differences::is_stored(rt, name, "out.csv", text_of(&files.carry))?;
+            let answers = text_of(&files.answers);
+            let answers = differences::is_stored_if_any(rt, name, "answers.csv", answers)?;
+            let others = are_as_stored(rt, name, statement.as_slice(), &files)?;
+            Ok(left && answers && others)
         }
-        Err(fault) => compare(rt, name, fault_line(fault).as_slice(), b"", b"", true),
+        Err(fault) => is_fault_as_stored(rt, name, fault),
     }
 }
 
-/// Writes the statement of the day of a case that opens with a carry file, and what it leaves.
+/// Writes the statement of the day of a case that opens with a carry file, the texts beside it, and what it leaves.
 fn carry_day<R: AllocGlobal + Files + Threads + Wait + Sync, C: Read>(
     rt: &R,
     name: &str,
     carried: &mut C,
     threads: Count,
     statement: &mut Vec<u8>,
-    keep: &mut Vec<u8>,
+    files: &mut TextFiles<Vec<u8>>,
 ) -> Result<Result<(), DayFault>, CaseFault> {
     let (mut segment, mut orders) = open_files(rt, name)?;
     let storage = Storage::with_fixed_seed(rt.alloc());
@@ -82,63 +93,68 @@ fn carry_day<R: AllocGlobal + Files + Threads + Wait + Sync, C: Read>(
         carried,
         &mut orders,
         Concurrency::Threads(threads),
+        ALL_TEXTS,
         statement,
-        keep,
+        files,
     ))
 }
 
 /// The same of a day of two files.
-fn is_run_as_stored<R: AllocGlobal + Files + Print + Threads + Sync>(
+fn is_run_as_stored<R: AllocGlobal + Files + Print + Threads + Wait + Sync>(
     rt: &R,
     name: &str,
     threads: Count,
 ) -> Result<bool, CaseFault> {
     let mut statement = Vec::new(rt.alloc());
-    let mut answers = Vec::new(rt.alloc());
-    let mut depth = Vec::new(rt.alloc());
-    let ended = run_day(rt, name, threads, &mut statement, &mut answers, &mut depth)?;
-    match ended {
+    let mut files = made_files(rt);
+    match run_day(rt, name, threads, &mut statement, &mut files)? {
         Ok(()) => {
-            let levels = differences::is_stored_if_any(rt, name, "depth.csv", depth.as_slice())?;
-            compare(
-                rt,
-                name,
-                b"",
-                statement.as_slice(),
-                answers.as_slice(),
-                levels,
-            )
+            let answers = differences::is_stored(rt, name, "answers.csv", text_of(&files.answers))?;
+            let others = are_as_stored(rt, name, statement.as_slice(), &files)?;
+            Ok(answers && others)
         }
-        Err(fault) => compare(rt, name, fault_line(fault).as_slice(), b"", b"", true),
+        Err(fault) => is_fault_as_stored(rt, name, fault),
     }
 }
 
-/// Writes the statement, the answers and the levels of the day of a case.
-fn run_day<R: AllocGlobal + Files + Threads + Sync>(
+/// Writes the statement of the day of a case, and the texts beside it.
+fn run_day<R: AllocGlobal + Files + Threads + Wait + Sync>(
     rt: &R,
     name: &str,
     threads: Count,
     statement: &mut Vec<u8>,
-    answers: &mut Vec<u8>,
-    depth: &mut Vec<u8>,
+    files: &mut TextFiles<Vec<u8>>,
 ) -> Result<Result<(), DayFault>, CaseFault> {
     let (mut segment, mut orders) = open_files(rt, name)?;
     let storage = Storage::with_fixed_seed(rt.alloc());
-    let asked = AskedTexts {
-        answers: true,
-        depth: true,
-    };
-    Ok(run_told(
+    Ok(run(
         rt,
         storage,
         &mut segment,
         &mut orders,
-        threads,
+        Concurrency::Threads(threads),
+        ALL_TEXTS,
         statement,
-        asked,
-        answers,
-        depth,
+        files,
     ))
+}
+
+/// Texts beside a statement that are kept.
+fn made_files<R: AllocGlobal>(rt: &R) -> TextFiles<Vec<u8>> {
+    TextFiles {
+        answers: Output::Made(Vec::new(rt.alloc())),
+        trades: Output::Made(Vec::new(rt.alloc())),
+        depth: Output::Made(Vec::new(rt.alloc())),
+        carry: Output::Made(Vec::new(rt.alloc())),
+    }
+}
+
+/// What was kept of one.
+fn text_of(kept: &Output<Vec<u8>>) -> &[u8] {
+    match kept {
+        Output::Made(text) => text.as_slice(),
+        Output::Unasked => b"",
+    }
 }
 
 /// The segment file and the order file of a case.
@@ -163,17 +179,28 @@ fn open_segment<R: Files>(rt: &R, own: &str) -> Input<R::File> {
     }
 }
 
-/// Compares what a case gives with what is stored, of which each text may be empty. Whether what it gives beside them is, is known.
-fn compare<R: AllocGlobal + Files + Print>(
+/// Whether the statement of a case is the one that is stored, and so are its trades and its levels, where they are.
+fn are_as_stored<R: AllocGlobal + Files + Print>(
     rt: &R,
     name: &str,
-    fault: &[u8],
     statement: &[u8],
-    answers: &[u8],
-    others_as_stored: bool,
+    files: &TextFiles<Vec<u8>>,
 ) -> Result<bool, CaseFault> {
-    let faults = differences::is_stored(rt, name, "fault", fault)?;
+    let faultless = differences::is_stored(rt, name, "fault", b"")?;
     let statements = differences::is_stored(rt, name, "statement", statement)?;
-    let answers = differences::is_stored(rt, name, "answers.csv", answers)?;
-    Ok(faults && statements && answers && others_as_stored)
+    let trades = differences::is_stored_if_any(rt, name, "trades.csv", text_of(&files.trades))?;
+    let levels = differences::is_stored_if_any(rt, name, "depth.csv", text_of(&files.depth))?;
+    Ok(faultless && statements && trades && levels)
+}
+
+/// Whether the fault of a case is the one that is stored, and nothing else is.
+fn is_fault_as_stored<R: AllocGlobal + Files + Print>(
+    rt: &R,
+    name: &str,
+    fault: DayFault,
+) -> Result<bool, CaseFault> {
+    let faults = differences::is_stored(rt, name, "fault", fault_line(fault).as_slice())?;
+    let statements = differences::is_stored(rt, name, "statement", b"")?;
+    let answers = differences::is_stored(rt, name, "answers.csv", b"")?;
+    Ok(faults && statements && answers)
 }

@@ -1,3 +1,3 @@
+pub mod Days
 pub mod Endings
 pub mod Written
-mod Cutting

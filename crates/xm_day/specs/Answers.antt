@@ -1,10 +1,9 @@
 -- How the run of a day ends: what it answers, and what the output holds before and after. The bytes of a file may be unknown.
-use Rattle.std.specs.Prelude.{◌≡◌, ℕ, Bool, false, true, List, [], Option, None, Result, Ok, Err, IfSome}
+use Rattle.std.specs.Prelude.{◌≡◌, ℕ, List, Option, None, Result, Ok, Err, IfSome}
 use Rattle.std.specs.Bool.{OnFalse, OnTrue}
 use Rattle.std.specs.Io.KnownBytes.{Appends}
-use Rattle.xm_rows.specs.Day.{Day, day, day_of}
-use Rattle.xm_rows.specs.Taken.{IsOpenFault, TookRows}
-use Rattle.xm_day.specs.declared.stated.StatedDay.{StatedDay}
+use Rattle.xm_rows.specs.Day.{Day, day}
+use Rattle.xm_rows.specs.Taken.{IsOpenFault}
 use Rattle.xm_segment.specs.Opening.{segment_fault}
 use Rattle.xm_files.specs.FileFaults.{is_from_outside}
 use Rattle.xm_files.specs.Names.{NameLists}
@@ -12,9 +11,7 @@ use Rattle.xm_files.specs.Orders.{orders_of}
 use Rattle.xm_files.specs.Segment.{segment_of}
 use Rattle.xm_statement.specs.Statement.{statement}
 use Rattle.xm_segment.specs.declared.config.SegmentConfig.{SegmentConfig}
-use Rattle.xm_rows.specs.declared.report.AskedTexts.{AskedTexts}
 use Rattle.xm_rows.specs.declared.report.DayReport.{DayReport}
-use Rattle.xm_rows.specs.declared.report.ToldDay.{ToldDay}
 use Rattle.xm_rows.specs.declared.faults.DayFault.{DayFault}
 use Rattle.xm_rows.specs.declared.faults.DayFault.TheVariants.{Segment, Carry, Orders, Open, OutOfMemory, WriteFailed}
 use Rattle.xm_files.specs.declared.file_faults.FileFault.{FileFault}
@@ -61,14 +58,6 @@ FileRun taken config names orders (Err (Orders fault)) = IsFileFault (orders_of 
 FileRun taken config names orders result =
     (bytes : List ℕ) × IfSome orders (λ known. bytes ≡ known) × (rows : List Row) × (orders_of names config bytes ≡ Ok rows) × taken bytes config rows result
 
--- the desks have taken these rows, and the text is the statement of their day, unless the segment can't be opened or memory is wanting
-abbrev pub RowsStated : AskedTexts → NameLists → List ℕ → SegmentConfig → List Row → Result StatedDay DayFault → Type 0
-RowsStated asked names orders config rows (Ok s) =
-    TookRows asked names orders config rows s.day × (s.text ≡ statement_of names (day_of s.day.desks.items s.day.report.accepted s.day.report.refused))
-RowsStated asked names orders config rows (Err (Open fault)) = IsOpenFault config fault
-RowsStated asked names orders config rows (Err (OutOfMemory _)) = segment_fault config ≡ None
-RowsStated asked names orders config rows (Err fault) = ⊥
-
 -- how the statement of one of these days is written
 abbrev pub StatementEnds : Option (List ℕ) → Option (List ℕ) → NameLists → (Day → Type 0) → Result DayReport DayFault → Type 0
 StatementEnds old new names days (Ok report) = WritesDay days names report old new
@@ -98,31 +87,6 @@ abbrev pub DayEnds : (SegmentConfig → List Row → Day → Type 0) → Option 
 DayEnds days segment orders old new (Err (Segment fault)) = IsFileFault segment_of segment fault
 DayEnds days segment orders old new result =
     (config : SegmentConfig) × (names : NameLists) × IsSegmentOf segment config names × OrdersEnd days config names orders old new result
-
--- the text that is told of the rows of an order file
-pub record IsTextOfRows (text_of : NameLists → SegmentConfig → List ℕ → List Row → List ℕ) (orders : Option (List ℕ)) (config : SegmentConfig) (names : NameLists) (text : List ℕ) : Type 0 where
-  pub bytes : List ℕ
-  pub are_bytes : IfSome orders (λ known. bytes ≡ known)
-  pub rows : List Row
-  pub are_rows : orders_of names config bytes ≡ Ok rows
-  pub text_is : text ≡ text_of names config bytes rows
-
--- the same of a segment file and an order file
-pub record IsTextOfFiles (text_of : NameLists → SegmentConfig → List ℕ → List Row → List ℕ) (segment orders : Option (List ℕ)) (text : List ℕ) : Type 0 where
-  pub config : SegmentConfig
-  pub names : NameLists
-  pub is_segment : IsSegmentOf segment config names
-  pub is_of_rows : IsTextOfRows text_of orders config names text
-
--- a text is what was asked for, and empty where it wasn't
-abbrev pub IsAsked : (List ℕ → Type 0) → Bool → List ℕ → Type 0
-IsAsked Is true text = Is text
-IsAsked Is false text = text ≡ []
-
--- how a day ends, without the texts that it told
-abbrev pub report_in : Result ToldDay DayFault → Result DayReport DayFault
-report_in (Ok d) = Ok d.report
-report_in (Err fault) = Err fault
 
 -- a statement isn't written for want of memory, or because the writer failed
 abbrev pub IsOfWriting : DayFault → Type 0

@@ -66,13 +66,6 @@ pub record IsCarryFault (segment carry : Option (List ℕ)) (fault : FileFault) 
   pub is_segment : IsSegmentOf segment config names
   pub is_fault : IsFileFault (carry_of names config) carry fault
 
--- how both files of an opening are read
-abbrev pub OpeningRead : Option (List ℕ) → Option (List ℕ) → Result (SegmentConfig × NameLists) DayFault → Type 0
-OpeningRead segment carry (Ok read) = OpensWith segment carry read.0 read.1
-OpeningRead segment carry (Err (Segment fault)) = IsFileFault segment_of segment fault
-OpeningRead segment carry (Err (Carry fault)) = IsCarryFault segment carry fault
-OpeningRead segment carry (Err fault) = ⊥
-
 -- how the day of three files ends
 abbrev pub CarriedDayEnds : (SegmentConfig → List Row → Day → Type 0) → Option (List ℕ) → Option (List ℕ) → Option (List ℕ) → Outputs → Result DayReport DayFault → Type 0
 CarriedDayEnds days segment carry orders out (Err (Segment fault)) = IsFileFault segment_of segment fault

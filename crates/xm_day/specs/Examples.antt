@@ -21,9 +21,11 @@ use Rattle.xm_rules.specs.declared.phases.Phase.{Phase}
 use Rattle.xm_rules.specs.declared.phases.Phase.TheVariants.{PreTrading, Call, Continuous, PostTrading, Ended}
 use Rattle.xm_rules.specs.declared.replies.Refusal.{Refusal}
 use Rattle.xm_rules.specs.declared.replies.Refusal.TheVariants as refused
+use Rattle.xm_rules.specs.declared.replies.Reply.{Reply}
 use Rattle.xm_segment.specs.Opening.{settings_of}
 use Rattle.xm_rows.specs.MarketDepth.{depth_header}
 use Rattle.xm_rows.specs.RowAnswers.{answers_header}
+use Rattle.xm_rows.specs.RowTrades.{trades_header}
 use Rattle.xm_files.specs.Names.{NameLists}
 use Rattle.xm_segment.specs.declared.config.SecurityConfig.{SecurityConfig}
 use Rattle.xm_segment.specs.declared.config.SegmentConfig.{SegmentConfig}
@@ -92,6 +94,19 @@ cascade_answers =
     ++ codes "11,XYZ,accepted,9,closing-call,4,0,0,0.0000,,,,9.8500,5,9.8500,10.0000,,,\n"
     ++ codes "12,XYZ,accepted,10,post-trading,4,0,0,0.0000,,,,,,9.8500,10.0000,,,\n"
     ++ codes "13,XYZ,accepted,11,ended,4,0,0,0.0000,,,,,,9.8500,10.0000,,,\n"
+
+-- its trades, with the row that set them off
+abbrev pub cascade_trades : List ℕ
+cascade_trades =
+    trades_header
+    ++ codes "9,XYZ,4,continuous,10.0000,10,AAA,1,BBB,3,\n"
+    ++ codes "9,XYZ,4,continuous,9.9000,20,AAA,2,BBB,3,\n"
+    ++ codes "9,XYZ,5,continuous,9.8500,25,AAA,3,BBB,1,\n"
+    ++ codes "9,XYZ,6,continuous,9.8500,5,AAA,3,BBB,2,\n"
+
+-- a reply that counts no trades
+abbrev pub no_trades : Reply
+no_trades = record { version = 1; phase = Continuous; first_trade = 0; trades = 0; quantity = 0; money = 0 }
 
 -- the levels behind the rows of that day
 abbrev pub cascade_depth : List ℕ

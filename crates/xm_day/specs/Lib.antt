@@ -1,4 +1,5 @@
 pub mod Answers
 pub mod CarriedDays
 pub mod Checks
+pub mod Days
 pub mod Examples

@@ -1,20 +1,22 @@
 //! What the definitions give on worked examples. Each function promises one by its contract.
 #![tactic(auto, unfolding(xm_rules::specs::Opening::opening, xm_rules::specs::Refusals::refusal_of, xm_rules::specs::Step::step))]
 
-ghost use Rattle.std.specs.Prelude.{◌≡◌, codes, map, negsuc, pos, false, true, Err, None, Some, [], ◌∷◌, ◌++◌};
+ghost use Rattle.std.specs.Prelude.{◌≡◌, codes, map, negsuc, pos, false, true, Err, None, Ok, Some, [], ◌∷◌, ◌++◌};
 ghost use Rattle.xm_day.specs.Checks.{check_line};
 ghost use Rattle.xm_rows.specs.Day.{day, opening_day};
 ghost use Rattle.xm_segment.specs.Opening.{segment_fault};
-ghost use Rattle.xm_day.specs.Examples.{broad_security, cascade_answers, cascade_depth, cascade_rows, cascade_state, cascade_text, crowded_state, every_phase, every_phase_word, every_refusal, every_refusal_word, every_restriction, every_restriction_word, every_trade_kind, every_trade_word, every_validity, every_validity_text, example_config, example_names, open_row, penny_state, restricted_state, sized_config};
+ghost use Rattle.xm_day.specs.Examples.{broad_security, cascade_answers, cascade_depth, cascade_rows, cascade_state, cascade_text, cascade_trades, crowded_state, every_phase, every_phase_word, every_refusal, every_refusal_word, every_restriction, every_restriction_word, every_trade_kind, every_trade_word, every_validity, every_validity_text, example_config, example_names, no_trades, open_row, penny_state, restricted_state, sized_config};
 ghost use Rattle.xm_rows.specs.MarketDepth.{depth_text, market_depth, same_depth, same_level, same_side_depth, told_change};
 ghost use Rattle.xm_rows.specs.RowAnswers.{answer_line, answers_header, answers_of, market_fields, priced_fields, quoted_field, refusal_word};
+ghost use Rattle.xm_rows.specs.RowTrades.{trade_lines, trades_by, trades_header, trades_of};
 ghost use Rattle.xm_statement.specs.Statement.{day_line, limit_text, member_line, phase_word, restriction_word, side_word, statement, stop_line, total_cash, trade_word, validity_text};
 ghost use Rattle.xm_workers.specs.Workers.{rows_of};
 ghost use Rattle.xm_desk.specs.declared.opening.OpenFault.TheVariants.{BadWidths, NoSecurity, TooMany};
 ghost use Rattle.xm_files.specs.Examples.{round_rows, row_of};
-ghost use Rattle.xm_rules.specs.Examples.{stop};
+ghost use Rattle.xm_rules.specs.Examples.{stop, trade};
 ghost use Rattle.xm_rules.specs.declared.commands.Command.TheVariants.{Cancel, CancelAll, StartClosing, StartOpening, Uncross};
 ghost use Rattle.xm_rules.specs.declared.orders.OrderKind.TheVariants.{Limit, Market};
+ghost use Rattle.xm_rules.specs.declared.orders.TradeKind.TheVariants as made;
 ghost use Rattle.xm_rules.specs.declared.phases.Auction.TheVariants.{Closing, Opening};
 ghost use Rattle.xm_rules.specs.declared.phases.CallStage.TheVariants.{Ordinary};
 ghost use Rattle.xm_rules.specs.declared.phases.Phase.TheVariants.{Call, Continuous};
@@ -34,6 +36,11 @@ pub fn cascade_statement()
 /// The answers to the rows of that day are `examples/cascade.answers.csv`.
 pub fn cascade_answers()
     ensures { answers_header ++ answers_of example_names (λ line. []) (opening_day example_config) cascade_rows ≡ cascade_answers }
+{}
+
+/// Its trades, which one row set off, are `examples/cascade.trades.csv`.
+pub fn cascade_trades()
+    ensures { trades_header ++ trades_of example_names (λ line. []) (opening_day example_config) cascade_rows ≡ cascade_trades }
 {}
 
 /// The levels behind the rows of that day are `examples/cascade.depth.csv`.
@@ -71,6 +78,15 @@ pub fn answers_to_rows()
     ensures words { map refusal_word every_refusal ≡ every_refusal_word }
     ensures priced { priced_fields 50 (Some (201, 7)) ≡ codes "1.0050,7" }
     ensures unpriced { priced_fields 50 None ≡ codes "," }
+{}
+
+/// The trades of a row are those that its reply counts: neither those before it, nor those of later rows. Each has the text of the row.
+pub fn trades_of_rows()
+    ensures between { trades_by (Ok (record no_trades { first_trade = 1; trades = 2 })) cascade_state.trades ≡ trade made.Continuous 4 20 990 (0, 2) (1, 3) ∷ trade made.Continuous 5 25 985 (0, 3) (1, 1) ∷ [] }
+    ensures none { trades_by (Ok (record no_trades { first_trade = 4 })) cascade_state.trades ≡ [] }
+    ensures refused { trades_by (Err refused.UnknownOrder) cascade_state.trades ≡ [] }
+    ensures unknown { trade_lines example_names (open_row 7) [] (Err refused.UnknownSecurity) None ≡ [] }
+    ensures with_text { trade_lines example_names (open_row 0) (codes "at 9, sharp") (Ok (record no_trades { first_trade = 3; trades = 1 })) (Some cascade_state) ≡ codes "2,XYZ,6,continuous,9.8500,5,AAA,3,BBB,2,\"at 9, sharp\"\n" }
 {}
 
 /// The free text of a record is told as it stood, and in quotation marks where CSV would read it in another way.

@@ -1,24 +1,23 @@
-//! The day of a segment: its rows run on desks, its statement, beside it the answers to its rows and the levels behind them, and what
-//! it leaves to the next day; and the check of a segment file.
+//! The day of a segment as a value: its files are opened, its rows are taken in one of three ways, and its texts are made: its statement,
+//! beside it the answers to its rows, its trades and the levels behind its rows, and what it leaves to the next day. `calls` has the same with
+//! readers and writers; and a segment file is checked.
 #![tactic(auto)]
 
-mod both_texts;
-mod carried_days;
-mod carry_file;
+mod calls;
 mod checks;
-mod day;
 pub mod examples;
+mod opening;
 mod order_file;
-mod stated;
 mod statement_text;
-mod statements;
-mod texts;
-mod threaded;
+mod taking;
+mod value;
 
-pub use crate::carried_days::{carry_alone, carry_day};
-pub use crate::carry_file::carry;
+pub use crate::calls::{
+    carry, carry_alone, carry_day, run_alone, run_day, run_orders, send_statement, statement,
+};
 pub use crate::checks::check;
-pub use crate::day::{run_alone, run_day, run_orders, run_told};
-pub use crate::statements::statement;
-pub use crate::threaded::{carry_on_threads, run_on_threads};
-pub use xm_rows::{AskedTexts, DayFault, DayReport, ToldDay};
+pub use crate::opening::{open_carried_files, open_files};
+pub use crate::statement_text::StatementText;
+pub use crate::taking::{TakenDay, take_in_order, take_on_threads, take_shared};
+pub use crate::value::{DayTexts, HandsOn, day_texts};
+pub use xm_rows::{AskedTexts, DayFault, DayReport};

@@ -1,8 +1,8 @@
 //! The desks of a segment that have taken an order file.
 ghost use Rattle.std.specs.Prelude.{◌≡◌, ◌≤◌, length};
-ghost use Rattle.xm_rows.specs.Taken.{DesksEnd, HasTaken, RowsTaken};
+ghost use Rattle.xm_rows.specs.Taken.{HasTaken, RowsTaken};
 ghost use Rattle.xm_day.specs.Answers.{FileRun};
-ghost use Rattle.xm_workers.specs.Workers.{IsShared};
+ghost use Rattle.xm_day.specs.Days.{IsUntold, SharesRows};
 ghost use Rattle.xm_segment.specs.declared.opening.TheConstants.{MAX_WORKERS};
 
 use std::alloc::Global;
@@ -11,7 +11,7 @@ use std::sync::Wait;
 use std::thread::Threads;
 use xm_files::{SegmentNames, read_orders};
 use xm_names::Storage;
-use xm_rows::{AskedTexts, DayFault, OpenDay, run_rows};
+use xm_rows::{AskedTexts, DayFault, OpenDay, Told, run_rows};
 use xm_segment::{Gate, SegmentConfig};
 use xm_threads::run_apart;
 use xm_workers::run_shared;
@@ -72,14 +72,31 @@ pub(crate) fn share_orders<T: Threads + Wait + Sync, G: Gate + Sync, R: Read>(
 ) -> Result<OpenDay, DayFault>
     requires some { 1 ≤ workers }
     requires few { workers ≤ MAX_WORKERS }
-    ensures { FileRun (λ bytes. DesksEnd (IsShared workers)) config.now names.now (R.remaining orders.old) result }
+    ensures { FileRun (SharesRows workers) config.now names.now (R.remaining orders.old) result }
 {
     let bytes = match read_orders(storage.alloc, orders) {
         Ok(bytes) => bytes,
         Err(fault) => return Err(DayFault::Orders(fault)),
     };
     match run_shared(rt, gate, workers, storage, config, names, bytes) {
-        Ok(day) => day,
+        Ok(day) => untold(day),
         Err(fault) => Err(DayFault::Orders(fault)),
     }
+}
+
+/// The same day, of whose rows nothing is told.
+fn untold(day: Result<OpenDay, DayFault>) -> Result<OpenDay, DayFault>
+    ensures { IsUntold day result }
+{
+    let OpenDay {
+        desks,
+        report,
+        told: _,
+    } = day?;
+    let told = Told::nothing();
+    Ok(OpenDay {
+        desks,
+        report,
+        told,
+    })
 }

@@ -33,7 +33,9 @@ mod runtime;
 
 use crate::files::fixtures::{CASCADE, HEADER, SEGMENT};
 use crate::memory::want_of_memory;
-use ends::{CANNOT_KEEP, CANNOT_SHARE, CANNOT_SHARE_CARRIED, CANNOT_TELL, Printed};
+use ends::{
+    CANNOT_KEEP, CANNOT_SHARE, CANNOT_SHARE_CARRIED, CANNOT_TELL, CANNOT_TELL_CARRIED, Printed,
+};
 use std::alloc::Global;
 use std::fs::File;
 use std::io::{Read, Write};
@@ -46,8 +48,8 @@ use xm_desk::OpenFault;
 use xm_files::{FileCause, FileFault};
 use xm_names::Storage;
 use xm_program::{
-    Concurrency, Count, Failure, Input, Output, Request, check, fault_line, open_input, read_words,
-    run, run_told,
+    Concurrency, Count, DayRequest, Failure, Input, Output, Request, TextFiles, TextPaths, check,
+    fault_line, open_input, read_words, run,
 };
 
 /// A fault of a file, in this line.
@@ -129,47 +131,40 @@ fn taken(concurrency: Concurrency) -> (&'static str, u32) {
     }
 }
 
+/// What a command line asks for, as a text.
+fn day_asked(rt: &(impl Abort + AllocGlobal), request: &DayRequest<'_>) -> String {
+    let alloc = rt.alloc();
+    let (segment, orders) = (request.segment, request.orders);
+    let (how, number) = taken(request.concurrency);
+    let day = match &request.carrying {
+        None => format!(in alloc; "run {segment} and {orders} {how} {number}"),
+        Some(carrying) => {
+            let (from, to) = (carrying.from, carrying.to);
+            format!(in alloc; "carry {segment}, {from} and {orders} to {to} {how} {number}")
+        }
+    };
+    day.expect(rt, "memory")
+}
+
+/// Where the texts beside a statement go, as a text.
+fn texts_asked(rt: &(impl Abort + AllocGlobal), texts: &TextPaths<'_>) -> String {
+    let answers = texts.answers.unwrap_or("nowhere");
+    let trades = texts.trades.unwrap_or("nowhere");
+    let depth = texts.depth.unwrap_or("nowhere");
+    let told = format!(in rt.alloc();
+        "answers to {answers}, trades to {trades}, levels to {depth}"
+    );
+    told.expect(rt, "memory")
+}
+
 /// What a command line is answered with, as a text that tells which answer it is.
 fn answer_to(rt: &(impl Abort + AllocGlobal), line: &[String]) -> String {
     let alloc = rt.alloc();
     let answer = read_words(alloc, line);
     let text = match &answer {
-        Ok(
-            Request::Run {
-                segment,
-                orders,
-                concurrency,
-            },
-        ) => {
-            let (how, number) = taken(*concurrency);
-            format!(in alloc; "run {segment} and {orders} {how} {number}")
-        }
-        Ok(
-            Request::RunTold {
-                segment,
-                orders,
-                answers,
-                depth,
-                threads,
-            },
-        ) => {
-            let (answers, depth) = (answers.unwrap_or("nowhere"), depth.unwrap_or("nowhere"));
-            let threads = threads.get();
-            format!(in alloc;
-                "run {segment} and {orders} on {threads}, answers to {answers}, levels to {depth}"
-            )
-        }
-        Ok(
-            Request::Carry {
-                segment,
-                carried,
-                orders,
-                keep,
-                concurrency,
-            },
-        ) => {
-            let (how, number) = taken(*concurrency);
-            format!(in alloc; "carry {segment}, {carried} and {orders} to {keep} {how} {number}")
+        Ok(Request::Day(request)) => {
+            let (day, texts) = (day_asked(rt, request), texts_asked(rt, &request.texts));
+            format!(in alloc; "{day}, {texts}")
         }
         Ok(Request::Check { segment }) => format!(in alloc; "check {segment}"),
         Ok(Request::Help(text)) => format!(in alloc; "help {text}"),
@@ -182,39 +177,49 @@ fn answer_to(rt: &(impl Abort + AllocGlobal), line: &[String]) -> String {
 /// The words of a command line, without the program's name, with what they are answered.
 type Answered = (&'static [&'static str], Printed);
 
-const RUNS: [Answered; 18] = [
+/// A day of which nothing is told beside its statement.
+macro_rules! untold {
+    ($day:expr) => {
+        Printed::Text(concat!(
+            $day,
+            ", answers to nowhere, trades to nowhere, levels to nowhere"
+        ))
+    };
+}
+
+const RUNS: [Answered; 20] = [
     (
         &["run", "day.toml", "day.csv"],
-        Printed::Text("run day.toml and day.csv on 1"),
+        untold!("run day.toml and day.csv on 1"),
     ),
     (
         &["run", "--", "-s", "--orders"],
-        Printed::Text("run -s and --orders on 1"),
+        untold!("run -s and --orders on 1"),
     ),
-    (&["run", "a day", ""], Printed::Text("run a day and  on 1")),
+    (&["run", "a day", ""], untold!("run a day and  on 1")),
     (
         &["run", "day.toml", "day.csv", "--workers", "1"],
-        Printed::Text("run day.toml and day.csv on 1"),
+        untold!("run day.toml and day.csv on 1"),
     ),
     (
         &["run", "--workers", "64", "day.toml", "day.csv"],
-        Printed::Text("run day.toml and day.csv by 64"),
+        untold!("run day.toml and day.csv by 64"),
     ),
     (
         &["run", "day.toml", "--workers=+08", "day.csv"],
-        Printed::Text("run day.toml and day.csv by 8"),
+        untold!("run day.toml and day.csv by 8"),
     ),
     (
         &["run", "day.toml", "day.csv", "--threads", "64"],
-        Printed::Text("run day.toml and day.csv on 64"),
+        untold!("run day.toml and day.csv on 64"),
     ),
     (
         &["run", "--threads=+02", "day.toml", "--workers=1", "day.csv"],
-        Printed::Text("run day.toml and day.csv on 2"),
+        untold!("run day.toml and day.csv on 2"),
     ),
     (
         &["run", "day.toml", "day.csv", "--workers=3", "--threads=1"],
-        Printed::Text("run day.toml and day.csv by 3"),
+        untold!("run day.toml and day.csv by 3"),
     ),
     (
         &["run", "day.toml", "day.csv", "--workers=2", "--threads=2"],
@@ -222,7 +227,9 @@ const RUNS: [Answered; 18] = [
     ),
     (
         &["run", "day.toml", "day.csv", "--answers", "a file"],
-        Printed::Text("run day.toml and day.csv on 1, answers to a file, levels to nowhere"),
+        Printed::Text(
+            "run day.toml and day.csv on 1, answers to a file, trades to nowhere, levels to nowhere",
+        ),
     ),
     (
         &[
@@ -233,27 +240,35 @@ const RUNS: [Answered; 18] = [
             "--answers",
             "a file",
         ],
-        Printed::Text("run day.toml and day.csv on 3, answers to a file, levels to nowhere"),
+        Printed::Text(
+            "run day.toml and day.csv on 3, answers to a file, trades to nowhere, levels to nowhere",
+        ),
     ),
     (&["run", "--answers=-", "day.toml", "day.csv"], CANNOT_TELL),
     (
         &["run", "day.toml", "day.csv", "--depth", "a", "--answers=b"],
-        Printed::Text("run day.toml and day.csv on 1, answers to b, levels to a"),
+        Printed::Text(
+            "run day.toml and day.csv on 1, answers to b, trades to nowhere, levels to a",
+        ),
     ),
     (
         &["run", "day.toml", "day.csv", "--depth=a", "--threads=4"],
-        Printed::Text("run day.toml and day.csv on 4, answers to nowhere, levels to a"),
+        Printed::Text(
+            "run day.toml and day.csv on 4, answers to nowhere, trades to nowhere, levels to a",
+        ),
     ),
     (
-        &[
-            "run",
-            "day.toml",
-            "day.csv",
-            "--depth",
-            "a",
-            "--answers",
-            "a",
-        ],
+        &["run", "day.toml", "day.csv", "--trades=c", "--threads=4"],
+        Printed::Text(
+            "run day.toml and day.csv on 4, answers to nowhere, trades to c, levels to nowhere",
+        ),
+    ),
+    (
+        &["run", "day.toml", "day.csv", "--depth=a", "--answers=a"],
+        CANNOT_TELL,
+    ),
+    (
+        &["run", "day.toml", "day.csv", "--trades=a", "--answers=a"],
         CANNOT_TELL,
     ),
     (
@@ -281,10 +296,10 @@ const RUNS: [Answered; 18] = [
     ),
 ];
 
-const CARRIES: [Answered; 6] = [
+const CARRIES: [Answered; 8] = [
     (
         &["carry", "day.toml", "in.csv", "day.csv", "out.csv"],
-        Printed::Text("carry day.toml, in.csv and day.csv to out.csv on 1"),
+        untold!("carry day.toml, in.csv and day.csv to out.csv on 1"),
     ),
     (
         &[
@@ -296,7 +311,7 @@ const CARRIES: [Answered; 6] = [
             "day.csv",
             "a file",
         ],
-        Printed::Text("carry day.toml, a file and day.csv to a file by 64"),
+        untold!("carry day.toml, a file and day.csv to a file by 64"),
     ),
     (
         &[
@@ -308,7 +323,34 @@ const CARRIES: [Answered; 6] = [
             "--threads",
             "8",
         ],
-        Printed::Text("carry day.toml, in.csv and day.csv to out.csv on 8"),
+        untold!("carry day.toml, in.csv and day.csv to out.csv on 8"),
+    ),
+    (
+        &[
+            "carry",
+            "day.toml",
+            "in.csv",
+            "day.csv",
+            "out.csv",
+            "--answers=a",
+            "--trades=b",
+            "--depth=c",
+            "--threads=4",
+        ],
+        Printed::Text(
+            "carry day.toml, in.csv and day.csv to out.csv on 4, answers to a, trades to b, levels to c",
+        ),
+    ),
+    (
+        &[
+            "carry",
+            "day.toml",
+            "in.csv",
+            "day.csv",
+            "out.csv",
+            "--trades=out.csv",
+        ],
+        CANNOT_TELL_CARRIED,
     ),
     (
         &["carry", "day.toml", "in.csv", "day.csv", "-"],
@@ -507,37 +549,90 @@ fn run_day(
 ) -> Result<(), DayFault> {
     let storage = Storage::with_fixed_seed(rt.alloc());
     let workers = Concurrency::Workers(Count::new(workers).expect(rt, "a number of workers"));
-    run(rt, storage, segment, orders, workers, out)
+    let asked = AskedTexts::nothing();
+    let mut files: TextFiles<File> = TextFiles {
+        answers: Output::Unasked,
+        trades: Output::Unasked,
+        depth: Output::Unasked,
+        carry: Output::Unasked,
+    };
+    run(
+        rt, storage, segment, orders, workers, asked, out, &mut files,
+    )
 }
 
-/// Both texts beside a statement.
-const BOTH: AskedTexts = AskedTexts {
+/// All texts beside a statement.
+const ALL: AskedTexts = AskedTexts {
     answers: true,
+    trades: true,
     depth: true,
 };
 
-/// Runs the day of two texts, and writes its statement, its answers and its levels to three writers. A clause sees nothing of
-/// it.
+/// A text that is kept, and fails when it is flushed, if it is to.
+#[derive(Drop)]
+struct Kept {
+    text: Vec<u8>,
+    fails: bool,
+}
+
+impl Write for Kept {
+    fn write(&mut self, bytes: &[u8]) -> io::Result<usize> {
+        self.text.write(bytes)
+    }
+
+    fn flush(&mut self) -> io::Result<()> {
+        if self.fails {
+            Err(io::Error::from(io::ErrorKind::StorageFull))
+        } else {
+            Ok(())
+        }
+    }
+}
+
+fn make_kept(alloc: Global, fails: bool) -> Output<Kept> {
+    Output::Made(Kept {
+        text: Vec::new(alloc),
+        fails,
+    })
+}
+
+/// Whether a text was kept there.
+fn has_text(output: &Output<Kept>) -> bool {
+    match output {
+        Output::Made(kept) => !kept.text.is_empty(),
+        Output::Unasked => false,
+    }
+}
+
+/// Files for the texts beside a statement, of which the one at this place fails.
+fn kept_files(alloc: Global, fails: Option<u32>) -> TextFiles<Kept> {
+    TextFiles {
+        answers: make_kept(alloc, fails == Some(0)),
+        trades: make_kept(alloc, fails == Some(1)),
+        depth: make_kept(alloc, fails == Some(2)),
+        carry: Output::Unasked,
+    }
+}
+
+/// Runs the day of two texts, and writes its statement, its answers and its levels. A clause sees nothing of it.
 fn tell_day(
-    rt: &(impl Abort + AllocGlobal + Threads + Sync),
+    rt: &(impl Abort + AllocGlobal + Threads + Wait + Sync),
     out: &mut impl Write,
     asked: AskedTexts,
-    answers: &mut impl Write,
-    depth: &mut impl Write,
+    files: &mut TextFiles<Kept>,
 ) -> Result<(), DayFault> {
     let storage = Storage::with_fixed_seed(rt.alloc());
     let (mut segment, mut orders) = (SEGMENT.as_bytes(), CASCADE.as_bytes());
-    let alone = Count::new(1).expect(rt, "a number of threads");
-    run_told(
+    let alone = Concurrency::Threads(Count::new(1).expect(rt, "a number of threads"));
+    run(
         rt,
         storage,
         &mut segment,
         &mut orders,
         alone,
-        out,
         asked,
-        answers,
-        depth,
+        out,
+        files,
     )
 }
 
@@ -602,28 +697,40 @@ fn an_unflushed_line_is_not_written(rt: HostRuntime) {
     assert!(rt; answer == Err(DayFault::WriteFailed));
 }
 
-/// What isn't asked for isn't written: its writer, which fails, is left alone.
+/// What isn't asked for isn't written: each write to it would fail.
 #[test]
 fn one_text_of_a_day(rt: HostRuntime) {
-    let (mut out, mut depth) = (Vec::new(rt.alloc()), Vec::new(rt.alloc()));
+    let mut out = Vec::new(rt.alloc());
     let asked = AskedTexts {
         answers: false,
+        trades: false,
         depth: true,
     };
-    let mut unasked: Output<File> = Output::Unasked;
-    assert!(rt; tell_day(&rt, &mut out, asked, &mut unasked, &mut depth) == Ok(()));
-    assert!(rt; !depth.is_empty());
+    let mut files = TextFiles {
+        answers: Output::Unasked,
+        trades: Output::Unasked,
+        depth: make_kept(rt.alloc(), false),
+        carry: Output::Unasked,
+    };
+    assert!(rt; tell_day(&rt, &mut out, asked, &mut files) == Ok(()));
+    assert!(rt; has_text(&files.depth));
 }
 
 #[test]
-fn texts_go_out_behind_a_whole_statement(rt: HostRuntime) {
+fn texts_go_out_one_behind_the_other(rt: HostRuntime) {
     let failed = Err(DayFault::WriteFailed);
-    let (mut answers, mut depth) = (Vec::new(rt.alloc()), Vec::new(rt.alloc()));
-    assert!(rt; tell_day(&rt, &mut Unflushed, BOTH, &mut answers, &mut depth) == failed);
-    assert!(rt; answers.is_empty() && depth.is_empty());
+    let mut files = kept_files(rt.alloc(), None);
+    assert!(rt; tell_day(&rt, &mut Unflushed, ALL, &mut files) == failed);
+    assert!(rt; !has_text(&files.answers) && !has_text(&files.trades) && !has_text(&files.depth));
     let mut out = Vec::new(rt.alloc());
-    assert!(rt; tell_day(&rt, &mut out, BOTH, &mut Unflushed, &mut depth) == failed);
-    assert!(rt; out == statement_of(&rt, SEGMENT, CASCADE, 1) && depth.is_empty());
-    assert!(rt; tell_day(&rt, &mut out, BOTH, &mut answers, &mut Unflushed) == failed);
-    assert!(rt; !answers.is_empty());
+    let mut files = kept_files(rt.alloc(), Some(0));
+    assert!(rt; tell_day(&rt, &mut out, ALL, &mut files) == failed);
+    assert!(rt; out == statement_of(&rt, SEGMENT, CASCADE, 1));
+    assert!(rt; !has_text(&files.trades) && !has_text(&files.depth));
+    let mut files = kept_files(rt.alloc(), Some(1));
+    assert!(rt; tell_day(&rt, &mut out, ALL, &mut files) == failed);
+    assert!(rt; has_text(&files.answers) && !has_text(&files.depth));
+    let mut files = kept_files(rt.alloc(), Some(2));
+    assert!(rt; tell_day(&rt, &mut out, ALL, &mut files) == failed);
+    assert!(rt; has_text(&files.trades));
 }

@@ -1,6 +1,5 @@
 mod Ends
 mod Numbers
-mod Paths
 mod Runs
 mod Sent
-mod Told
+mod Walks

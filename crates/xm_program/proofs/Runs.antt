@@ -1,35 +1,37 @@
--- Words that ask for a run or a check are answered with it.
-use Rattle.std.proofs.Common.{ℕ, suc, pos, ◌≡◌, ◌&&◌, ◌||◌, ◌++◌, unwrap_or, slice_get, ◌==◌, is_some, List, [], ◌∷◌, Option, Some, None, Err, true, false, not, codes, refl, subst, sym, ap, ◌∙◌, fold, Bool, Result, Ok, IfErr, IfSome, IsErrAnd, inl, inr, ◌⊎◌}
+-- Words that ask for a day or a check are answered with it.
+use Rattle.std.proofs.Common.{ℕ, ◌≡◌, ◌&&◌, ◌++◌, unwrap_or, slice_get, ◌==◌, is_some, List, [], ◌∷◌, Option, Some, None, Err, true, false, not, codes, refl, subst, sym, ap, ap₂, ◌∙◌, fold, Bool, Result, Ok, IfErr, IfSome, IsErrAnd, IsSome, inl, inr, ◌⊎◌, option_map, option_and_then}
 use Rattle.std.specs.Str.{bytes_eq}
-use Rattle.clap.specs.Lexer.{strip_byte, without_minus}
-use Rattle.clap.specs.ValueTests.{is_signed_in}
 use Rattle.std.specs.Fmt.{decimal}
 use Rattle.std.specs.List.{list_all}
-use Rattle.clap.specs.Simple.{Shape, built}
-use Rattle.clap.specs.Takes.{default_passes, is_valid, level_passes, settle_passes, walk_passes}
-use Rattle.clap.specs.Walk.{Held, Walk, finished, idle, nothing_held, walk, walk_from, walked}
+use Rattle.clap.specs.Facts.{unwrap_or_range}
+use Rattle.clap.specs.Lexer.{long_of}
+use Rattle.clap.specs.Simple.{Shape, built, entered, filled, is_simple, names_of}
+use Rattle.clap.specs.Takes.{default_passes, entered_passes, is_valid, level_passes, settle_passes, turn_passes, value_passes, walk_passes}
+use Rattle.clap.specs.Walk.{Held, Names, Walk, action_of, arg_by_id, arg_by_long, finished, nothing_held, walk, walk_from, walked}
+use Rattle.clap.specs.declared.builder.action.ArgAction.TheVariants.{Set}
 use Rattle.clap.specs.declared.builder.value_parser.Reading.TheVariants.{AsWritten, WithoutMinus}
-use Rattle.clap.specs.declared.parser.matches.ValueSource.TheVariants.{CommandLine}
-use Rattle.clap.specs.Words.{App, HasKind, IsAmong, Kinds, Row, Text, fault_of, is_simple_and_free, kind_of, takes}
+use Rattle.clap.specs.declared.parser.matches.ValueSource.TheVariants.{CommandLine, DefaultValue}
+use Rattle.clap.specs.Words.{App, HasKind, HasMatchesOf, IsAmong, Kinds, Row, Rule, Text, fault_of, first_of, is_simple_and_free, kind_of, one_of, subcommand_rows_of, takes}
+use Rattle.clap.specs.declared.parser.matches.ArgMatches.{ArgMatches}
 use Rattle.clap.specs.declared.error.Error.{Error}
 use Rattle.clap.specs.declared.error.kind.ErrorKind.{ErrorKind}
 use Rattle.clap.specs.declared.error.kind.ErrorKind.TheVariants as kind
 use Rattle.clap.proofs.OnLiterals.{clap_on_literals}
-use Rattle.clap.proofs.WalkLemmas.{both}
-use Rattle.xm_rows.specs.declared.faults.DayFault.TheVariants as day
+use Rattle.clap.proofs.WalkLemmas.{both, walk_stopped}
+use Rattle.xm_rows.specs.declared.faults.DayFault.TheVariants.{OutOfMemory}
 use Rattle.xm_program.specs.declared.requests.Failure.TheVariants.{Day}
 use Rattle.xm_program.specs.declared.requests.Request.{Request}
-use Rattle.xm_program.specs.declared.requests.Request.TheVariants.{Run, RunTold, Carry, Check, Help}
-use Rattle.xm_program.specs.Requests.{AnswersWords, Asked, Asks, IsCount, IsRequest, IsOfWords, answer_at, answer_of, asked_in, asked_of, can_tell, carry, carry_to, check, concurrency_by, concurrency_of, count_in, count_words, day_app, file_words, is_mistake, is_one_path, is_plain_word, run, run_of, run_to, run_told}
-use Rattle.xm_program.specs.declared.concurrency.Concurrency.{Concurrency}
-use Rattle.xm_program.specs.declared.concurrency.Concurrency.TheVariants.{Threads}
+use Rattle.xm_program.specs.declared.requests.Request.TheVariants as request
+use Rattle.xm_program.specs.declared.requests.Request.TheVariants.{Check, Help}
+use Rattle.xm_program.specs.Requests.{AnswersWords, Asked, AskedDay, Asks, AsksDay, IsCount, IsOfWords, IsRequest, Meets, answer_at, answer_of, asked_in, asked_of, can_write, check, concurrency_of, count_in, count_rule, day, day_app, day_in, file_rule, is_mistake, is_plain_path, is_plain_word, option_words, path_words}
 use Rattle.xm_program.proofs.Numbers.{number-text}
+use Rattle.xm_program.proofs.Walks.{Gathered, IsOption, IsPlain, IsWalked, Stands, Steps, and-then, both-true, default-else, defaults-at, further, or_default, or_else, row, row_at, rows_in, step, walked_over, with_row}
 
 false_of : (b : Bool) → not b ≡ true → b ≡ false
 false_of true h = absurd (cc)
 false_of false h = refl
 
-pub answer-memory : (error : Error) → kind_of error ≡ kind.OutOfMemory → answer_of error ≡ Err (Day (day.OutOfMemory tt))
+pub answer-memory : (error : Error) → kind_of error ≡ kind.OutOfMemory → answer_of error ≡ Err (Day (OutOfMemory tt))
 answer-memory error e = rw e refl
 
 -- words that are taken, and ask for this
@@ -37,344 +39,347 @@ pub record IsTaken (words : List Text) (asked : Asked) : Type 0 where
   pub taken : takes day_app words ≡ true
   pub asks : asked_of words ≡ Some asked
 
--- a word that is taken as it stands
-record IsPlain (word : Text) : Type 0 where
-  no_hyphen : strip_byte 45 word ≡ None
-  no_hyphens : bytes_eq word (45 ∷ 45 ∷ []) ≡ false
-
-no_hyphen : (word : Text) → is_plain_word word ≡ true → strip_byte 45 word ≡ None
-no_hyphen [] h = refl
-no_hyphen (x ∷ word) h = rw (false_of (x == 45) h) refl
-
-no_hyphens : (word : Text) → is_plain_word word ≡ true → bytes_eq word (45 ∷ 45 ∷ []) ≡ false
-no_hyphens [] h = refl
-no_hyphens (x ∷ word) h = rw (false_of (x == 45) h) refl
-
-no_dash : (word : Text) → is_plain_word word ≡ true → bytes_eq word (codes "-") ≡ false
-no_dash [] h = refl
-no_dash (x ∷ word) h = rw (false_of (x == 45) h) refl
-
 plain : (word : Text) → is_plain_word word ≡ true → IsPlain word
-plain word h = record { no_hyphen = no_hyphen word h; no_hyphens = no_hyphens word h }
+plain [] h = record { no_hyphen = refl; no_hyphens = refl }
+plain (x ∷ word) h =
+    let differs = false_of (x == 45) h in
+    record { no_hyphen = rw differs refl; no_hyphens = rw differs refl }
 
--- the command lines of both runs, as they are built
-abbrev run_shape : Shape
-run_shape = unwrap_or (slice_get (built day_app).subs 0) day_app.top
+taken-check : (program s : Text) → IsPlain s → IsTaken (program ∷ codes "check" ∷ s ∷ []) (check s)
+unfolding clap_on_literals
+taken-check program s p = record { taken = simp (p.no_hyphen, p.no_hyphens); asks = simp (p.no_hyphen, p.no_hyphens) }
 
-abbrev carry_shape : Shape
-carry_shape = unwrap_or (slice_get (built day_app).subs 1) day_app.top
+-- ---- a subcommand, and the words behind it
 
--- a value that the words give
-abbrev given : Text → Text → Row
-given id value = record { id = id; values = value ∷ []; count = None; source = Some CommandLine; reading = AsWritten }
+abbrev top : Shape
+top = (built day_app).top
 
--- the same of a number, behind which another value stands
-abbrev given_number : Text → Text → Row
-given_number id value = record (given id value) { reading = WithoutMinus }
+abbrev subcommands : Names
+subcommands = names_of (built day_app)
 
--- where the walk over so many paths, and words behind them, stands that gave these values, and last this one
-abbrev walked_over : ℕ → List Row → Text → Text → Walk
-walked_over paths rows id value = record {
-  held = record { rows = rows; pending = Some (id, value ∷ []); skip = 0 };
-  waiting = idle;
-  position = suc paths;
-  is_trailing = false;
-  stopped = None;
-}
+abbrev start : Walk
+start = walk_from nothing_held
+
+abbrev stopped_at : Text → List Text → Walk
+stopped_at name behind = record start { stopped = Some (name, behind) }
+
+stopped-passes : (w : Walk) (p : Text × List Text) (words : List Text) → walk_passes top subcommands (record w { stopped = Some p }) words ≡ true
+unfolding walk_passes walked
+stopped-passes w p [] = refl
+stopped-passes w p (word ∷ words) = stopped-passes w (p.0, p.1 ++ word ∷ []) words
+
+-- what the command line is asked where the walk over its words stopped so
+abbrev stop_passes : Walk → Bool → Bool
+stop_passes w passes =
+    is_simple day_app && (entered_passes (built day_app) w.stopped && (passes && (settle_passes top.rules top.args_override_self w.held
+    && (list_all default_passes top.rules && is_valid top (finished top.rules w.held) (is_some (entered (built day_app) w.stopped))))))
 
 -- what a subcommand is asked after the walk over its words
 abbrev shape_passes : Shape → Held → Bool
 shape_passes shape end =
     settle_passes shape.rules shape.args_override_self end && (list_all default_passes shape.rules && is_valid shape (finished shape.rules end) false)
 
-both-true : (p q : Bool) → p ≡ true → q ≡ true → (p && q) ≡ true
-both-true p q h k = rw (h, k) refl
+-- the subcommand of this name has this shape
+record IsSubcommand (name : Text) (shape : Shape) : Type 0 where
+  stops : walked top.rules subcommands start name ≡ stopped_at name []
+  passes : turn_passes top subcommands start name ≡ true
+  level : (behind : List Text) → stop_passes (stopped_at name behind) true ≡ (level_passes shape [] nothing_held behind false && true)
+  enters : (behind : List Text) → entered (built day_app) (Some (name, behind)) ≡ Some (name, finished shape.rules (walk shape.rules [] nothing_held behind).held)
 
--- where the walk over words of a subcommand comes to, all of which pass
-record IsWalked (shape : Shape) (from : Walk) (words : List Text) (end : Walk) : Type 0 where
-  comes_to : fold (walked shape.rules []) from words ≡ end
-  passes : walk_passes shape [] from words ≡ true
-
--- more words behind words that are walked
-further : (shape : Shape) (from mid end : Walk) (words more : List Text) → IsWalked shape from words mid → IsWalked shape mid more end → IsWalked shape from (words ++ more) end
+-- words that it is behind and that it takes, and what its values then ask for
+taken-by : (name : Text) (shape : Shape) (s : IsSubcommand name shape) (program : Text) (behind : List Text) (end : Walk) (asked : Asked) → IsWalked shape start behind end → shape_passes shape end.held ≡ true
+    → asked_in (Some (name, finished shape.rules end.held)) ≡ Some asked → IsTaken (program ∷ name ∷ behind) asked
 unfolding walk_passes
-further shape from mid end [] more a b = subst (λ (w : Walk). IsWalked shape w more end) (sym a.comes_to) b
-further shape from mid end (word ∷ words) more a b =
-    let now = both _ _ a.passes in
-    let rest = further shape (walked shape.rules [] from word) mid end words more (record { comes_to = a.comes_to; passes = now.1 }) b in
-    record { comes_to = rest.comes_to; passes = both-true _ _ now.0 rest.passes }
+taken-by name shape s program behind end asked w ends is =
+    let stop : walk top.rules subcommands nothing_held (name ∷ behind) ≡ stopped_at name behind =
+    ap (λ (k : Walk). fold (walked top.rules subcommands) k behind) s.stops ∙ sym (walk_stopped top.rules subcommands start name [] behind) in
+    let passes : walk_passes top subcommands start (name ∷ behind) ≡ true =
+    both-true _ _ s.passes (ap (λ (k : Walk). walk_passes top subcommands k behind) s.stops ∙ stopped-passes start (name, []) behind) in
+    let here = ap (λ (k : Walk). asked_in (Some (name, finished shape.rules k.held))) w.comes_to in
+    record {
+      taken = ap₂ stop_passes stop passes ∙ s.level behind ∙ both-true _ _ (both-true _ _ w.passes (ap (λ (k : Walk). shape_passes shape k.held) w.comes_to ∙ ends)) refl;
+      asks = ap (λ (k : Walk). asked_in (entered (built day_app) k.stopped)) stop ∙ ap asked_in (s.enters behind) ∙ here ∙ is;
+    }
 
--- words whose subcommand has this shape and is walked so, and what its values then ask for
-taken-by : (words behind : List Text) (name : Text) (shape : Shape) (end : Walk) (asked : Asked)
-    → takes day_app words ≡ (level_passes shape [] nothing_held behind false && true)
-    → asked_of words ≡ asked_in (Some (name, finished shape.rules (walk shape.rules [] nothing_held behind).held))
-    → IsWalked shape (walk_from nothing_held) behind end → shape_passes shape end.held ≡ true → asked_in (Some (name, finished shape.rules end.held)) ≡ Some asked → IsTaken words asked
-taken-by words behind name shape end asked level asks w ends is = record {
-  taken = level ∙ both-true _ _ (both-true _ _ w.passes (ap (λ (k : Walk). shape_passes shape k.held) w.comes_to ∙ ends)) refl;
-  asks = asks ∙ ap (λ (k : Walk). asked_in (Some (name, finished shape.rules k.held))) w.comes_to ∙ is;
+-- ---- the options of a day
+
+abbrev file_option : Text → Rule
+file_option id = filled (file_rule id)
+
+abbrev count_option : Text → Rule
+count_option id = filled (count_rule id)
+
+-- the number that is read where none is given
+abbrev one : Text → Row
+one id = row id WithoutMinus DefaultValue (codes "1" ∷ [])
+
+abbrev default_of : Shape → Text → Option Row
+default_of shape id = fold (or_default id) None shape.rules
+
+abbrev path_row : Text → Text → Row
+path_row id path = row id AsWritten CommandLine (path ∷ [])
+
+record IsDayShape (shape : Shape) : Type 0 where
+  answers : IsOption shape (codes "--answers") (file_option (codes "answers"))
+  trades : IsOption shape (codes "--trades") (file_option (codes "trades"))
+  depth : IsOption shape (codes "--depth") (file_option (codes "depth"))
+  workers : IsOption shape (codes "--workers") (count_option (codes "workers"))
+  threads : IsOption shape (codes "--threads") (count_option (codes "threads"))
+  no_answers : default_of shape (codes "answers") ≡ None
+  no_trades : default_of shape (codes "trades") ≡ None
+  no_depth : default_of shape (codes "depth") ≡ None
+  one_worker : default_of shape (codes "workers") ≡ Some (one (codes "workers"))
+  one_thread : default_of shape (codes "threads") ≡ Some (one (codes "threads"))
+  defaults : list_all default_passes shape.rules ≡ true
+
+-- what stands before the options of a day: the paths that these words are
+record HasPaths (name : Text) (shape : Shape) (words : List Text) (d : AskedDay) : Type 0 where
+  paths : ℕ
+  gathered : Gathered
+  rows : List Row
+  is_walked : IsWalked shape start words (walked_over paths gathered)
+  stands : Stands shape (λ k. row_at k rows) gathered
+  answers : row_at (codes "answers") rows ≡ None
+  trades : row_at (codes "trades") rows ≡ None
+  depth : row_at (codes "depth") rows ≡ None
+  workers : row_at (codes "workers") rows ≡ None
+  threads : row_at (codes "threads") rows ≡ None
+  segment : row_at (codes "SEGMENT") rows ≡ Some (path_row (codes "SEGMENT") d.segment)
+  orders : row_at (codes "ORDERS") rows ≡ Some (path_row (codes "ORDERS") d.orders)
+  -- values among which these are
+  valid : (values : List Row) → ((k : Text) (r : Row) → row_at k rows ≡ Some r → row_at k values ≡ Some r) → is_valid shape values false ≡ true
+  asks : (values : List Row) → ((k : Text) (r : Row) → row_at k rows ≡ Some r → row_at k values ≡ Some r) → day_in d.carrying values ≡ Some d → asked_in (Some (name, values)) ≡ Some (day d)
+
+plain-file : (id : Text) (path : Option Text) → is_plain_path path ≡ true → (text : Text) → path ≡ Some text → IsPlain text × (value_passes (file_option id) text ≡ true)
+plain-file id None h text e = absurd (cc)
+plain-file id (Some path) h text e = let same : path ≡ text = cc in rw (sym same) (plain path h, refl)
+
+plain-count : (id : Text) (number : Option ℕ) → IfSome number IsCount → (text : Text) → option_map decimal number ≡ Some text → IsPlain text × (value_passes (count_option id) text ≡ true)
+plain-count id None h text e = absurd (cc)
+plain-count id (Some number) h text e =
+    let same : decimal number ≡ text = cc in
+    let is = number-text number h.0 h.1 in
+    rw (sym same) (plain (decimal number) is.is_plain, is.passes)
+
+abbrev options : AskedDay → Option ℕ → Option ℕ → List Text
+options d w n =
+    option_words (codes "--answers") d.answers ++ (option_words (codes "--trades") d.trades ++ (option_words (codes "--depth") d.depth
+    ++ (option_words (codes "--workers") (option_map decimal w) ++ option_words (codes "--threads") (option_map decimal n))))
+
+-- a day can be written, with paths and numbers that are taken as they stand
+record IsFine (d : AskedDay) (w n : Option ℕ) : Type 0 where
+  answers : is_plain_path d.answers ≡ true
+  trades : is_plain_path d.trades ≡ true
+  depth : is_plain_path d.depth ≡ true
+  workers : IfSome w IsCount
+  threads : IfSome n IsCount
+  concurrency : concurrency_of (unwrap_or w 1) (unwrap_or n 1) ≡ Some d.concurrency
+  can : can_write d ≡ true
+
+module _ (name : Text) (shape : Shape) (command : IsSubcommand name shape) (is : IsDayShape shape) (words : List Text) (d : AskedDay) (of : HasPaths name shape words d) (w n : Option ℕ) (fine : IsFine d w n) where
+  abbrev at_end : Text → Option Row
+  at_end =
+      with_row (count_option (codes "threads")) (option_map decimal n) (with_row (count_option (codes "workers")) (option_map decimal w) (with_row (file_option (codes "depth")) d.depth
+      (with_row (file_option (codes "trades")) d.trades (with_row (file_option (codes "answers")) d.answers (λ k. row_at k of.rows)))))
+
+  steps : Steps shape of.paths of.gathered (options d w n) at_end
+  steps =
+      let a = step of.paths d.answers of.stands is.answers of.answers (plain-file (codes "answers") d.answers fine.answers) in
+      let t = step of.paths d.trades a.stands is.trades (rw of.trades refl) (plain-file (codes "trades") d.trades fine.trades) in
+      let l = step of.paths d.depth t.stands is.depth (rw of.depth refl) (plain-file (codes "depth") d.depth fine.depth) in
+      let m = step of.paths (option_map decimal w) l.stands is.workers (rw of.workers refl) (plain-count (codes "workers") w fine.workers) in
+      let o = step of.paths (option_map decimal n) m.stands is.threads (rw of.threads refl) (plain-count (codes "threads") n fine.threads) in
+      and-then a (and-then t (and-then l (and-then m o)))
+
+  abbrev values : List Row
+  values = finished shape.rules (walked_over of.paths steps.end).held
+
+  value-at : (k : Text) → row_at k values ≡ or_else (at_end k) (default_of shape k)
+  value-at k = defaults-at k shape.rules (rows_in shape steps.end) ∙ ap (λ (o : Option Row). fold (or_default k) o shape.rules) (steps.stands.rows_are k) ∙ default-else k shape.rules (at_end k)
+
+  path-at : (k : Text) (r : Row) → row_at k of.rows ≡ Some r → row_at k values ≡ Some r
+  path-at k r has = value-at k ∙ rw has refl
+
+  answers-read : (o : Option Text) → d.answers ≡ o → first_of (codes "answers") values ≡ o
+  answers-read None e = rw (value-at (codes "answers"), of.answers, is.no_answers, e) refl
+  answers-read (Some path) e = rw (value-at (codes "answers"), of.answers, is.no_answers, e) refl
+
+  trades-read : (o : Option Text) → d.trades ≡ o → first_of (codes "trades") values ≡ o
+  trades-read None e = rw (value-at (codes "trades"), of.trades, is.no_trades, e) refl
+  trades-read (Some path) e = rw (value-at (codes "trades"), of.trades, is.no_trades, e) refl
+
+  depth-read : (o : Option Text) → d.depth ≡ o → first_of (codes "depth") values ≡ o
+  depth-read None e = rw (value-at (codes "depth"), of.depth, is.no_depth, e) refl
+  depth-read (Some path) e = rw (value-at (codes "depth"), of.depth, is.no_depth, e) refl
+
+  workers-read : (o : Option ℕ) → w ≡ o → IfSome o IsCount → option_and_then count_in (one_of (codes "workers") values) ≡ Some (unwrap_or o 1)
+  workers-read None e h = rw (value-at (codes "workers"), of.workers, is.one_worker, e) refl
+  workers-read (Some k) e h =
+      let text = number-text k h.0 h.1 in
+      rw (value-at (codes "workers"), of.workers, is.one_worker, e) (ap count_in text.as_it_stands ∙ text.is_in)
+
+  threads-read : (o : Option ℕ) → n ≡ o → IfSome o IsCount → option_and_then count_in (one_of (codes "threads") values) ≡ Some (unwrap_or o 1)
+  threads-read None e h = rw (value-at (codes "threads"), of.threads, is.one_thread, e) refl
+  threads-read (Some k) e h =
+      let text = number-text k h.0 h.1 in
+      rw (value-at (codes "threads"), of.threads, is.one_thread, e) (ap count_in text.as_it_stands ∙ text.is_in)
+
+  -- the day that these values ask for
+  day-read : day_in d.carrying values ≡ Some d
+  day-read =
+      rw (
+        path-at (codes "SEGMENT") _ of.segment,
+        path-at (codes "ORDERS") _ of.orders,
+        workers-read w refl fine.workers,
+        threads-read n refl fine.threads,
+        fine.concurrency,
+        answers-read d.answers refl,
+        trades-read d.trades refl,
+        depth-read d.depth refl,
+        fine.can,
+      ) refl
+
+  taken-behind : (program : Text) → IsTaken (program ∷ name ∷ (words ++ options d w n)) (day d)
+  taken-behind program =
+      taken-by name shape command program (words ++ options d w n) (walked_over of.paths steps.end) (day d)
+      (further shape start (walked_over of.paths of.gathered) (walked_over of.paths steps.end) words (options d w n) of.is_walked steps.is_walked)
+      (both-true _ _ steps.stands.passes (both-true _ _ is.defaults (of.valid values path-at))) (of.asks values path-at day-read)
+
+-- ---- the paths
+
+-- the command lines of both days, as they are built
+abbrev run_shape : Shape
+run_shape = unwrap_or (slice_get (built day_app).subs 0) day_app.top
+
+abbrev carry_shape : Shape
+carry_shape = unwrap_or (slice_get (built day_app).subs 1) day_app.top
+
+option-of : (shape : Shape) (word name : Text) (rule : Rule) → bytes_eq word (45 ∷ 45 ∷ []) ≡ false → long_of word ≡ Some (name, None) → arg_by_long shape.rules name ≡ Some rule → arg_by_id shape.rules rule.id ≡ Some rule
+    → bytes_eq rule.id rule.id ≡ true → (unwrap_or_range rule.range).start_inclusive ≡ 1 → (unwrap_or_range rule.range).end_inclusive ≡ 1 → action_of rule ≡ Set → IsOption shape word rule
+option-of shape word name rule no_hyphens is_long by_long by_id is_itself least most sets =
+    record { no_hyphens = no_hyphens; name = name; is_long = is_long; by_long = by_long; by_id = by_id; is_itself = is_itself; least = least; most = most; sets = sets }
+
+run-shape : IsDayShape run_shape
+run-shape = record {
+  answers = option-of run_shape (codes "--answers") (codes "answers") (file_option (codes "answers")) refl refl refl refl refl refl refl refl;
+  trades = option-of run_shape (codes "--trades") (codes "trades") (file_option (codes "trades")) refl refl refl refl refl refl refl refl;
+  depth = option-of run_shape (codes "--depth") (codes "depth") (file_option (codes "depth")) refl refl refl refl refl refl refl refl;
+  workers = option-of run_shape (codes "--workers") (codes "workers") (count_option (codes "workers")) refl refl refl refl refl refl refl refl;
+  threads = option-of run_shape (codes "--threads") (codes "threads") (count_option (codes "threads")) refl refl refl refl refl refl refl refl;
+  no_answers = refl;
+  no_trades = refl;
+  no_depth = refl;
+  one_worker = refl;
+  one_thread = refl;
+  defaults = refl;
 }
 
--- a number behind an option, as it is written and read
-record IsOption (text : Text) (number : ℕ) : Type 0 where
-  is_plain : IsPlain text
-  passes : is_signed_in (pos 1) (pos 64) text ≡ true
-  reads : count_in (without_minus text) ≡ Some number
-
-option : (number : ℕ) → IsCount number → IsOption (decimal number) number
-option number is =
-    let n = number-text number is.0 is.1 in
-    record { is_plain = plain (decimal number) n.is_plain; passes = n.passes; reads = ap count_in n.as_it_stands ∙ n.is_in }
-
--- what is asked for where both numbers are read
-run-by : (s o : Text) (c : Concurrency) (w t : Option ℕ) (workers threads : ℕ) → w ≡ Some workers → t ≡ Some threads → concurrency_of workers threads ≡ Some c → run_of run_to (Some s) (Some o) (concurrency_by w t) None None ≡ Some (run s o c)
-run-by s o c w t workers threads has_workers has_threads is = rw (has_workers, has_threads, is) refl
-
-carry-by : (s i o k : Text) (c : Concurrency) (w t : Option ℕ) (workers threads : ℕ) → bytes_eq k (codes "-") ≡ false → w ≡ Some workers → t ≡ Some threads → concurrency_of workers threads ≡ Some c
-    → run_of carry_to (Some s) (Some o) (concurrency_by w t) (Some i) (Some k) ≡ Some (carry s i o k c)
-carry-by s i o k c w t workers threads file has_workers has_threads is = rw (has_workers, has_threads, is, file) refl
-
-told-by : (s o : Text) (answers depth : Option Text) (t : Option ℕ) (threads : ℕ) → t ≡ Some threads → can_tell answers depth ≡ true → is_some answers || is_some depth ≡ true
-    → run_of run_to (Some s) (Some o) (concurrency_by (Some 1) t) answers depth ≡ Some (run_told s o answers depth threads)
-told-by s o None None t threads is can some = let none : false ≡ true = some in absurd (cc)
-told-by s o None (Some depth) t threads is can some = rw (is, can) refl
-told-by s o (Some answers) None t threads is can some = rw (is, can) refl
-told-by s o (Some answers) (Some depth) t threads is can some = rw (is, can) refl
-
-taken-check : (program s : Text) → IsPlain s → IsTaken (program ∷ codes "check" ∷ s ∷ []) (check s)
+run-subcommand : IsSubcommand (codes "run") run_shape
 unfolding clap_on_literals
-taken-check program s p = record { taken = simp (p.no_hyphen, p.no_hyphens); asks = simp (p.no_hyphen, p.no_hyphens) }
+run-subcommand = record { stops = refl; passes = refl; level = λ behind. refl; enters = λ behind. refl }
 
--- two paths that are taken as they stand
-module _ (program s o : Text) (p : IsPlain s) (q : IsPlain o) where
-  abbrev two_given : List Row
-  two_given = given (codes "SEGMENT") s ∷ given (codes "ORDERS") o ∷ []
+carry-shape : IsDayShape carry_shape
+carry-shape = record {
+  answers = option-of carry_shape (codes "--answers") (codes "answers") (file_option (codes "answers")) refl refl refl refl refl refl refl refl;
+  trades = option-of carry_shape (codes "--trades") (codes "trades") (file_option (codes "trades")) refl refl refl refl refl refl refl refl;
+  depth = option-of carry_shape (codes "--depth") (codes "depth") (file_option (codes "depth")) refl refl refl refl refl refl refl refl;
+  workers = option-of carry_shape (codes "--workers") (codes "workers") (count_option (codes "workers")) refl refl refl refl refl refl refl refl;
+  threads = option-of carry_shape (codes "--threads") (codes "threads") (count_option (codes "threads")) refl refl refl refl refl refl refl refl;
+  no_answers = refl;
+  no_trades = refl;
+  no_depth = refl;
+  one_worker = refl;
+  one_thread = refl;
+  defaults = refl;
+}
 
-  abbrev at_paths : Walk
-  at_paths = walked_over 2 (given (codes "SEGMENT") s ∷ []) (codes "ORDERS") o
+carry-subcommand : IsSubcommand (codes "carry") carry_shape
+unfolding clap_on_literals
+carry-subcommand = record { stops = refl; passes = refl; level = λ behind. refl; enters = λ behind. refl }
 
-  abbrev at_option : List Row → Text → Text → Walk
-  at_option before id value = walked_over 2 (two_given ++ before) id value
+two-walked : (s o : Text) → IsPlain s → IsPlain o
+    → IsWalked run_shape start (s ∷ o ∷ []) (walked_over 2 (record { rows = path_row (codes "SEGMENT") s ∷ []; id = codes "ORDERS"; value = o }))
+unfolding clap_on_literals
+two-walked s o p q = record { comes_to = simp (p.no_hyphen, p.no_hyphens, q.no_hyphen, q.no_hyphens); passes = simp (p.no_hyphen, p.no_hyphens, q.no_hyphen, q.no_hyphens) }
 
-  two-walked : IsWalked run_shape (walk_from nothing_held) (s ∷ o ∷ []) (at_paths)
-  unfolding clap_on_literals
-  two-walked = record { comes_to = simp (p.no_hyphen, p.no_hyphens, q.no_hyphen, q.no_hyphens); passes = simp (p.no_hyphen, p.no_hyphens, q.no_hyphen, q.no_hyphens) }
+four-walked : (s i o k : Text) → IsPlain s → IsPlain i → IsPlain o → IsPlain k
+    → IsWalked carry_shape start (s ∷ i ∷ o ∷ k ∷ []) (walked_over 4 (record { rows = path_row (codes "SEGMENT") s ∷ path_row (codes "IN") i ∷ path_row (codes "ORDERS") o ∷ []; id = codes "OUT"; value = k }))
+unfolding clap_on_literals
+four-walked s i o k p q r u = record {
+  comes_to = simp (p.no_hyphen, p.no_hyphens, q.no_hyphen, q.no_hyphens, r.no_hyphen, r.no_hyphens, u.no_hyphen, u.no_hyphens);
+  passes = simp (p.no_hyphen, p.no_hyphens, q.no_hyphen, q.no_hyphens, r.no_hyphen, r.no_hyphens, u.no_hyphen, u.no_hyphens);
+}
 
-  taken-none : IsTaken (program ∷ codes "run" ∷ s ∷ o ∷ []) (run s o (Threads 1))
-  unfolding clap_on_literals
-  taken-none = taken-by (program ∷ codes "run" ∷ s ∷ o ∷ []) (s ∷ o ∷ []) (codes "run") run_shape at_paths (run s o (Threads 1)) refl refl two-walked refl (run-by s o (Threads 1) (Some 1) (Some 1) 1 1 refl refl refl)
+two-paths : (d : AskedDay) → d.carrying ≡ None → IsPlain d.segment → IsPlain d.orders → HasPaths (codes "run") run_shape (d.segment ∷ d.orders ∷ []) d
+two-paths d e p q = record {
+  paths = 2;
+  gathered = record { rows = path_row (codes "SEGMENT") d.segment ∷ []; id = codes "ORDERS"; value = d.orders };
+  rows = path_row (codes "SEGMENT") d.segment ∷ path_row (codes "ORDERS") d.orders ∷ [];
+  is_walked = two-walked d.segment d.orders p q;
+  stands = record { passes = refl; rows_are = λ k. refl };
+  answers = refl;
+  trades = refl;
+  depth = refl;
+  workers = refl;
+  threads = refl;
+  segment = refl;
+  orders = refl;
+  valid = λ values has. rw (has (codes "SEGMENT") _ refl, has (codes "ORDERS") _ refl) refl;
+  asks = λ values has read. ap (λ (c : Option (Text × Text)). option_map day (day_in c values)) (sym e) ∙ ap (option_map day) read;
+}
 
-  module _ (n : Text) (a : IsPlain n) where
-    to-workers : IsWalked run_shape (at_paths) (codes "--workers" ∷ n ∷ []) (at_option [] (codes "workers") n)
-    unfolding clap_on_literals
-    to-workers = record { comes_to = simp (a.no_hyphen, a.no_hyphens); passes = simp (a.no_hyphen, a.no_hyphens) }
+four-paths : (d : AskedDay) (c : Text × Text) → d.carrying ≡ Some c → IsPlain d.segment → IsPlain c.0 → IsPlain d.orders → IsPlain c.1 → HasPaths (codes "carry") carry_shape (d.segment ∷ c.0 ∷ d.orders ∷ c.1 ∷ []) d
+four-paths d c e p q r u = record {
+  paths = 4;
+  gathered = record { rows = path_row (codes "SEGMENT") d.segment ∷ path_row (codes "IN") c.0 ∷ path_row (codes "ORDERS") d.orders ∷ []; id = codes "OUT"; value = c.1 };
+  rows = path_row (codes "SEGMENT") d.segment ∷ path_row (codes "IN") c.0 ∷ path_row (codes "ORDERS") d.orders ∷ path_row (codes "OUT") c.1 ∷ [];
+  is_walked = four-walked d.segment c.0 d.orders c.1 p q r u;
+  stands = record { passes = refl; rows_are = λ k. refl };
+  answers = refl;
+  trades = refl;
+  depth = refl;
+  workers = refl;
+  threads = refl;
+  segment = refl;
+  orders = refl;
+  valid = λ values has. rw (has (codes "SEGMENT") _ refl, has (codes "IN") _ refl, has (codes "ORDERS") _ refl, has (codes "OUT") _ refl) refl;
+  asks = λ values has read. rw (has (codes "IN") _ refl, has (codes "OUT") _ refl) (ap (λ (k : Option (Text × Text)). option_map day (day_in k values)) (sym e) ∙ ap (option_map day) read);
+}
 
-    run-workers : IsWalked run_shape (walk_from nothing_held) (s ∷ o ∷ codes "--workers" ∷ n ∷ []) (at_option [] (codes "workers") n)
-    run-workers = further run_shape _ _ _ (s ∷ o ∷ []) _ two-walked to-workers
-
-    to-threads : IsWalked run_shape (at_paths) (codes "--threads" ∷ n ∷ []) (at_option [] (codes "threads") n)
-    unfolding clap_on_literals
-    to-threads = record { comes_to = simp (a.no_hyphen, a.no_hyphens); passes = simp (a.no_hyphen, a.no_hyphens) }
-
-    run-threads : IsWalked run_shape (walk_from nothing_held) (s ∷ o ∷ codes "--threads" ∷ n ∷ []) (at_option [] (codes "threads") n)
-    run-threads = further run_shape _ _ _ (s ∷ o ∷ []) _ two-walked to-threads
-
-    to-answers : IsWalked run_shape (at_paths) (codes "--answers" ∷ n ∷ []) (at_option [] (codes "answers") n)
-    unfolding clap_on_literals
-    to-answers = record { comes_to = simp (a.no_hyphen, a.no_hyphens); passes = simp (a.no_hyphen, a.no_hyphens) }
-
-    run-answers : IsWalked run_shape (walk_from nothing_held) (s ∷ o ∷ codes "--answers" ∷ n ∷ []) (at_option [] (codes "answers") n)
-    run-answers = further run_shape _ _ _ (s ∷ o ∷ []) _ two-walked to-answers
-
-    to-depth : IsWalked run_shape (at_paths) (codes "--depth" ∷ n ∷ []) (at_option [] (codes "depth") n)
-    unfolding clap_on_literals
-    to-depth = record { comes_to = simp (a.no_hyphen, a.no_hyphens); passes = simp (a.no_hyphen, a.no_hyphens) }
-
-    run-depth : IsWalked run_shape (walk_from nothing_held) (s ∷ o ∷ codes "--depth" ∷ n ∷ []) (at_option [] (codes "depth") n)
-    run-depth = further run_shape _ _ _ (s ∷ o ∷ []) _ two-walked to-depth
-
-    taken-workers : (number : ℕ) (c : Concurrency) → IsOption n number → concurrency_of number 1 ≡ Some c → IsTaken (program ∷ codes "run" ∷ s ∷ o ∷ codes "--workers" ∷ n ∷ []) (run s o c)
-    unfolding clap_on_literals
-    taken-workers number c is by = taken-by _ _ (codes "run") run_shape _ _ refl refl run-workers (both-true _ _ (both-true _ _ is.passes refl) refl) (run-by s o c (count_in (without_minus n)) (Some 1) number 1 is.reads refl by)
-
-    taken-threads : (number : ℕ) (c : Concurrency) → IsOption n number → concurrency_of 1 number ≡ Some c → IsTaken (program ∷ codes "run" ∷ s ∷ o ∷ codes "--threads" ∷ n ∷ []) (run s o c)
-    unfolding clap_on_literals
-    taken-threads number c is by = taken-by _ _ (codes "run") run_shape _ _ refl refl run-threads (both-true _ _ (both-true _ _ is.passes refl) refl) (run-by s o c (Some 1) (count_in (without_minus n)) 1 number refl is.reads by)
-
-    taken-answers : can_tell (Some n) None ≡ true → IsTaken (program ∷ codes "run" ∷ s ∷ o ∷ codes "--answers" ∷ n ∷ []) (run_told s o (Some n) None 1)
-    unfolding clap_on_literals
-    taken-answers can = taken-by _ _ (codes "run") run_shape _ _ refl refl run-answers refl (told-by s o (Some n) None (Some 1) 1 refl can refl)
-
-    taken-depth : can_tell None (Some n) ≡ true → IsTaken (program ∷ codes "run" ∷ s ∷ o ∷ codes "--depth" ∷ n ∷ []) (run_told s o None (Some n) 1)
-    unfolding clap_on_literals
-    taken-depth can = taken-by _ _ (codes "run") run_shape _ _ refl refl run-depth refl (told-by s o None (Some n) (Some 1) 1 refl can refl)
-
-    module _ (m : Text) (b : IsPlain m) where
-      workers-to-threads : is_signed_in (pos 1) (pos 64) n ≡ true → IsWalked run_shape (at_option [] (codes "workers") n) (codes "--threads" ∷ m ∷ []) (at_option (given_number (codes "workers") n ∷ []) (codes "threads") m)
-      unfolding clap_on_literals
-      workers-to-threads in_range = record { comes_to = simp (b.no_hyphen, b.no_hyphens); passes = simp (b.no_hyphen, b.no_hyphens, in_range) }
-
-      answers-to-threads : IsWalked run_shape (at_option [] (codes "answers") n) (codes "--threads" ∷ m ∷ []) (at_option (given (codes "answers") n ∷ []) (codes "threads") m)
-      unfolding clap_on_literals
-      answers-to-threads = record { comes_to = simp (b.no_hyphen, b.no_hyphens); passes = simp (b.no_hyphen, b.no_hyphens) }
-
-      depth-to-threads : IsWalked run_shape (at_option [] (codes "depth") n) (codes "--threads" ∷ m ∷ []) (at_option (given (codes "depth") n ∷ []) (codes "threads") m)
-      unfolding clap_on_literals
-      depth-to-threads = record { comes_to = simp (b.no_hyphen, b.no_hyphens); passes = simp (b.no_hyphen, b.no_hyphens) }
-
-      answers-to-depth : IsWalked run_shape (at_option [] (codes "answers") n) (codes "--depth" ∷ m ∷ []) (at_option (given (codes "answers") n ∷ []) (codes "depth") m)
-      unfolding clap_on_literals
-      answers-to-depth = record { comes_to = simp (b.no_hyphen, b.no_hyphens); passes = simp (b.no_hyphen, b.no_hyphens) }
-
-      run-texts : IsWalked run_shape (walk_from nothing_held) (s ∷ o ∷ codes "--answers" ∷ n ∷ codes "--depth" ∷ m ∷ []) (at_option (given (codes "answers") n ∷ []) (codes "depth") m)
-      run-texts = further run_shape _ _ _ (s ∷ o ∷ codes "--answers" ∷ n ∷ []) _ run-answers answers-to-depth
-
-      module _ (number : ℕ) (is : IsOption m number) where
-        taken-both : (workers : ℕ) (c : Concurrency) → IsOption n workers → concurrency_of workers number ≡ Some c → IsTaken (program ∷ codes "run" ∷ s ∷ o ∷ codes "--workers" ∷ n ∷ codes "--threads" ∷ m ∷ []) (run s o c)
-        unfolding clap_on_literals
-        taken-both workers c has by =
-            let walk = further run_shape _ _ _ (s ∷ o ∷ codes "--workers" ∷ n ∷ []) _ run-workers (workers-to-threads has.passes) in
-            taken-by _ _ (codes "run") run_shape _ _ refl refl walk (both-true _ _ (both-true _ _ is.passes refl) refl) (run-by s o c (count_in (without_minus n)) (count_in (without_minus m)) workers number has.reads is.reads by)
-
-        taken-answers-on : can_tell (Some n) None ≡ true → IsTaken (program ∷ codes "run" ∷ s ∷ o ∷ codes "--answers" ∷ n ∷ codes "--threads" ∷ m ∷ []) (run_told s o (Some n) None number)
-        unfolding clap_on_literals
-        taken-answers-on can =
-            let walk = further run_shape _ _ _ (s ∷ o ∷ codes "--answers" ∷ n ∷ []) _ run-answers answers-to-threads in
-            taken-by _ _ (codes "run") run_shape _ _ refl refl walk (both-true _ _ (both-true _ _ is.passes refl) refl) (told-by s o (Some n) None (count_in (without_minus m)) number is.reads can refl)
-
-        taken-depth-on : can_tell None (Some n) ≡ true → IsTaken (program ∷ codes "run" ∷ s ∷ o ∷ codes "--depth" ∷ n ∷ codes "--threads" ∷ m ∷ []) (run_told s o None (Some n) number)
-        unfolding clap_on_literals
-        taken-depth-on can =
-            let walk = further run_shape _ _ _ (s ∷ o ∷ codes "--depth" ∷ n ∷ []) _ run-depth depth-to-threads in
-            taken-by _ _ (codes "run") run_shape _ _ refl refl walk (both-true _ _ (both-true _ _ is.passes refl) refl) (told-by s o None (Some n) (count_in (without_minus m)) number is.reads can refl)
-
-      taken-texts : can_tell (Some n) (Some m) ≡ true → IsTaken (program ∷ codes "run" ∷ s ∷ o ∷ codes "--answers" ∷ n ∷ codes "--depth" ∷ m ∷ []) (run_told s o (Some n) (Some m) 1)
-      unfolding clap_on_literals
-      taken-texts can = taken-by _ _ (codes "run") run_shape _ _ refl refl run-texts refl (told-by s o (Some n) (Some m) (Some 1) 1 refl can refl)
-
-      module _ (l : Text) (d : IsPlain l) where
-        texts-to-threads : IsWalked run_shape (at_option (given (codes "answers") n ∷ []) (codes "depth") m) (codes "--threads" ∷ l ∷ []) (at_option (given (codes "answers") n ∷ given (codes "depth") m ∷ []) (codes "threads") l)
-        unfolding clap_on_literals
-        texts-to-threads = record { comes_to = simp (d.no_hyphen, d.no_hyphens); passes = simp (d.no_hyphen, d.no_hyphens) }
-
-        taken-texts-on : (number : ℕ) → IsOption l number → can_tell (Some n) (Some m) ≡ true → IsTaken (program ∷ codes "run" ∷ s ∷ o ∷ codes "--answers" ∷ n ∷ codes "--depth" ∷ m ∷ codes "--threads" ∷ l ∷ []) (run_told s o (Some n) (Some m) number)
-        unfolding clap_on_literals
-        taken-texts-on number is can =
-            let walk = further run_shape _ _ _ (s ∷ o ∷ codes "--answers" ∷ n ∷ codes "--depth" ∷ m ∷ []) _ run-texts texts-to-threads in
-            taken-by _ _ (codes "run") run_shape _ _ refl refl walk (both-true _ _ (both-true _ _ is.passes refl) refl) (told-by s o (Some n) (Some m) (count_in (without_minus l)) number is.reads can refl)
-
--- four paths that are taken as they stand, of which the last is no standard output
-module _ (program s i o k : Text) (p : IsPlain s) (q : IsPlain i) (r : IsPlain o) (u : IsPlain k) (file : bytes_eq k (codes "-") ≡ false) where
-  abbrev four_given : List Row
-  four_given = given (codes "SEGMENT") s ∷ given (codes "IN") i ∷ given (codes "ORDERS") o ∷ given (codes "OUT") k ∷ []
-
-  abbrev at_four : Walk
-  at_four = walked_over 4 (given (codes "SEGMENT") s ∷ given (codes "IN") i ∷ given (codes "ORDERS") o ∷ []) (codes "OUT") k
-
-  four-walked : IsWalked carry_shape (walk_from nothing_held) (s ∷ i ∷ o ∷ k ∷ []) (at_four)
-  unfolding clap_on_literals
-  four-walked = record { comes_to = simp (p.no_hyphen, p.no_hyphens, q.no_hyphen, q.no_hyphens, r.no_hyphen, r.no_hyphens, u.no_hyphen, u.no_hyphens); passes = simp (p.no_hyphen, p.no_hyphens, q.no_hyphen, q.no_hyphens, r.no_hyphen, r.no_hyphens, u.no_hyphen, u.no_hyphens) }
-
-  taken-four : IsTaken (program ∷ codes "carry" ∷ s ∷ i ∷ o ∷ k ∷ []) (carry s i o k (Threads 1))
-  unfolding clap_on_literals
-  taken-four = taken-by _ _ (codes "carry") carry_shape _ _ refl refl four-walked refl (carry-by s i o k (Threads 1) (Some 1) (Some 1) 1 1 file refl refl refl)
-
-  module _ (n : Text) (a : IsPlain n) where
-    four-to-workers : IsWalked carry_shape (at_four) (codes "--workers" ∷ n ∷ []) (walked_over 4 four_given (codes "workers") n)
-    unfolding clap_on_literals
-    four-to-workers = record { comes_to = simp (a.no_hyphen, a.no_hyphens); passes = simp (a.no_hyphen, a.no_hyphens) }
-
-    carry-workers : IsWalked carry_shape (walk_from nothing_held) (s ∷ i ∷ o ∷ k ∷ codes "--workers" ∷ n ∷ []) (walked_over 4 four_given (codes "workers") n)
-    carry-workers = further carry_shape _ _ _ (s ∷ i ∷ o ∷ k ∷ []) _ four-walked four-to-workers
-
-    four-to-threads : IsWalked carry_shape (at_four) (codes "--threads" ∷ n ∷ []) (walked_over 4 four_given (codes "threads") n)
-    unfolding clap_on_literals
-    four-to-threads = record { comes_to = simp (a.no_hyphen, a.no_hyphens); passes = simp (a.no_hyphen, a.no_hyphens) }
-
-    carry-threads : IsWalked carry_shape (walk_from nothing_held) (s ∷ i ∷ o ∷ k ∷ codes "--threads" ∷ n ∷ []) (walked_over 4 four_given (codes "threads") n)
-    carry-threads = further carry_shape _ _ _ (s ∷ i ∷ o ∷ k ∷ []) _ four-walked four-to-threads
-
-    module _ (number : ℕ) (is : IsOption n number) (c : Concurrency) where
-      taken-four-workers : concurrency_of number 1 ≡ Some c → IsTaken (program ∷ codes "carry" ∷ s ∷ i ∷ o ∷ k ∷ codes "--workers" ∷ n ∷ []) (carry s i o k c)
-      unfolding clap_on_literals
-      taken-four-workers by = taken-by _ _ (codes "carry") carry_shape _ _ refl refl carry-workers (both-true _ _ (both-true _ _ is.passes refl) refl) (carry-by s i o k c (count_in (without_minus n)) (Some 1) number 1 file is.reads refl by)
-
-      taken-four-threads : concurrency_of 1 number ≡ Some c → IsTaken (program ∷ codes "carry" ∷ s ∷ i ∷ o ∷ k ∷ codes "--threads" ∷ n ∷ []) (carry s i o k c)
-      unfolding clap_on_literals
-      taken-four-threads by = taken-by _ _ (codes "carry") carry_shape _ _ refl refl carry-threads (both-true _ _ (both-true _ _ is.passes refl) refl) (carry-by s i o k c (Some 1) (count_in (without_minus n)) 1 number file refl is.reads by)
-
-    module _ (m : Text) (b : IsPlain m) where
-      four-workers-to-threads : is_signed_in (pos 1) (pos 64) n ≡ true → IsWalked carry_shape (walked_over 4 four_given (codes "workers") n) (codes "--threads" ∷ m ∷ []) (walked_over 4 (four_given ++ given_number (codes "workers") n ∷ []) (codes "threads") m)
-      unfolding clap_on_literals
-      four-workers-to-threads in_range = record { comes_to = simp (b.no_hyphen, b.no_hyphens); passes = simp (b.no_hyphen, b.no_hyphens, in_range) }
-
-      taken-four-both : (workers number : ℕ) (c : Concurrency) → IsOption n workers → IsOption m number → concurrency_of workers number ≡ Some c → IsTaken (program ∷ codes "carry" ∷ s ∷ i ∷ o ∷ k ∷ codes "--workers" ∷ n ∷ codes "--threads" ∷ m ∷ []) (carry s i o k c)
-      unfolding clap_on_literals
-      taken-four-both workers number c has is by =
-          let walk = further carry_shape _ _ _ (s ∷ i ∷ o ∷ k ∷ codes "--workers" ∷ n ∷ []) _ carry-workers (four-workers-to-threads has.passes) in
-          taken-by _ _ (codes "carry") carry_shape _ _ refl refl walk (both-true _ _ (both-true _ _ is.passes refl) refl) (carry-by s i o k c (count_in (without_minus n)) (count_in (without_minus m)) workers number file has.reads is.reads by)
-
-alone-is : (c : Concurrency) → ◌≡◌ {A = Option Concurrency} (Some (Threads 1)) (Some c) → Threads 1 ≡ c
-alone-is c e = cc
-
--- numbers of workers and of threads behind the paths, as far as they are asked for
-taken-run : (program s o : Text) (c : Concurrency) (workers threads : Option ℕ) → IsPlain s → IsPlain o → IfSome workers IsCount → IfSome threads IsCount
-    → concurrency_of (unwrap_or workers 1) (unwrap_or threads 1) ≡ Some c
-    → IsTaken (program ∷ codes "run" ∷ s ∷ o ∷ (count_words (codes "--workers") workers ++ count_words (codes "--threads") threads)) (run s o c)
-taken-run program s o c None None p q w t by = subst (λ (k : Concurrency). IsTaken (program ∷ codes "run" ∷ s ∷ o ∷ []) (run s o k)) (alone-is c by) (taken-none program s o p q)
-taken-run program s o c (Some n) None p q w t by = let is = option n w in taken-workers program s o p q (decimal n) is.is_plain n c is by
-taken-run program s o c None (Some n) p q w t by = let is = option n t in taken-threads program s o p q (decimal n) is.is_plain n c is by
-taken-run program s o c (Some n) (Some m) p q w t by =
-    let has = option n w in
-    let is = option m t in
-    taken-both program s o p q (decimal n) has.is_plain (decimal m) is.is_plain m is n c has by
-
-taken-carry : (program s i o k : Text) (c : Concurrency) (workers threads : Option ℕ) → IsPlain s → IsPlain i → IsPlain o → IsPlain k → bytes_eq k (codes "-") ≡ false
-    → IfSome workers IsCount → IfSome threads IsCount → concurrency_of (unwrap_or workers 1) (unwrap_or threads 1) ≡ Some c
-    → IsTaken (program ∷ codes "carry" ∷ s ∷ i ∷ o ∷ k ∷ (count_words (codes "--workers") workers ++ count_words (codes "--threads") threads)) (carry s i o k c)
-taken-carry program s i o k c None None p q r u file w t by = subst (λ (j : Concurrency). IsTaken (program ∷ codes "carry" ∷ s ∷ i ∷ o ∷ k ∷ []) (carry s i o k j)) (alone-is c by) (taken-four program s i o k p q r u file)
-taken-carry program s i o k c (Some n) None p q r u file w t by = let is = option n w in taken-four-workers program s i o k p q r u file (decimal n) is.is_plain n is c by
-taken-carry program s i o k c None (Some n) p q r u file w t by = let is = option n t in taken-four-threads program s i o k p q r u file (decimal n) is.is_plain n is c by
-taken-carry program s i o k c (Some n) (Some m) p q r u file w t by =
-    let has = option n w in
-    let is = option m t in
-    taken-four-both program s i o k p q r u file (decimal n) has.is_plain (decimal m) is.is_plain n m c has is by
-
--- texts in files that are no standard output, and not one
-can : (answers depth : Option Text) → IfSome answers (λ path. is_plain_word path ≡ true) → IfSome depth (λ path. is_plain_word path ≡ true) → is_one_path answers depth ≡ false → can_tell answers depth ≡ true
-can None None a d apart = refl
-can (Some answers) None a d apart = rw (no_dash answers a) refl
-can None (Some depth) a d apart = rw (no_dash depth d) refl
-can (Some answers) (Some depth) a d apart = let differ : bytes_eq answers depth ≡ false = apart in rw (no_dash answers a, no_dash depth d, differ) refl
-
-taken-told : (program s o : Text) (answers depth : Option Text) (number : Option ℕ) → IsPlain s → IsPlain o → IfSome answers (λ path. is_plain_word path ≡ true) → IfSome depth (λ path. is_plain_word path ≡ true)
-    → is_some answers || is_some depth ≡ true → can_tell answers depth ≡ true → IfSome number IsCount
-    → IsTaken (program ∷ codes "run" ∷ s ∷ o ∷ (file_words (codes "--answers") answers ++ (file_words (codes "--depth") depth ++ count_words (codes "--threads") number))) (run_told s o answers depth (unwrap_or number 1))
-taken-told program s o None None number p q a d some told t = let none : false ≡ true = some in absurd (cc)
-taken-told program s o (Some x) None None p q a d some told t = taken-answers program s o p q x (plain x a) told
-taken-told program s o None (Some y) None p q a d some told t = taken-depth program s o p q y (plain y d) told
-taken-told program s o (Some x) (Some y) None p q a d some told t = taken-texts program s o p q x (plain x a) y (plain y d) told
-taken-told program s o (Some x) None (Some n) p q a d some told t = let is = option n t in taken-answers-on program s o p q x (plain x a) (decimal n) is.is_plain n is told
-taken-told program s o None (Some y) (Some n) p q a d some told t = let is = option n t in taken-depth-on program s o p q y (plain y d) (decimal n) is.is_plain n is told
-taken-told program s o (Some x) (Some y) (Some n) p q a d some told t = let is = option n t in taken-texts-on program s o p q x (plain x a) y (plain y d) (decimal n) is.is_plain n is told
+-- the words that ask for a day are taken
+taken-day : (words : List Text) (d : AskedDay) (asks : AsksDay words d) (carrying : Option (Text × Text)) → d.carrying ≡ carrying → is_plain_path (Some d.segment) ≡ true → is_plain_path (Some d.orders) ≡ true → is_plain_path (option_map (λ c. c.0) carrying) ≡ true
+    → is_plain_path (option_map (λ c. c.1) carrying) ≡ true → IsFine d asks.workers asks.threads → IsTaken words (day d)
+taken-day words d asks None e s o from to fine =
+    let is : words ≡ asks.program ∷ codes "run" ∷ d.segment ∷ d.orders ∷ options d asks.workers asks.threads =
+    asks.words_are ∙ ap (λ (c : Option (Text × Text)). asks.program ∷ (path_words d.segment d.orders c ++ options d asks.workers asks.threads)) e in
+    rw is (taken-behind (codes "run") run_shape run-subcommand run-shape _ d (two-paths d e (plain d.segment s) (plain d.orders o)) asks.workers asks.threads fine asks.program)
+taken-day words d asks (Some c) e s o from to fine =
+    let is : words ≡ asks.program ∷ codes "carry" ∷ d.segment ∷ c.0 ∷ d.orders ∷ c.1 ∷ options d asks.workers asks.threads =
+    asks.words_are ∙ ap (λ (k : Option (Text × Text)). asks.program ∷ (path_words d.segment d.orders k ++ options d asks.workers asks.threads)) e in
+    rw is (taken-behind (codes "carry") carry_shape carry-subcommand carry-shape _ d (four-paths d c e (plain d.segment s) (plain c.0 from) (plain d.orders o) (plain c.1 to)) asks.workers asks.threads fine asks.program)
 
 -- the words that ask for it are taken
 pub taken : (words : List Text) (asked : Asked) → Asks words asked → IsTaken words asked
-taken words (run segment orders concurrency) asks =
-    let a = both _ _ asks.are_plain in
-    let b = both _ _ a.1 in
-    rw asks.words_are (taken-run asks.program segment orders concurrency asks.workers asks.threads (plain segment a.0) (plain orders b.0) asks.are_counts.0 asks.are_counts.1 asks.concurrency_is)
-taken words (run_told segment orders answers depth threads) asks =
-    let told = can answers depth asks.answers_is_plain asks.depth_is_plain asks.apart in
-    rw (asks.words_are, sym asks.threads_are) (taken-told asks.program segment orders answers depth asks.number (plain segment asks.segment_is_plain) (plain orders asks.orders_is_plain) asks.answers_is_plain asks.depth_is_plain
-    asks.some told asks.is_count)
-taken words (carry segment carried orders keep concurrency) asks =
-    let a = both _ _ asks.are_plain in
-    let b = both _ _ a.1 in
-    let c = both _ _ b.1 in
-    let d = both _ _ c.1 in
-    rw asks.words_are (taken-carry asks.program segment carried orders keep concurrency asks.workers asks.threads (plain segment a.0) (plain carried b.0) (plain orders c.0) (plain keep d.0) (no_dash keep d.0)
-    asks.are_counts.0 asks.are_counts.1 asks.concurrency_is)
+taken words (day d) asks =
+    let segment = both _ _ asks.are_plain in
+    let orders = both _ _ segment.1 in
+    let from = both _ _ orders.1 in
+    let answers = both _ _ from.1 in
+    let trades = both _ _ answers.1 in
+    let depth = both _ _ trades.1 in
+    let to = both _ _ depth.1 in
+    taken-day words d asks d.carrying refl segment.0 orders.0 from.0 to.0
+    (record { answers = answers.0; trades = trades.0; depth = depth.0; workers = asks.are_counts.0; threads = asks.are_counts.1; concurrency = asks.concurrency_is; can = asks.is_writable })
 taken words (check segment) asks = rw asks.words_are (taken-check asks.program segment (plain segment asks.segment_is_plain))
+
+-- what matches of these words meet, the words ask for
+pub asked-met : (m : ArgMatches) (words : List Text) (app : App) (met : Option Request) → app ≡ day_app → HasMatchesOf app words m → Meets (asked_in (subcommand_rows_of m)) met → (o : Option Request) → met ≡ o → Meets (asked_of words) o
+asked-met m words app met is matched meets o e =
+    let of_day = subst (λ (a : App). HasMatchesOf a words m) is matched in
+    subst (Meets (asked_of words)) e (subst (λ (rows : Option (Text × List Row)). Meets (asked_in rows) met) ((of_day refl).1) meets)
+
+pub unasked : {P : Type 0} (asked : Option Asked) → asked ≡ None → IsSome asked → P
+unasked asked none some = let no : false ≡ true = rw none at some in absurd (cc)
 
 -- where there is no fault, said of the command line that a command has
 pub no_fault : (app : App) (words : List Text) → app ≡ day_app → (is_simple_and_free app ≡ true → fault_of app words ≡ []) → fault_of day_app words ≡ []
@@ -417,8 +422,6 @@ err_from (Err e) v P h p = rw h p
 
 -- what was asked for is the answer to words without a fault
 pub requested : (faults : Kinds) (asked : Option Asked) (request : Request) → faults ≡ [] → IsRequest asked request → AnswersWords faults asked (Ok request)
-requested faults asked (Run segment orders concurrency) none is = (none, is)
-requested faults asked (RunTold segment orders answers depth threads) none is = (none, is)
-requested faults asked (Carry segment carried orders keep concurrency) none is = (none, is)
+requested faults asked (request.Day d) none is = (none, is)
 requested faults asked (Check segment) none is = (none, is)
 requested faults asked (Help error) none is = absurd is

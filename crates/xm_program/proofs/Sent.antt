@@ -1,19 +1,19 @@
--- What was written before all of it was sent out.
-use Rattle.std.proofs.Common.{◌≡◌, ℕ, List, Option, Result, Ok, Err, OnErr, OnOk, subst, sym}
-use Rattle.std.specs.Io.KnownBytes.{Keeps}
+-- What was written before all of it was sent out, and what goes out one text after the other.
+use Rattle.std.proofs.Common.{◌≡◌, ◌⊎◌, ℕ, List, [], ◌∷◌, length, Option, Result, Ok, Err, OnErr, OnOk, inl, inr, subst, sym, arith, IfErr}
+use Rattle.std.proofs.Math.Seq.{take-length}
+use Rattle.std.specs.Io.KnownBytes.{Appends, Keeps}
 use Rattle.xm_day.proofs.Written.{appended}
-use Rattle.xm_day.specs.Answers.{DayEnds, InFileOrder}
-use Rattle.xm_day.specs.CarriedDays.{CarriedDayEnds}
-use Rattle.xm_day.specs.Checks.{CheckEnds}
+use Rattle.xm_day.specs.Answers.{InFileOrder}
 use Rattle.xm_rows.specs.Day.{Day}
-use Rattle.xm_workers.specs.Workers.{IsShared}
-use Rattle.xm_rows.specs.declared.report.DayReport.{DayReport}
 use Rattle.xm_rows.specs.declared.faults.DayFault.{DayFault}
-use Rattle.xm_program.specs.Days.{EndsBy}
-use Rattle.xm_program.specs.declared.concurrency.Concurrency.{Concurrency}
-use Rattle.xm_program.specs.declared.concurrency.Concurrency.TheVariants.{Threads, Workers}
+use Rattle.xm_rows.specs.declared.faults.DayFault.TheVariants.{WriteFailed}
 use Rattle.xm_segment.specs.declared.config.SegmentConfig.{SegmentConfig}
 use Rattle.xm_segment.specs.declared.rows.Row.{Row}
+use Rattle.xm_ticks.specs.Writing.{AppendsPrefix}
+use Rattle.xm_workers.specs.Workers.{IsShared}
+use Rattle.xm_program.specs.Days.{AppendsBeginning, EndsBy, Sending, SendingEnds}
+use Rattle.xm_program.specs.declared.concurrency.Concurrency.{Concurrency}
+use Rattle.xm_program.specs.declared.concurrency.Concurrency.TheVariants.{Threads, Workers}
 
 -- how a day ended whose rows are taken so, by another way to end that follows
 pub ends-by : (concurrency : Concurrency) (Before After : (SegmentConfig → List Row → Day → Type 0) → Type 0) → ((days : SegmentConfig → List Row → Day → Type 0) → Before days → After days) → EndsBy concurrency Before → EndsBy concurrency After
@@ -23,26 +23,28 @@ ends-by (Workers workers) Before After follows ends = record {
   shared = λ more. follows (IsShared workers) (ends.shared more);
 }
 
-module _ (segment old mid new : Option (List ℕ)) {Same : Type 0} (same : Same → new ≡ mid) where
-  -- a check whose line was sent out
-  pub check-sent : (end : Result (Unit {0}) DayFault) → OnOk end (Keeps mid new) → OnErr end Same → CheckEnds segment old mid end → CheckEnds segment old new end
-  check-sent (Ok done) kept untouched ends = (ends.0, ends.1, ends.2, (ends.3.0, appended old mid new _ ends.3.1 kept))
-  check-sent (Err fault) kept untouched ends = subst (λ (o : Option (List ℕ)). CheckEnds segment old o (Err fault)) (sym (same untouched)) ends
+-- by a way to end that any days have
+pub ends-anyhow : (concurrency : Concurrency) (After : (SegmentConfig → List Row → Day → Type 0) → Type 0) → ((days : SegmentConfig → List Row → Day → Type 0) → After days) → EndsBy concurrency After
+ends-anyhow (Threads threads) After holds = holds InFileOrder
+ends-anyhow (Workers workers) After holds = record { alone = λ one. holds InFileOrder; shared = λ more. holds (IsShared workers) }
 
-  module _ (orders : Option (List ℕ)) where
-    -- a day whose statement was sent out
-    pub day-sent : (days : SegmentConfig → List Row → Day → Type 0) (end : Result DayReport DayFault) → OnOk end (Keeps mid new) → OnErr end Same → DayEnds days segment orders old mid end → DayEnds days segment orders old new end
-    day-sent days (Ok report) kept untouched ends =
-        let w = ends.3.2.1 in
-        (ends.0, ends.1, ends.2, (ends.3.0, ends.3.1, (ends.3.2.0, record { day = w.day; is_of_rows = w.is_of_rows; written = appended old mid new _ w.written kept; accepted = w.accepted; refused = w.refused })))
-    day-sent days (Err fault) kept untouched ends = subst (λ (o : Option (List ℕ)). DayEnds days segment orders old o (Err fault)) (sym (same untouched)) ends
+-- ---- texts
 
-    -- a day whose carry file was sent out
-    pub carry-sent : (carried statement_old statement_new : Option (List ℕ)) (days : SegmentConfig → List Row → Day → Type 0) (end : Result DayReport DayFault) → OnOk end (Keeps mid new) → OnErr end Same
-        → CarriedDayEnds days segment carried orders (record { old = statement_old; new = statement_new; kept_old = old; kept_new = mid }) end
-        → CarriedDayEnds days segment carried orders (record { old = statement_old; new = statement_new; kept_old = old; kept_new = new }) end
-    carry-sent carried statement_old statement_new days (Ok report) kept untouched ends =
-        let w = ends.3.2.1 in
-        (ends.0, ends.1, ends.2, (ends.3.0, ends.3.1, (ends.3.2.0, record { day = w.day; is_of_rows = w.is_of_rows; written = w.written; kept = appended old mid new _ w.kept kept; accepted = w.accepted; refused = w.refused })))
-    carry-sent carried statement_old statement_new days (Err fault) kept untouched ends =
-        subst (λ (o : Option (List ℕ)). CarriedDayEnds days segment carried orders (record { old = statement_old; new = statement_new; kept_old = old; kept_new = o }) (Err fault)) (sym (same untouched)) ends
+-- a part and all of a text are beginnings of it
+pub part-of : (old new : Option (List ℕ)) (text : List ℕ) → AppendsPrefix old new text → AppendsBeginning old new text
+part-of old new text part = let within = part.1 in (part.0, omega (arith, within), part.2)
+
+pub whole-of : (old new : Option (List ℕ)) (text : List ℕ) → Appends old new text → AppendsBeginning old new text
+whole-of old new text all = (length text, omega arith, subst (λ (t : List ℕ). Appends old new t) (sym (take-length text)) all)
+
+pub all-of : (old mid new : Option (List ℕ)) (text : List ℕ) → Appends old mid text → Keeps mid new → AppendsBeginning old new text
+all-of old mid new text all kept = whole-of old new text (appended old mid new text all kept)
+
+pub begun-of : (old new : Option (List ℕ)) (text : List ℕ) → AppendsPrefix old new text ⊎ Appends old new text → AppendsBeginning old new text
+begun-of old new text (inl part) = part-of old new text part
+begun-of old new text (inr all) = whole-of old new text all
+
+-- one text went out, or a beginning of it
+pub one-sent : (s : Sending) (result : Result (Unit {0}) DayFault) → OnOk result (Appends s.old s.new s.text) → IfErr result (λ fault. (fault ≡ WriteFailed) × AppendsBeginning s.old s.new s.text) → SendingEnds (s ∷ []) result
+one-sent s (Ok done) all begun = (all, tt)
+one-sent s (Err fault) all begun = (begun.0, inl (begun.1, tt))

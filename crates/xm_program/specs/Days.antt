@@ -1,15 +1,16 @@
--- How a run, one that hands on what its day leaves, and a check end, as the program tells it.
-use Rattle.std.specs.Prelude.{◌≡◌, ◌≢◌, ◌≤◌, ◌⊎◌, ℕ, List, length, take, Option, Result, Ok, Err, OnOk}
+-- How a day and a check end, as the program tells it.
+use Rattle.std.specs.Prelude.{◌≡◌, ◌≢◌, ◌≤◌, ◌⊎◌, ℕ, Bool, true, false, List, [], ◌∷◌, length, take, Option, is_some, Result, Ok, Err, Vec}
+use Rattle.std.specs.Global.{Global}
 use Rattle.std.specs.Io.KnownBytes.{Appends}
-use Rattle.xm_day.specs.Answers.{DayEnds, InFileOrder, IsAsked, IsTextOfFiles}
-use Rattle.xm_day.specs.CarriedDays.{CarriedDayEnds, Outputs}
-use Rattle.xm_day.specs.Checks.{CheckEnds}
+use Rattle.xm_day.specs.Answers.{InFileOrder}
+use Rattle.xm_day.specs.Checks.{IsCheck}
+use Rattle.xm_day.specs.Days.{DayFiles, IsDay, nothing_asked}
+use Rattle.xm_day.specs.declared.value.DayTexts.{DayTexts}
+use Rattle.xm_day.specs.declared.value.HandsOn.{HandsOn}
+use Rattle.xm_day.specs.declared.value.HandsOn.TheVariants.{Nothing, WhatIsLeft}
 use Rattle.xm_rows.specs.Day.{Day}
-use Rattle.xm_rows.specs.MarketDepth.{depth_text}
-use Rattle.xm_rows.specs.RowAnswers.{answers_text}
 use Rattle.xm_workers.specs.Workers.{IsShared}
 use Rattle.xm_rows.specs.declared.report.AskedTexts.{AskedTexts}
-use Rattle.xm_rows.specs.declared.report.DayReport.{DayReport}
 use Rattle.xm_rows.specs.declared.faults.DayFault.{DayFault}
 use Rattle.xm_rows.specs.declared.faults.DayFault.TheVariants.{WriteFailed}
 use Rattle.xm_program.specs.FaultLines.{told}
@@ -17,22 +18,6 @@ use Rattle.xm_program.specs.declared.concurrency.Concurrency.{Concurrency}
 use Rattle.xm_program.specs.declared.concurrency.Concurrency.TheVariants.{Threads, Workers}
 use Rattle.xm_segment.specs.declared.config.SegmentConfig.{SegmentConfig}
 use Rattle.xm_segment.specs.declared.rows.Row.{Row}
-
-module _ {A : Type 0} where
-  -- what is told of what ended so; where all was written, but may not have gone out whole, that the writing failed
-  abbrev pub told_end : Result A DayFault → DayFault
-  told_end (Ok done) = WriteFailed
-  told_end (Err fault) = told fault
-
-  -- what ended so, as it is told
-  abbrev pub IsEnd : Result A DayFault → Result (Unit {0}) DayFault → Type 0
-  IsEnd (Ok answer) (Ok done) = Unit {0}
-  IsEnd (Err fault) (Ok done) = ⊥
-  IsEnd end (Err fault) = fault ≡ told_end end
-
-  -- what is told of an end that is one of these
-  abbrev pub TellsEnd : (Result A DayFault → Type 0) → Result (Unit {0}) DayFault → Type 0
-  TellsEnd Ends result = (end : Result A DayFault) × Ends end × IsEnd end result
 
 -- how a day ends whose rows so many workers take, by how it ends where the rows have such days
 pub record EndsByWorkers (workers : ℕ) (Ends : (SegmentConfig → List Row → Day → Type 0) → Type 0) : Type 0 where
@@ -46,58 +31,111 @@ abbrev pub EndsBy : Concurrency → ((SegmentConfig → List Row → Day → Typ
 EndsBy (Threads threads) Ends = Ends InFileOrder
 EndsBy (Workers workers) Ends = EndsByWorkers workers Ends
 
--- how the run of two files ends whose rows are taken so
-abbrev pub RunEnds : Concurrency → Option (List ℕ) → Option (List ℕ) → Option (List ℕ) → Option (List ℕ) → Result (Unit {0}) DayFault → Type 0
-RunEnds concurrency segment orders old new = TellsEnd (λ end. EndsBy concurrency (λ days. DayEnds days segment orders old new end))
+-- the texts that go with rows that are taken so: workers tell nothing of them
+abbrev pub asked_with : Concurrency → AskedTexts → AskedTexts
+asked_with (Threads threads) asked = asked
+asked_with (Workers workers) asked = nothing_asked
 
--- how the run of a segment file, a carry file and an order file ends whose rows are taken so, and which hands on what its day leaves
-abbrev pub CarryEnds : Concurrency → Option (List ℕ) → Option (List ℕ) → Option (List ℕ) → Outputs → Result (Unit {0}) DayFault → Type 0
-CarryEnds concurrency segment carried orders out = TellsEnd (λ end. EndsBy concurrency (λ days. CarriedDayEnds days segment carried orders out end))
+-- what the day of these files is, whose rows are taken so
+abbrev pub IsDayBy : Concurrency → AskedTexts → HandsOn → DayFiles → Result DayTexts DayFault → Type 0
+IsDayBy concurrency asked handing files made = EndsBy concurrency (λ days. IsDay days (asked_with concurrency asked) handing files made)
 
--- the same where the file for what is left may be none that can be made, which is a failed write before anything is written
-abbrev pub CarryFilesEnd : Concurrency → Option (List ℕ) → Option (List ℕ) → Result (Unit {0}) DayFault → Type 0
-CarryFilesEnd concurrency old new result =
-    ((segment carried orders kept_old kept_new : Option (List ℕ))
-    × CarryEnds concurrency segment carried orders (record { old = old; new = new; kept_old = kept_old; kept_new = kept_new }) result)
-    ⊎ ((result ≡ Err WriteFailed) × (new ≡ old))
+-- ---- how texts go out
 
--- the texts that are told beside the statement of two files, each of which is empty where it isn't asked for
-pub record AreTexts (asked : AskedTexts) (segment orders : Option (List ℕ)) (answers depth : List ℕ) : Type 0 where
-  pub of_answers : IsAsked (IsTextOfFiles answers_text segment orders) asked.answers answers
-  pub of_depth : IsAsked (IsTextOfFiles (λ names config bytes rows. depth_text names config rows) segment orders) asked.depth depth
+-- a text that goes out, with what held it before and after
+pub record Sending : Type 0 where
+  pub old : Option (List ℕ)
+  pub new : Option (List ℕ)
+  pub text : List ℕ
 
 -- known bytes grow by a beginning of the text, which may be all of it
 abbrev pub AppendsBeginning : Option (List ℕ) → Option (List ℕ) → List ℕ → Type 0
 AppendsBeginning old new text = (n : ℕ) × (n ≤ length text) × Appends old new (take n text)
 
--- a beginning of each text was written: nothing of the second unless all of the first
-abbrev pub BeginsBoth : Option (List ℕ) → Option (List ℕ) → Option (List ℕ) → Option (List ℕ) → List ℕ → List ℕ → Type 0
-BeginsBoth old new second_old second_new text second_text =
-    (AppendsBeginning old new text × (second_new ≡ second_old)) ⊎ (Appends old new text × AppendsBeginning second_old second_new second_text)
+-- all of each text is out
+abbrev pub AreSent : List Sending → Type 0
+AreSent [] = Unit {0}
+AreSent (s ∷ more) = Appends s.old s.new s.text × AreSent more
 
--- how the writing of these texts ends behind a day that ended so, and what is told of both: they are written only where the whole
--- statement was
-abbrev pub TextsEnd : (answers depth : List ℕ) → (old new depth_old depth_new : Option (List ℕ)) → Result DayReport DayFault → Result (Unit {0}) DayFault → Type 0
-TextsEnd answers depth old new depth_old depth_new (Ok report) (Ok done) = Appends old new answers × Appends depth_old depth_new depth
-TextsEnd answers depth old new depth_old depth_new (Ok report) (Err fault) = (fault ≡ WriteFailed) × BeginsBoth old new depth_old depth_new answers depth
-TextsEnd answers depth old new depth_old depth_new (Err fault) (Ok done) = ⊥
-TextsEnd answers depth old new depth_old depth_new (Err fault) (Err again) = (again ≡ told fault) × (new ≡ old) × (depth_new ≡ depth_old)
+-- nothing of any is
+abbrev pub AreUnsent : List Sending → Type 0
+AreUnsent [] = Unit {0}
+AreUnsent (s ∷ more) = (s.new ≡ s.old) × AreUnsent more
 
--- how the run of two files ends whose rows are taken in their order, and of which these texts are told
-pub record ToldRunEnds (asked : AskedTexts) (segment orders old new answers_old answers_new depth_old depth_new : Option (List ℕ)) (result : Result (Unit {0}) DayFault) : Type 0 where
-  pub end : Result DayReport DayFault
-  pub answers : List ℕ
-  pub depth : List ℕ
-  pub day_ends : DayEnds InFileOrder segment orders old new end
-  pub are_texts : OnOk end (AreTexts asked segment orders answers depth)
-  pub texts_end : TextsEnd answers depth answers_old answers_new depth_old depth_new end result
+-- a beginning of these texts is out, in this order: nothing of one unless all of those before it
+abbrev pub AreBegun : List Sending → Type 0
+AreBegun [] = Unit {0}
+AreBegun (s ∷ more) = (AppendsBeginning s.old s.new s.text × AreUnsent more) ⊎ (Appends s.old s.new s.text × AreBegun more)
 
--- the same where a file may be none that can be made, which is a failed write before anything is written
-abbrev pub FilesEnd : AskedTexts → Option (List ℕ) → Option (List ℕ) → Result (Unit {0}) DayFault → Type 0
-FilesEnd asked old new result =
-    ((segment orders answers_old answers_new depth_old depth_new : Option (List ℕ)) × ToldRunEnds asked segment orders old new answers_old answers_new depth_old depth_new result)
+-- how texts go out, one after the other
+abbrev pub SendingEnds : List Sending → Result (Unit {0}) DayFault → Type 0
+SendingEnds texts (Ok done) = AreSent texts
+SendingEnds texts (Err fault) = (fault ≡ WriteFailed) × AreBegun texts
+
+-- what an output holds, before and after
+pub record Held : Type 0 where
+  pub old : Option (List ℕ)
+  pub new : Option (List ℕ)
+
+-- what holds the texts of a day: the output of its statement, and the files of its answers, of its trades, of its levels, and of what
+-- it leaves
+pub record DayOutputs : Type 0 where
+  pub statement : Held
+  pub answers : Held
+  pub trades : Held
+  pub depth : Held
+  pub carry : Held
+
+abbrev sending : Held → List ℕ → Sending
+sending held text = record { old = held.old; new = held.new; text = text }
+
+-- the texts of a day, in the order in which they go out
+abbrev pub sendings : DayOutputs → DayTexts → List Sending
+sendings out t =
+    sending out.statement t.statement ∷ sending out.answers t.answers.items ∷ sending out.trades t.trades.items ∷ sending out.depth t.depth.items
+    ∷ sending out.carry t.carry.items ∷ []
+
+-- nothing went out
+pub record AreUntouched (out : DayOutputs) : Type 0 where
+  pub statement : out.statement.new ≡ out.statement.old
+  pub answers : out.answers.new ≡ out.answers.old
+  pub trades : out.trades.new ≡ out.trades.old
+  pub depth : out.depth.new ≡ out.depth.old
+  pub carry : out.carry.new ≡ out.carry.old
+
+-- the texts of a day go out, or its fault is told
+abbrev pub DayIsSent : DayOutputs → Result DayTexts DayFault → Result (Unit {0}) DayFault → Type 0
+DayIsSent out (Ok t) result = SendingEnds (sendings out t) result
+DayIsSent out (Err fault) (Ok done) = ⊥
+DayIsSent out (Err fault) (Err again) = (again ≡ told fault) × AreUntouched out
+
+-- how a call ends that makes the day of these files, whose rows are taken so, and sends out its texts
+pub record DayCallEnds (concurrency : Concurrency) (asked : AskedTexts) (handing : HandsOn) (files : DayFiles) (out : DayOutputs) (result : Result (Unit {0}) DayFault) : Type 0 where
+  pub made : Result DayTexts DayFault
+  pub is_day : IsDayBy concurrency asked handing files made
+  pub is_sent : DayIsSent out made result
+
+-- what a day hands on that goes on from earlier ones, and what one that doesn't
+abbrev pub handing : Bool → HandsOn
+handing true = WhatIsLeft
+handing false = Nothing
+
+-- the same where the files have some bytes, among them those of a carry file if the day goes on from earlier ones, and one that is to
+-- be written may be none that can be made, which is a failed write before anything is written
+abbrev pub FilesEnd : Concurrency → AskedTexts → Bool → Option (List ℕ) → Option (List ℕ) → Result (Unit {0}) DayFault → Type 0
+FilesEnd concurrency asked goes_on old new result =
+    ((files : DayFiles) × (is_some files.carried ≡ goes_on) × (answers trades depth carry : Held) × DayCallEnds concurrency asked (handing goes_on) files
+    (record { statement = record { old = old; new = new }; answers = answers; trades = trades; depth = depth; carry = carry }) result)
     ⊎ ((result ≡ Err WriteFailed) × (new ≡ old))
 
--- how the check of a segment file ends
-abbrev pub FileCheckEnds : Option (List ℕ) → Option (List ℕ) → Option (List ℕ) → Result (Unit {0}) DayFault → Type 0
-FileCheckEnds segment old new = TellsEnd (CheckEnds segment old new)
+-- the line of a segment goes out, or its fault is told
+abbrev pub LineIsSent : Held → Result (Vec ℕ Global) DayFault → Result (Unit {0}) DayFault → Type 0
+LineIsSent out (Ok line) result = SendingEnds (sending out line.items ∷ []) result
+LineIsSent out (Err fault) (Ok done) = ⊥
+LineIsSent out (Err fault) (Err again) = (again ≡ told fault) × (out.new ≡ out.old)
+
+-- how a call ends that checks a segment file of these bytes
+pub record CheckCallEnds (segment : Option (List ℕ)) (out : Held) (result : Result (Unit {0}) DayFault) : Type 0 where
+  pub made : Result (Vec ℕ Global) DayFault
+  pub is_check : IsCheck segment made
+  pub is_sent : LineIsSent out made result

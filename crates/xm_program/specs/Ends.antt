@@ -1,24 +1,22 @@
 -- What the words of a command line lead to on the two streams.
-use Rattle.std.specs.Prelude.{◌≡◌, ℕ, false, true, ◌⊎◌, List, [], Option, Some, Result, Ok, Err, ⊤}
+use Rattle.std.specs.Prelude.{◌≡◌, ℕ, false, true, ◌⊎◌, List, [], Option, Some, is_some, Result, Ok, Err, ⊤}
 use Rattle.std.specs.Io.KnownBytes.{Appends}
 use Rattle.clap.specs.Values.{kind_of}
 use Rattle.clap.specs.Words.{IsAmong, Kinds}
 use Rattle.clap.specs.declared.error.kind.ErrorKind.{ErrorKind}
 use Rattle.xm_rows.specs.declared.faults.DayFault.{DayFault}
 use Rattle.xm_rows.specs.declared.faults.DayFault.TheVariants.{OutOfMemory, WriteFailed}
-use Rattle.xm_program.specs.Days.{CarryFilesEnd, FileCheckEnds, FilesEnd, RunEnds}
+use Rattle.xm_program.specs.Days.{CheckCallEnds, FilesEnd}
 use Rattle.xm_program.specs.FaultLines.{fault_line}
-use Rattle.xm_program.specs.Requests.{Asked, IsOfWords, asked_texts, carry, check, end_status, is_mistake, run, run_told}
+use Rattle.xm_program.specs.Requests.{Asked, IsOfWords, asked_texts, check, day, end_status, is_mistake}
 use Rattle.xm_program.specs.declared.requests.Failure.{Failure}
 use Rattle.xm_program.specs.declared.requests.Failure.TheVariants.{Day, Words}
 use Rattle.xm_ticks.specs.Writing.{AppendsPrefix}
 
 -- what was asked for ended so, on files of some bytes
 abbrev pub AskedEnds : Asked → Option (List ℕ) → Option (List ℕ) → Result (Unit {0}) DayFault → Type 0
-AskedEnds (run segment orders concurrency) old new end = (segment_bytes order_bytes : Option (List ℕ)) × RunEnds concurrency segment_bytes order_bytes old new end
-AskedEnds (run_told segment orders answers depth threads) old new end = FilesEnd (asked_texts answers depth) old new end
-AskedEnds (carry segment carried orders keep concurrency) old new end = CarryFilesEnd concurrency old new end
-AskedEnds (check segment) old new end = (segment_bytes : Option (List ℕ)) × FileCheckEnds segment_bytes old new end
+AskedEnds (day d) old new end = FilesEnd d.concurrency (asked_texts d) (is_some d.carrying) old new end
+AskedEnds (check segment) old new end = (segment_bytes : Option (List ℕ)) × CheckCallEnds segment_bytes (record { old = old; new = new }) end
 
 -- the words have no fault and ask for what can be done, which ended so
 pub record HasDone (faults : Kinds) (asked : Option Asked) (old new : Option (List ℕ)) (end : Result (Unit {0}) DayFault) : Type 0 where
@@ -33,8 +31,8 @@ pub record AsksHelp (faults : Kinds) : Type 0 where
   pub is_help : is_mistake kind ≡ false
   pub among : IsAmong kind faults
 
--- what words with these faults, which ask for this, lead to on standard output: a run, also one that hands on what its day leaves,
--- writes the statement of its day, a check the line of its segment, and nothing else; after a mistake, and after a fault, nothing was written, but where writing failed
+-- what words with these faults, which ask for this, lead to on standard output: a day writes its statement, a check the line of its
+-- segment, and nothing else; after a mistake, and after a fault, nothing was written, but where writing failed
 abbrev pub IsDone : Kinds → Option Asked → Option (List ℕ) → Option (List ℕ) → Result (Unit {0}) Failure → Type 0
 IsDone faults asked old new (Ok done) = HasDone faults asked old new (Ok done) ⊎ AsksHelp faults
 IsDone faults asked old new (Err (Day (OutOfMemory _))) = new ≡ old

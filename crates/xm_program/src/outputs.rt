@@ -2,6 +2,7 @@
 ghost use Rattle.std.specs.Io.{WritesAtMost};
 ghost use Rattle.std.specs.Io.KnownBytes.{Keeps, WriteAppends};
 
+use crate::requests::DayRequest;
 use std::io::Write;
 use std::os::unix::fs::MetadataExt;
 use std::rt::Files;
@@ -45,31 +46,54 @@ const DESCRIPTORS: &str = "/proc/self/fd";
 /// The file that standard output goes to, which gets the statement.
 const STATEMENT_PATH: &str = "/proc/self/fd/1";
 
-/// The files for two texts, as far as there are paths. Where one of the files that are to be read lies at such a path, or the one
-/// that standard output goes to, it is not touched, and that is an error; it is one too where both would be the same file, or where
-/// standard output is closed, whose place a file would take.
-pub(crate) fn make_files<R: Files>(
-    rt: &R,
-    first: Option<&str>,
-    second: Option<&str>,
-    inputs: &[&str],
-) -> io::Result<(Output<R::File>, Output<R::File>)> {
-    if is_closed(rt)? || is_taken(rt, first, inputs)? || is_taken(rt, second, inputs)? {
-        return Err(io::Error::from(io::ErrorKind::AlreadyExists));
-    }
-    let made = make_file(rt, first)?;
-    if is_one(rt, first, second)? {
-        return Err(io::Error::from(io::ErrorKind::AlreadyExists));
-    }
-    Ok((made, make_file(rt, second)?))
+/// The files of the texts beside a statement, in the order in which these go out.
+#[derive(Drop)]
+pub struct TextFiles<F> {
+    pub answers: Output<F>,
+    pub trades: Output<F>,
+    pub depth: Output<F>,
+    pub carry: Output<F>,
 }
 
-/// The file at a path, empty, where there is a path.
-fn make_file<R: Files>(rt: &R, path: Option<&str>) -> io::Result<Output<R::File>> {
-    match path {
-        None => Ok(Output::Unasked),
-        Some(path) => Ok(Output::Made(fs::create(rt, path)?)),
+/// The files that a day is written to, as far as they are asked for. Where one of the files that are to be read lies at such a path,
+/// or the one that standard output goes to, nothing is touched, and that is an error; it is one too where two would be the same file,
+/// or where standard output is closed, whose place a file would take.
+pub(crate) fn make_files<R: Files>(
+    rt: &R,
+    request: &DayRequest<'_>,
+) -> io::Result<TextFiles<R::File>> {
+    let paths = request.outputs();
+    let inputs = request.inputs();
+    for path in &paths {
+        if is_taken(rt, *path, &inputs)? {
+            return Err(io::Error::from(io::ErrorKind::AlreadyExists));
+        }
     }
+    let [answers, trades, depth, carry] = paths;
+    let answers_file = make_file(rt, answers, &[])?;
+    let trades_file = make_file(rt, trades, &[answers])?;
+    let depth_file = make_file(rt, depth, &[answers, trades])?;
+    Ok(TextFiles {
+        answers: answers_file,
+        trades: trades_file,
+        depth: depth_file,
+        carry: make_file(rt, carry, &[answers, trades, depth])?,
+    })
+}
+
+/// The file at a path, empty, where there is a path, unless it is one of those that were made.
+fn make_file<R: Files>(
+    rt: &R,
+    path: Option<&str>,
+    made: &[Option<&str>],
+) -> io::Result<Output<R::File>> {
+    let Some(path) = path else {
+        return Ok(Output::Unasked);
+    };
+    if is_one_of(rt, path, made)? {
+        return Err(io::Error::from(io::ErrorKind::AlreadyExists));
+    }
+    Ok(Output::Made(fs::create(rt, path)?))
 }
 
 /// Whether standard output is closed, where the system tells.
@@ -77,28 +101,26 @@ fn is_closed<R: Files>(rt: &R) -> io::Result<bool> {
     Ok(place_of(rt, DESCRIPTORS)?.is_some() && place_of(rt, STATEMENT_PATH)?.is_none())
 }
 
-/// Whether at a path, if there is one, lies a file that is to be read, or the one that standard output goes to.
-fn is_taken<R: Files>(rt: &R, path: Option<&str>, inputs: &[&str]) -> io::Result<bool> {
-    let Some(path) = path else {
-        return Ok(false);
-    };
-    for input in inputs {
-        if is_same(rt, path, input)? {
-            return Ok(true);
+/// Whether at a path, if there is one, lies a file that is to be read, or the one that standard output goes to, or that is closed.
+fn is_taken<R: Files>(rt: &R, path: Option<&str>, inputs: &[Option<&str>]) -> io::Result<bool> {
+    match path {
+        Some(path) => {
+            Ok(is_closed(rt)? || is_one_of(rt, path, inputs)? || has_statement(rt, path)?)
         }
+        None => Ok(false),
     }
-    has_statement(rt, path)
 }
 
-/// Whether both paths are there, and the same file lies at them.
-fn is_one<R: Files>(rt: &R, first: Option<&str>, second: Option<&str>) -> io::Result<bool> {
-    match first {
-        None => Ok(false),
-        Some(first) => match second {
-            None => Ok(false),
-            Some(second) => is_same(rt, first, second),
-        },
+/// Whether the file at a path lies at one of others, too.
+fn is_one_of<R: Files>(rt: &R, path: &str, others: &[Option<&str>]) -> io::Result<bool> {
+    for other in others {
+        if let Some(other) = other {
+            if is_same(rt, path, other)? {
+                return Ok(true);
+            }
+        }
     }
+    Ok(false)
 }
 
 /// Whether the same file lies at both paths, or they are the same, whatever lies there.

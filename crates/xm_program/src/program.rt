@@ -1,21 +1,19 @@
 //! A call of the program, over any runtime.
-ghost use Rattle.std.specs.Prelude.{◌≡◌, ◌≢◌, ◌≤◌, ℕ, List, Option, Err, IfErr, IfOk, OnErr, OnOk, map, option_map, string_bytes};
-ghost use Rattle.std.specs.Io.KnownBytes.{Appends, Keeps};
+ghost use Rattle.std.specs.Prelude.{◌≡◌, ◌≢◌, ◌≤◌, ℕ, List, Option, Err, IfErr, IfOk, None, OnErr, OnOk, Some, length, map, string_bytes};
+ghost use Rattle.std.specs.Io.KnownBytes.{Appends};
 ghost use Rattle.std.specs.Process.{exit_status};
 ghost use Rattle.clap.specs.Words.{fault_of};
-ghost use Rattle.xm_day.specs.Answers.{DayEnds, InFileOrder, IsAsked, IsTextOfFiles, report_in};
-ghost use Rattle.xm_day.specs.CarriedDays.{CarriedDayEnds};
-ghost use Rattle.xm_rows.specs.MarketDepth.{depth_text};
-ghost use Rattle.xm_rows.specs.RowAnswers.{answers_text};
-ghost use Rattle.xm_program.specs.Days.{AppendsBeginning, BeginsBoth, CarryEnds, CarryFilesEnd, EndsBy, FileCheckEnds, FilesEnd, IsEnd, RunEnds, ToldRunEnds};
-ghost use Rattle.xm_program.specs.Ends.{CallEnds, IsDone, IsToldAs};
-ghost use Rattle.xm_program.specs.Requests.{RefusesBytes, asked_of, asked_texts, day_app, end_status};
+ghost use Rattle.xm_day.specs.Days.{TakesFile};
+ghost use Rattle.xm_program.specs.Days.{AppendsBeginning, CheckCallEnds, DayCallEnds, DayIsSent, EndsBy, IsDayBy, SendingEnds, asked_with, sendings};
+ghost use Rattle.xm_program.specs.Ends.{AskedEnds, CallEnds, IsDone, IsToldAs};
+ghost use Rattle.xm_program.specs.Outputs.{outputs_of};
+ghost use Rattle.xm_program.specs.Requests.{RefusesBytes, asked_of, day, day_app, named_day, end_status};
 
 use crate::complaints::Complaints;
 use crate::concurrency::Concurrency;
-use crate::count::Count;
 use crate::fault_lines::{fault_line, told};
-use crate::requests::{self, Failure, Request};
+use crate::outputs::TextFiles;
+use crate::requests::{self, DayRequest, Failure, Request};
 use crate::{inputs, outputs};
 use clap::Error;
 use std::alloc::Global;
@@ -27,12 +25,13 @@ use std::sync::Wait;
 use std::thread::Threads;
 use std::{env, fs, io};
 use xm_day::{
-    AskedTexts, DayFault, DayReport, ToldDay, carry_alone, carry_day, carry_on_threads, run_day,
-    run_on_threads,
+    AskedTexts, DayFault, DayTexts, HandsOn, TakenDay, day_texts, open_carried_files, open_files,
+    send_statement, take_on_threads, take_shared,
 };
+use xm_files::SegmentNames;
 use xm_memory::OutOfMemory;
 use xm_names::{Seed, Storage};
-use xm_segment::NoGate;
+use xm_segment::{NoGate, SegmentConfig};
 use xm_ticks::write_whole;
 
 /// Does what the command line asks for, tells on standard error where it can't, and gives the status to end with.
@@ -72,124 +71,57 @@ fn answer<R: AllocGlobal + Files + RandomSource + Threads + Wait + Sync, W: Writ
     ensures { IsDone (fault_of day_app (map string_bytes words.now)) (asked_of (map string_bytes words.now)) (W.contents out.old) (W.contents out.new) result }
 {
     match requests::read_words(rt.alloc(), words)? {
-        Request::Run {
-            segment,
-            orders,
-            concurrency,
-        } => Ok(run_files(rt, segment, orders, concurrency, out)?),
-        Request::RunTold {
-            segment,
-            orders,
-            answers,
-            depth,
-            threads,
-        } => Ok(tell_files(rt, segment, orders, answers, depth, threads, out)?),
-        Request::Carry {
-            segment,
-            carried,
-            orders,
-            keep,
-            concurrency,
-        } => Ok(carry_files(rt, segment, carried, orders, keep, concurrency, out)?),
+        Request::Day(request) => Ok(write_day(rt, &request, out)?),
         Request::Check { segment } => Ok(check_file(rt, segment, out)?),
         Request::Help(text) => Ok(print_help(text, out)?),
     }
 }
 
-/// Writes the statement of the day in the files at two paths, whose rows are taken so.
-fn run_files<R: AllocGlobal + Files + RandomSource + Threads + Wait + Sync, W: Write>(
+/// Writes the texts of a day to standard output and to their files, which are made before any is read.
+fn write_day<R: AllocGlobal + Files + RandomSource + Threads + Wait + Sync, W: Write>(
     rt: &R,
-    segment: &str,
-    orders: &str,
-    concurrency: Concurrency,
+    request: &DayRequest<'_>,
     out: &mut W,
 ) -> Result<(), DayFault>
-    ensures ends { (segment orders : Option (List ℕ)) × RunEnds concurrency segment orders (W.contents out.old) (W.contents out.new) result }
+    ensures ends { AskedEnds (day (named_day request.now)) (W.contents out.old) (W.contents out.new) result }
     ensures untouched { IfErr result (λ fault. fault ≢ DayFault.WriteFailed → out.new ≡ out.old) }
 {
-    let mut segment = inputs::open_input(|path| fs::open(rt, path), segment);
-    let mut orders = inputs::open_input(|path| fs::open(rt, path), orders);
-    run(rt, storage(rt), &mut segment, &mut orders, concurrency, out)
-}
-
-/// Writes the statement of the day in the files at two paths, whose rows are taken on so many threads, and the texts beside it to
-/// those that are given, which are made before any is read.
-fn tell_files<R: AllocGlobal + Files + RandomSource + Threads + Sync, W: Write>(
-    rt: &R,
-    segment: &str,
-    orders: &str,
-    answers: Option<&str>,
-    depth: Option<&str>,
-    threads: Count,
-    out: &mut W,
-) -> Result<(), DayFault>
-    ensures ends { FilesEnd (asked_texts (option_map (λ s. s.now) answers.entry) (option_map (λ s. s.now) depth.entry)) (W.contents out.old) (W.contents out.new) result }
-    ensures untouched { IfErr result (λ fault. fault ≢ DayFault.WriteFailed → out.new ≡ out.old) }
-{
-    let asked = AskedTexts {
-        answers: answers.is_some(),
-        depth: depth.is_some(),
-    };
-    let (mut answers, mut depth) = match outputs::make_files(
-        rt,
-        answers,
-        depth,
-        &[segment, orders],
-    ) {
+    let mut files = match outputs::make_files(rt, request) {
         Ok(files) => files,
         Err(_) => return Err(DayFault::WriteFailed),
     };
-    let mut segment = inputs::open_input(|path| fs::open(rt, path), segment);
-    let mut orders = inputs::open_input(|path| fs::open(rt, path), orders);
-    run_told(
-        rt,
-        storage(rt),
-        &mut segment,
-        &mut orders,
-        threads,
-        out,
-        asked,
-        &mut answers,
-        &mut depth,
-    )
-}
-
-/// Writes the statement of the day in the files at two paths, which opens with the carry file at another, and the carry file of the
-/// next day to that at the last, which is made before any is read and is none of these.
-fn carry_files<R: AllocGlobal + Files + RandomSource + Threads + Wait + Sync, W: Write>(
-    rt: &R,
-    segment: &str,
-    carried: &str,
-    orders: &str,
-    keep: &str,
-    concurrency: Concurrency,
-    out: &mut W,
-) -> Result<(), DayFault>
-    ensures ends { CarryFilesEnd concurrency (W.contents out.old) (W.contents out.new) result }
-    ensures untouched { IfErr result (λ fault. fault ≢ DayFault.WriteFailed → out.new ≡ out.old) }
-{
-    let (mut keep, _) = match outputs::make_files(
-        rt,
-        Some(keep),
-        None,
-        &[segment, carried, orders],
-    ) {
-        Ok(files) => files,
-        Err(_) => return Err(DayFault::WriteFailed),
-    };
-    let mut segment = inputs::open_input(|path| fs::open(rt, path), segment);
-    let mut carried = inputs::open_input(|path| fs::open(rt, path), carried);
-    let mut orders = inputs::open_input(|path| fs::open(rt, path), orders);
-    carry_over(
-        rt,
-        storage(rt),
-        &mut segment,
-        &mut carried,
-        &mut orders,
-        concurrency,
-        out,
-        &mut keep,
-    )
+    let (concurrency, asked) = (request.concurrency, request.asked());
+    let mut segment = inputs::open_input(|path| fs::open(rt, path), request.segment);
+    match &request.carrying {
+        None => {
+            let mut orders = inputs::open_input(|path| fs::open(rt, path), request.orders);
+            run(
+                rt,
+                storage(rt),
+                &mut segment,
+                &mut orders,
+                concurrency,
+                asked,
+                out,
+                &mut files,
+            )
+        }
+        Some(carrying) => {
+            let mut carried = inputs::open_input(|path| fs::open(rt, path), carrying.from);
+            let mut orders = inputs::open_input(|path| fs::open(rt, path), request.orders);
+            carry_over(
+                rt,
+                storage(rt),
+                &mut segment,
+                &mut carried,
+                &mut orders,
+                concurrency,
+                asked,
+                out,
+                &mut files,
+            )
+        }
+    }
 }
 
 /// Checks the segment file at a path, and writes its line.
@@ -198,7 +130,7 @@ fn check_file<R: AllocGlobal + Files + RandomSource, W: Write>(
     segment: &str,
     out: &mut W,
 ) -> Result<(), DayFault>
-    ensures ends { (segment : Option (List ℕ)) × FileCheckEnds segment (W.contents out.old) (W.contents out.new) result }
+    ensures ends { (segment : Option (List ℕ)) × CheckCallEnds segment (record { old = W.contents out.old; new = W.contents out.new }) result }
     ensures untouched { IfErr result (λ fault. fault ≢ DayFault.WriteFailed → out.new ≡ out.old) }
 {
     let mut segment = inputs::open_input(|path| fs::open(rt, path), segment);
@@ -231,193 +163,144 @@ fn read_command_line<R: Env + AllocGlobal>(rt: &R) -> Result<Vec<String>, Failur
     }
 }
 
-/// Writes the statement of the day in two files, whose rows are taken so, and sees that all of it went out.
+/// Makes the day of two files, whose rows are taken so, and sends out its texts, one after the other: its statement, and the answers
+/// to its rows, their trades and the levels behind them, as far as they are asked for, each to its file.
 ///
-/// The faults are those of `xm_day::run_day`, in their order, as `told` gives them. `WriteFailed` also tells that the writer
-/// couldn't be flushed.
-pub fn run<R: Threads + Wait + Sync, S: Read, O: Read, W: Write>(
+/// The faults are those of the day, in their order, as `told` gives them. `WriteFailed` tells that a text didn't go out whole. Nothing
+/// of those behind it did.
+pub fn run<R: Threads + Wait + Sync, S: Read, O: Read, W: Write, F: Write>(
     rt: &R,
     storage: Storage<Global>,
     segment: &mut S,
     orders: &mut O,
     concurrency: Concurrency,
-    out: &mut W,
-) -> Result<(), DayFault>
-    ensures ends { RunEnds concurrency (S.remaining segment.old) (O.remaining orders.old) (W.contents out.old) (W.contents out.new) result }
-    ensures untouched { IfErr result (λ fault. fault ≢ DayFault.WriteFailed → out.new ≡ out.old) }
-{
-    let ended = run_rows(rt, storage, segment, orders, concurrency, out);
-    sent_out(ended, out)
-}
-
-/// Writes the statement of the day in two files, whose rows are taken so.
-fn run_rows<R: Threads + Wait + Sync, S: Read, O: Read, W: Write>(
-    rt: &R,
-    storage: Storage<Global>,
-    segment: &mut S,
-    orders: &mut O,
-    concurrency: Concurrency,
-    out: &mut W,
-) -> Result<DayReport, DayFault>
-    ensures ends { EndsBy concurrency (λ days. DayEnds days (S.remaining segment.old) (O.remaining orders.old) (W.contents out.old) (W.contents out.new) result) }
-    ensures untouched { IfErr result (λ fault. fault ≢ DayFault.WriteFailed → out.new ≡ out.old) }
-{
-    match concurrency {
-        Concurrency::Threads(threads) => {
-            let asked = AskedTexts::nothing();
-            match tell_rows(rt, storage, segment, orders, threads, out, asked) {
-                Ok(day) => Ok(day.report),
-                Err(fault) => Err(fault),
-            }
-        }
-        Concurrency::Workers(workers) => {
-            run_day(rt, storage, segment, orders, out, workers.get(), &NoGate)
-        }
-    }
-}
-
-/// Writes the statement of the day in two files, whose rows are taken in their order, on so many threads, and gives the texts
-/// that are asked for.
-fn tell_rows<R: Threads + Sync, S: Read, O: Read, W: Write>(
-    rt: &R,
-    storage: Storage<Global>,
-    segment: &mut S,
-    orders: &mut O,
-    threads: Count,
-    out: &mut W,
     asked: AskedTexts,
-) -> Result<ToldDay, DayFault>
-    ensures ends { DayEnds InFileOrder (S.remaining segment.old) (O.remaining orders.old) (W.contents out.old) (W.contents out.new) (report_in result) }
-    ensures answers { IfOk result (λ day. IsAsked (IsTextOfFiles answers_text (S.remaining segment.old) (O.remaining orders.old)) asked.answers day.answers.items) }
-    ensures depth { IfOk result (λ day. IsAsked (IsTextOfFiles (λ names config bytes rows. depth_text names config rows) (S.remaining segment.old) (O.remaining orders.old)) asked.depth day.depth.items) }
+    out: &mut W,
+    files: &mut TextFiles<F>,
+) -> Result<(), DayFault>
+    ensures ends { DayCallEnds concurrency asked HandsOn.Nothing (record { segment = S.remaining segment.old; carried = None; orders = O.remaining orders.old })
+        (outputs_of F.contents (record { old = W.contents out.old; new = W.contents out.new }) files.old files.new) result }
     ensures untouched { IfErr result (λ fault. fault ≢ DayFault.WriteFailed → out.new ≡ out.old) }
 {
-    let threads = threads.get();
-    if threads == 1 {
-        return xm_day::run_told(storage, segment, orders, out, asked);
-    }
-    run_on_threads(rt, threads, storage, segment, orders, out, asked)
+    let made = day_of_files(rt, storage, segment, orders, concurrency, asked);
+    send_day(made, out, files)
 }
 
-/// Writes the statement of the day in two files that opens with a carry file, whose rows are taken so, sees that all of it went
-/// out, and then does so with the carry file of the next day.
-///
-/// `WriteFailed` tells that one of both writers failed. The second got nothing unless the whole statement was written. The other
-/// faults are those of `xm_day::carry_day`, in their order, as `told` gives them.
-pub fn carry_over<R: Threads + Wait + Sync, S: Read, C: Read, O: Read, W: Write, K: Write>(
+/// Makes the day of two files that opens with a carry file, whose rows are taken so, and sends out its texts as `run` does, and last the
+/// carry file of the next day.
+pub fn carry_over<R: Threads + Wait + Sync, S: Read, C: Read, O: Read, W: Write, F: Write>(
     rt: &R,
     storage: Storage<Global>,
     segment: &mut S,
     carried: &mut C,
     orders: &mut O,
     concurrency: Concurrency,
+    asked: AskedTexts,
     out: &mut W,
-    keep: &mut K,
+    files: &mut TextFiles<F>,
 ) -> Result<(), DayFault>
-    ensures ends { CarryEnds concurrency (S.remaining segment.old) (C.remaining carried.old) (O.remaining orders.old)
-        (record { old = W.contents out.old; new = W.contents out.new; kept_old = K.contents keep.old; kept_new = K.contents keep.new }) result }
-    ensures untouched { IfErr result (λ fault. fault ≢ DayFault.WriteFailed → (out.new ≡ out.old) × (keep.new ≡ keep.old)) }
+    ensures ends { DayCallEnds concurrency asked HandsOn.WhatIsLeft (record { segment = S.remaining segment.old; carried = Some (C.remaining carried.old); orders = O.remaining orders.old })
+        (outputs_of F.contents (record { old = W.contents out.old; new = W.contents out.new }) files.old files.new) result }
+    ensures untouched { IfErr result (λ fault. fault ≢ DayFault.WriteFailed → out.new ≡ out.old) }
 {
-    let ended = carry_rows(
-        rt,
-        storage,
-        segment,
-        carried,
-        orders,
-        concurrency,
-        out,
-        keep,
-    );
-    sent_out(ended, keep)
+    let made = day_of_carried_files(rt, storage, segment, carried, orders, concurrency, asked);
+    send_day(made, out, files)
 }
 
-/// Writes the statement of the day in two files that opens with a carry file, whose rows are taken so, and then the carry file of
-/// the next day.
-fn carry_rows<R: Threads + Wait + Sync, S: Read, C: Read, O: Read, W: Write, K: Write>(
+/// The texts of the day of two files, whose rows are taken so.
+fn day_of_files<R: Threads + Wait + Sync, S: Read, O: Read>(
+    rt: &R,
+    storage: Storage<Global>,
+    segment: &mut S,
+    orders: &mut O,
+    concurrency: Concurrency,
+    asked: AskedTexts,
+) -> Result<DayTexts, DayFault>
+    ensures { IsDayBy concurrency asked HandsOn.Nothing (record { segment = S.remaining segment.old; carried = None; orders = O.remaining orders.old }) result }
+{
+    let (config, names) = open_files(storage, segment)?;
+    let taken = take_rows(rt, storage, &config, &names, orders, concurrency, asked);
+    day_texts(storage.alloc, &names, taken, HandsOn::Nothing)
+}
+
+/// The texts of the day of two files that opens with a carry file, whose rows are taken so, and of what it leaves.
+fn day_of_carried_files<R: Threads + Wait + Sync, S: Read, C: Read, O: Read>(
     rt: &R,
     storage: Storage<Global>,
     segment: &mut S,
     carried: &mut C,
     orders: &mut O,
     concurrency: Concurrency,
-    out: &mut W,
-    keep: &mut K,
-) -> Result<DayReport, DayFault>
-    ensures ends { EndsBy concurrency (λ days. CarriedDayEnds days (S.remaining segment.old) (C.remaining carried.old) (O.remaining orders.old)
-        (record { old = W.contents out.old; new = W.contents out.new; kept_old = K.contents keep.old; kept_new = K.contents keep.new }) result) }
-    ensures untouched { IfErr result (λ fault. fault ≢ DayFault.WriteFailed → (out.new ≡ out.old) × (keep.new ≡ keep.old)) }
+    asked: AskedTexts,
+) -> Result<DayTexts, DayFault>
+    ensures { IsDayBy concurrency asked HandsOn.WhatIsLeft (record { segment = S.remaining segment.old; carried = Some (C.remaining carried.old); orders = O.remaining orders.old }) result }
+{
+    let (config, names) = open_carried_files(storage, segment, carried)?;
+    let taken = take_rows(rt, storage, &config, &names, orders, concurrency, asked);
+    day_texts(storage.alloc, &names, taken, HandsOn::WhatIsLeft)
+}
+
+/// Takes the rows of an order file so. Workers tell nothing of them.
+fn take_rows<R: Threads + Wait + Sync, O: Read>(
+    rt: &R,
+    storage: Storage<Global>,
+    config: &SegmentConfig,
+    names: &SegmentNames,
+    orders: &mut O,
+    concurrency: Concurrency,
+    asked: AskedTexts,
+) -> Result<TakenDay, DayFault>
+    requires { length names.now.securities ≡ length config.now.securities }
+    ensures taken { EndsBy concurrency (λ days. TakesFile days (asked_with concurrency asked) config.now names.now (O.remaining orders.old) result) }
+    ensures each { IfOk result (λ t. length t.day.desks.items ≡ length config.now.securities) }
 {
     match concurrency {
         Concurrency::Threads(threads) => {
-            let threads = threads.get();
-            if threads == 1 {
-                return carry_alone(storage, segment, carried, orders, out, keep);
-            }
-            carry_on_threads(rt, threads, storage, segment, carried, orders, out, keep)
+            take_on_threads(rt, threads.get(), storage, config, names, orders, asked)
         }
         Concurrency::Workers(workers) => {
-            let workers = workers.get();
-            carry_day(
-                rt, storage, segment, carried, orders, out, keep, workers, &NoGate,
-            )
+            take_shared(rt, &NoGate, workers.get(), storage, config, names, orders)
         }
     }
 }
 
-/// Writes the statement of the day in two files, whose rows are taken on so many threads, sees that all of it went out, and then
-/// does so with the answers to its rows and with the levels behind them, as far as they are asked for. Where one isn't, nothing
-/// is written to its writer.
-///
-/// `WriteFailed` tells that one of the writers failed. Those behind it got nothing. The other faults are those of
-/// `xm_day::run_told`, in their order, as `told` gives them.
-pub fn run_told<R: Threads + Sync, S: Read, O: Read, W: Write, A: Write, D: Write>(
-    rt: &R,
-    storage: Storage<Global>,
-    segment: &mut S,
-    orders: &mut O,
-    threads: Count,
+/// Sends out the texts of a day, one after the other, or tells its fault.
+fn send_day<W: Write, F: Write>(
+    made: Result<DayTexts, DayFault>,
     out: &mut W,
-    asked: AskedTexts,
-    answers: &mut A,
-    depth: &mut D,
+    files: &mut TextFiles<F>,
 ) -> Result<(), DayFault>
-    ensures ends { ToldRunEnds asked (S.remaining segment.old) (O.remaining orders.old) (W.contents out.old) (W.contents out.new)
-        (A.contents answers.old) (A.contents answers.new) (D.contents depth.old) (D.contents depth.new) result }
+    ensures sent { DayIsSent (outputs_of F.contents (record { old = W.contents out.old; new = W.contents out.new }) files.old files.new) made result }
     ensures untouched { IfErr result (λ fault. fault ≢ DayFault.WriteFailed → out.new ≡ out.old) }
 {
-    let day = match tell_rows(rt, storage, segment, orders, threads, out, asked) {
-        Ok(day) => day,
-        Err(fault) => return Err(told(fault)),
-    };
-    match out.flush() {
-        Ok(()) => send_both(answers, day.answers.as_slice(), depth, day.depth.as_slice()),
-        Err(_) => Err(DayFault::WriteFailed),
+    match made {
+        Ok(texts) => send_texts(&texts, out, files),
+        Err(fault) => Err(told(fault)),
     }
 }
 
-/// Writes a text to each of two writers, one after the other, and sees that all of it went out.
-fn send_both<A: Write, D: Write>(
-    answers: &mut A,
-    answers_text: &[u8],
-    depth: &mut D,
-    depth_text: &[u8],
+/// Sends out the texts of a day, one after the other.
+fn send_texts<W: Write, F: Write>(
+    texts: &DayTexts,
+    out: &mut W,
+    files: &mut TextFiles<F>,
 ) -> Result<(), DayFault>
-    ensures sent { OnOk result (Appends (A.contents answers.old) (A.contents answers.new) answers_text.now × Appends (D.contents depth.old) (D.contents depth.new) depth_text.now) }
-    ensures failed { IfErr result (λ fault. (fault ≡ DayFault.WriteFailed)
-        × BeginsBoth (A.contents answers.old) (A.contents answers.new) (D.contents depth.old) (D.contents depth.new) answers_text.now depth_text.now) }
+    ensures { SendingEnds (sendings (outputs_of F.contents (record { old = W.contents out.old; new = W.contents out.new }) files.old files.new) texts.now) result }
 {
-    match send(answers, answers_text) {
-        Ok(()) => send(depth, depth_text),
-        Err(fault) => Err(fault),
-    }
+    send_statement(&texts.statement, out)?;
+    send(&mut files.answers, &texts.answers)?;
+    send(&mut files.trades, &texts.trades)?;
+    send(&mut files.depth, &texts.depth)?;
+    send(&mut files.carry, &texts.carry)?;
+    Ok(())
 }
 
 /// Writes a text, and sees that all of it went out.
-fn send<W: Write>(out: &mut W, text: &[u8]) -> Result<(), DayFault>
-    ensures sent { OnOk result (Appends (W.contents out.old) (W.contents out.new) text.now) }
-    ensures failed { IfErr result (λ fault. (fault ≡ DayFault.WriteFailed) × AppendsBeginning (W.contents out.old) (W.contents out.new) text.now) }
+fn send<W: Write>(out: &mut W, text: &Vec<u8>) -> Result<(), DayFault>
+    ensures sent { OnOk result (Appends (W.contents out.old) (W.contents out.new) text.now.items) }
+    ensures failed { IfErr result (λ fault. (fault ≡ DayFault.WriteFailed) × AppendsBeginning (W.contents out.old) (W.contents out.new) text.now.items) }
 {
-    match write_whole(out, text) {
+    match write_whole(out, text.as_slice()) {
         Ok(()) => out.flush().map_err(|_| DayFault::WriteFailed),
         Err(_) => Err(DayFault::WriteFailed),
     }
@@ -425,28 +308,17 @@ fn send<W: Write>(out: &mut W, text: &[u8]) -> Result<(), DayFault>
 
 /// Writes the line of a segment file that opens, and sees that all of it went out.
 ///
-/// The faults are those of `xm_day::check`, in their order, as `told` gives them. `WriteFailed` also tells that the writer couldn't
-/// be flushed.
+/// The faults are those of `xm_day::check`, in their order, as `told` gives them; then `WriteFailed`.
 pub fn check<S: Read, W: Write>(
     storage: Storage<Global>,
     segment: &mut S,
     out: &mut W,
 ) -> Result<(), DayFault>
-    ensures ends { FileCheckEnds (S.remaining segment.old) (W.contents out.old) (W.contents out.new) result }
+    ensures ends { CheckCallEnds (S.remaining segment.old) (record { old = W.contents out.old; new = W.contents out.new }) result }
     ensures untouched { IfErr result (λ fault. fault ≢ DayFault.WriteFailed → out.new ≡ out.old) }
 {
-    let ended = xm_day::check(storage, segment, out);
-    sent_out(ended, out)
-}
-
-/// What is told of a call that wrote and ended so. All that it wrote goes out first.
-fn sent_out<T: Copy, W: Write>(ended: Result<T, DayFault>, out: &mut W) -> Result<(), DayFault>
-    ensures told { IsEnd ended result }
-    ensures kept { OnOk ended (Keeps (W.contents out.old) (W.contents out.new)) }
-    ensures untouched { OnErr ended (out.new ≡ out.old) }
-{
-    match ended {
-        Ok(_) => out.flush().map_err(|_| DayFault::WriteFailed),
+    match xm_day::check(storage, segment) {
+        Ok(line) => send(out, &line),
         Err(fault) => Err(told(fault)),
     }
 }

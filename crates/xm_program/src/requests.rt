@@ -1,9 +1,10 @@
 //! What the words of the command line ask for.
-ghost use Rattle.std.specs.Prelude.{◌≡◌, [], IfOk, IfErr, IfSome, IsSome, None, codes, map, option_and_then, option_map, string_bytes, false, true};
+ghost use Rattle.std.specs.Prelude.{◌≡◌, [], IfOk, IfErr, IfSome, IsSome, None, map, option_and_then, option_map, string_bytes, false, true};
+ghost use Rattle.std.specs.List.{list_any};
 ghost use Rattle.clap.specs.Words.{app_of, fault_of, first_of, found_of, kind_of, new_app, one_of, rows_of, rule_of, subcommand_rows_of, takes};
 ghost use Rattle.clap.specs.declared.builder.command.Command.TheViews.{out-Command as fields_of};
 ghost use Rattle.clap.specs.declared.error.kind.ErrorKind.TheVariants as kind;
-ghost use Rattle.xm_program.specs.Requests.{AnswersWords, Asked, Asks, IsGranted, IsOfWords, IsRequest, IsTold, IsUnread, answer_of, asked_in, asked_of, can_tell, carry_app, carry_to, check_app, concurrency_in, count_in, count_rule, day_app, failure_status, file_rule, is_file, is_one_path, path_rule, run_app, run_to, told_run, top_app};
+ghost use Rattle.xm_program.specs.Requests.{AnswersWords, Asked, Asks, IsGranted, IsOfWords, IsRequest, IsTold, IsUnread, Meets, answer_of, are_apart, asked_in, asked_of, asked_texts, can_write, carried_by, carried_day_in, carry_app, check_app, concurrency_in, count_in, count_rule, day, day_app, day_in, named_day, failure_status, file_rule, is_file, is_one_path, outputs, path_rule, run_app, top_app, with_options};
 
 use crate::concurrency::{Concurrency, concurrency_of};
 use crate::count::Count;
@@ -12,12 +13,12 @@ use clap::{Arg, ArgAction, ArgMatches, Command, Error, value_parser};
 use std::alloc::Global;
 use std::io;
 use strsim::osa_distance;
-use xm_day::DayFault;
+use xm_day::{AskedTexts, DayFault};
 use xm_memory::OutOfMemory;
 use xm_segment::MAX_WORKERS;
 
 /// What `--version` prints behind the name; the script `xetra-day` reads it here.
-const VERSION: &str = "0.2.0";
+const VERSION: &str = "0.3.0";
 
 const PROGRAM: &str = "xetra-day";
 
@@ -100,8 +101,9 @@ const CARRY_HELP: &str =
 
 The statement goes to standard output, and then the carry file of the next day to OUT: the orders
 and stops that are valid beyond the day. OUT is made, empty, before any file is read. Where it is
-one of the files that are read, that is a failed write, and nothing is touched. docs/FORMATS.md
-tells all of the files that are read and written. Before the first day nothing was left:
+one of the files that are read, that is a failed write, and nothing is touched. The texts of
+`xetra-day run` may go beside the statement here too. docs/FORMATS.md tells all of the files that
+are read and written. Before the first day nothing was left:
 
 none.csv:
 
@@ -114,13 +116,15 @@ xetra-day carry tuesday.toml left.csv tuesday.csv left_again.csv";
 
 const ANSWERS: &str = "answers";
 
+const TRADES: &str = "trades";
+
 const DEPTH: &str = "depth";
 
 /// By this word a file is standard output, where the statement goes.
 const STANDARD_OUTPUT: &str = "-";
 
 const CANNOT_TELL: &str =
-    "--answers and --depth go with one worker, and with a file each: standard output has the statement";
+    "--answers, --trades and --depth go with one worker, and with a file each: standard output has the statement";
 
 const CANNOT_SHARE: &str =
     "--threads goes with one worker: each of several takes its rows on a thread of its own";
@@ -137,6 +141,14 @@ With a record that has a free text, as an order file of version 2 may have it, i
 file is made before any file is read, and written behind the statement. docs/FORMATS.md tells of
 each field. It goes with one worker.";
 
+const TRADES_SHORT: &str = "Writes each trade, and the row that set it off, to this file (CSV)";
+
+const TRADES_HELP: &str = "Writes each trade, and the row that set it off, to this file (CSV)
+
+A line a trade, in the order of the rows: record,security,sweep,kind,price,quantity,buyer,
+buy_reference,seller,sell_reference,text. The file is made before any file is read, and written
+behind the statement and the answers. docs/FORMATS.md tells of each field. It goes with one worker.";
+
 const DEPTH_SHORT: &str =
     "Writes the best levels of both sides, behind each row that changed them, to this file (CSV)";
 
@@ -145,7 +157,7 @@ const DEPTH_HELP: &str =
 
 Five limits of each side with the units that rest at them, and the units of market orders, as far as
 they are active in the phase. The file is made before any file is read, and written behind the
-statement and the answers. docs/FORMATS.md tells of each field. It goes with one worker.";
+statement, the answers and the trades. docs/FORMATS.md tells of each field. It goes with one worker.";
 
 const WORKERS_SHORT: &str = "How many workers take the rows of members, side by side";
 
@@ -180,35 +192,91 @@ const STATUS_HELP: &str = "Exit status:
 /// What a command line asks for.
 #[derive(Debug, Drop)]
 pub enum Request<'a> {
-    /// The statement of the day in two files, which are given by their paths, and whose rows are taken so.
-    Run {
-        segment: &'a str,
-        orders: &'a str,
-        concurrency: Concurrency,
-    },
-    /// The same in the order of the file, on so many threads, with the answers to the rows, the levels behind them, or both, in
-    /// files at paths of their own.
-    RunTold {
-        segment: &'a str,
-        orders: &'a str,
-        answers: Option<&'a str>,
-        depth: Option<&'a str>,
-        threads: Count,
-    },
-    /// The statement of the day in two files that opens with a carry file, and, in a file of its own, the carry file of the next day.
-    Carry {
-        segment: &'a str,
-        carried: &'a str,
-        orders: &'a str,
-        keep: &'a str,
-        concurrency: Concurrency,
-    },
+    /// A day.
+    Day(DayRequest<'a>),
     /// The check of a segment file, which is given by its path.
-    Check {
-        segment: &'a str,
-    },
+    Check { segment: &'a str },
     /// A help text, or the version.
     Help(Error),
+}
+
+/// A day, by the paths of its files and by how its rows are taken.
+#[derive(Clone, Copy, Debug)]
+pub struct DayRequest<'a> {
+    pub segment: &'a str,
+    pub orders: &'a str,
+    /// What goes from earlier days to the next one, if it does.
+    pub carrying: Option<Carrying<'a>>,
+    pub concurrency: Concurrency,
+    pub texts: TextPaths<'a>,
+}
+
+/// The paths of the carry file that a day opens with, and of the one that it writes.
+#[derive(Clone, Copy, Debug)]
+pub struct Carrying<'a> {
+    pub from: &'a str,
+    pub to: &'a str,
+}
+
+/// The paths of the texts beside a statement, as far as these are asked for.
+#[derive(Clone, Copy, Debug)]
+pub struct TextPaths<'a> {
+    /// Of the answers to its rows.
+    pub answers: Option<&'a str>,
+    /// Of their trades.
+    pub trades: Option<&'a str>,
+    /// Of the levels behind them.
+    pub depth: Option<&'a str>,
+}
+
+impl<'a> DayRequest<'a> {
+    /// The files that the day is written to beside standard output, in the order in which they are.
+    pub(crate) fn outputs(&self) -> [Option<&'a str>; 4]
+        ensures { map (option_map (λ s. s.now)) result ≡ outputs (named_day self.now) }
+    {
+        let TextPaths {
+            answers,
+            trades,
+            depth,
+        } = self.texts;
+        let carry = match self.carrying {
+            Some(Carrying { to, .. }) => Some(to),
+            None => None,
+        };
+        [answers, trades, depth, carry]
+    }
+
+    /// The files that the day is read from.
+    pub(crate) fn inputs(&self) -> [Option<&'a str>; 3] {
+        let carry = match self.carrying {
+            Some(Carrying { from, .. }) => Some(from),
+            None => None,
+        };
+        [Some(self.segment), carry, Some(self.orders)]
+    }
+
+    /// The texts beside its statement that are asked for.
+    pub(crate) fn asked(&self) -> AskedTexts
+        ensures { result ≡ asked_texts (named_day self.now) }
+    {
+        AskedTexts {
+            answers: self.texts.answers.is_some(),
+            trades: self.texts.trades.is_some(),
+            depth: self.texts.depth.is_some(),
+        }
+    }
+
+    /// Whether the day can be written.
+    fn can_be_written(&self) -> bool
+        ensures { result ≡ can_write (named_day self.now) }
+    {
+        let asked = self.asked();
+        let can_tell = match self.concurrency {
+            Concurrency::Threads(_) => true,
+            Concurrency::Workers(_) => !(asked.answers || asked.trades || asked.depth),
+        };
+        can_tell && are_apart(&self.outputs())
+    }
 }
 
 /// Why the program ends without what it was asked for.
@@ -321,7 +389,7 @@ fn answer<'a>(error: Error) -> Result<Request<'a>, Failure>
     }
 }
 
-/// The run or the check that the words ask for.
+/// The day or the check that the words ask for.
 fn read_request<'a>(
     alloc: Global,
     mut command: Command<'a>,
@@ -358,156 +426,90 @@ fn command_at_hand<'a>(
 /// Why nothing can be done that was met.
 fn why_not(matches: &ArgMatches<'_>) -> &'static str {
     match matches.subcommand() {
-        Some((name, values)) => {
+        Some((_, values)) => {
             if concurrency_in(values).is_none() {
                 CANNOT_SHARE
-            } else if name == CARRY {
-                CANNOT_KEEP
-            } else {
+            } else if is_file(path_in(values, KEEP)) {
                 CANNOT_TELL
+            } else {
+                CANNOT_KEEP
             }
         }
         None => CANNOT_TELL,
     }
 }
 
-/// The run or the check that was met.
+/// The day or the check that was met.
 fn request_in<'a>(matches: &ArgMatches<'a>) -> Option<Request<'a>>
-    ensures some { IfSome result (IsRequest (asked_in (subcommand_rows_of matches.now))) }
-    ensures none { result ≡ None → asked_in (subcommand_rows_of matches.now) ≡ None }
+    ensures { Meets (asked_in (subcommand_rows_of matches.now)) result }
 {
     let (name, values) = matches.subcommand()?;
-    let segment = values.get_str(SEGMENT)?;
     match name {
-        RUN => run_in(
-            values,
-            segment,
-            values.get_str(ORDERS)?,
-            concurrency_in(values)?,
-        ),
-        CARRY => carry_in(
-            values,
-            segment,
-            values.get_str(ORDERS)?,
-            concurrency_in(values)?,
-        ),
-        CHECK => Some(Request::Check { segment }),
+        RUN => day_in(values, &None),
+        CARRY => carried_day_in(values),
+        CHECK => Some(Request::Check {
+            segment: path_in(values, SEGMENT)?,
+        }),
         _ => None,
     }
 }
 
-/// The run of two files among the values of a run.
-fn run_in<'a>(
-    values: &ArgMatches<'a>,
-    segment: &'a str,
-    orders: &'a str,
-    concurrency: Concurrency,
-) -> Option<Request<'a>>
-    ensures some { IfSome result (IsRequest (run_to segment.now orders.now concurrency (first_of (codes "answers") (rows_of (found_of values.now))) (first_of (codes "depth") (rows_of (found_of values.now))))) }
-    ensures none { result ≡ None → run_to segment.now orders.now concurrency (first_of (codes "answers") (rows_of (found_of values.now))) (first_of (codes "depth") (rows_of (found_of values.now))) ≡ None }
+/// The day among the values of a subcommand, which goes on so from earlier ones, if it can be written.
+fn day_in<'a>(values: &ArgMatches<'a>, carrying: &Option<Carrying<'a>>) -> Option<Request<'a>>
+    ensures { Meets (option_map day (day_in (option_map carried_by carrying.now) (rows_of (found_of values.now)))) result }
 {
-    let answers = values.get_str(ANSWERS);
-    let depth = values.get_str(DEPTH);
-    run_to(segment, orders, concurrency, answers, depth)
-}
-
-/// The run of two files, with the texts beside its statement for which there are paths.
-fn run_to<'a>(
-    segment: &'a str,
-    orders: &'a str,
-    concurrency: Concurrency,
-    answers: Option<&'a str>,
-    depth: Option<&'a str>,
-) -> Option<Request<'a>>
-    ensures some { IfSome result (IsRequest (run_to segment.entry.now orders.entry.now concurrency (option_map (λ s. s.now) answers.entry) (option_map (λ s. s.now) depth.entry))) }
-    ensures none { result ≡ None → run_to segment.entry.now orders.entry.now concurrency (option_map (λ s. s.now) answers.entry) (option_map (λ s. s.now) depth.entry) ≡ None }
-{
-    match answers {
-        None => match depth {
-            None => Some(Request::Run {
-                segment,
-                orders,
-                concurrency,
-            }),
-            Some(_) => told_run(segment, orders, concurrency, answers, depth),
+    let day = DayRequest {
+        segment: path_in(values, SEGMENT)?,
+        orders: path_in(values, ORDERS)?,
+        carrying: *carrying,
+        concurrency: concurrency_in(values)?,
+        texts: TextPaths {
+            answers: path_in(values, ANSWERS),
+            trades: path_in(values, TRADES),
+            depth: path_in(values, DEPTH),
         },
-        Some(_) => told_run(segment, orders, concurrency, answers, depth),
-    }
-}
-
-/// The run of two files with texts beside its statement, if they can be told.
-fn told_run<'a>(
-    segment: &'a str,
-    orders: &'a str,
-    concurrency: Concurrency,
-    answers: Option<&'a str>,
-    depth: Option<&'a str>,
-) -> Option<Request<'a>>
-    ensures some { IfSome result (IsRequest (told_run segment.entry.now orders.entry.now concurrency (option_map (λ s. s.now) answers.entry) (option_map (λ s. s.now) depth.entry))) }
-    ensures none { result ≡ None → told_run segment.entry.now orders.entry.now concurrency (option_map (λ s. s.now) answers.entry) (option_map (λ s. s.now) depth.entry) ≡ None }
-{
-    let Concurrency::Threads(threads) = concurrency else {
-        return None;
     };
-    if can_tell(answers, depth) {
-        Some(Request::RunTold {
-            segment,
-            orders,
-            answers,
-            depth,
-            threads,
-        })
+    if day.can_be_written() {
+        Some(Request::Day(day))
     } else {
         None
     }
 }
 
-/// The run of two files among the values of a run that opens with a carry file, and writes one.
-fn carry_in<'a>(
-    values: &ArgMatches<'a>,
-    segment: &'a str,
-    orders: &'a str,
-    concurrency: Concurrency,
-) -> Option<Request<'a>>
-    ensures some { IfSome result (IsRequest (carry_to segment.now orders.now concurrency (first_of (codes "IN") (rows_of (found_of values.now))) (first_of (codes "OUT") (rows_of (found_of values.now))))) }
-    ensures none { result ≡ None → carry_to segment.now orders.now concurrency (first_of (codes "IN") (rows_of (found_of values.now))) (first_of (codes "OUT") (rows_of (found_of values.now))) ≡ None }
+/// The day among the values of a subcommand that has the paths of two carry files.
+fn carried_day_in<'a>(values: &ArgMatches<'a>) -> Option<Request<'a>>
+    ensures { Meets (option_map day (carried_day_in (rows_of (found_of values.now)))) result }
 {
-    let carried = values.get_str(CARRIED);
-    let keep = values.get_str(KEEP);
-    carry_to(segment, orders, concurrency, carried, keep)
+    let from = path_in(values, CARRIED)?;
+    let to = path_in(values, KEEP)?;
+    day_in(values, &Some(Carrying { from, to }))
 }
 
-/// The run of two files that opens with a carry file and writes one, if there are paths for these.
-fn carry_to<'a>(
-    segment: &'a str,
-    orders: &'a str,
-    concurrency: Concurrency,
-    carried: Option<&'a str>,
-    keep: Option<&'a str>,
-) -> Option<Request<'a>>
-    ensures some { IfSome result (IsRequest (carry_to segment.entry.now orders.entry.now concurrency (option_map (λ s. s.now) carried.entry) (option_map (λ s. s.now) keep.entry))) }
-    ensures none { result ≡ None → carry_to segment.entry.now orders.entry.now concurrency (option_map (λ s. s.now) carried.entry) (option_map (λ s. s.now) keep.entry) ≡ None }
+/// The path that has this name among the values of a subcommand.
+fn path_in<'a>(values: &ArgMatches<'a>, name: &str) -> Option<&'a str>
+    ensures { option_map (λ s. s.now) result ≡ first_of name.now (rows_of (found_of values.now)) }
 {
-    let carried = carried?;
-    let keep = keep?;
-    if is_file(Some(keep)) {
-        Some(Request::Carry {
-            segment,
-            carried,
-            orders,
-            keep,
-            concurrency,
-        })
-    } else {
-        None
+    values.get_str(name)
+}
+
+/// Whether no two of these paths are the same, and none is that of standard output.
+fn are_apart(paths: &[Option<&str>]) -> bool
+    ensures { result ≡ are_apart (map (option_map (λ s. s.now)) paths.now) }
+{
+    match paths {
+        [] => true,
+        [path, others @ ..] => { is_file(*path) && !is_among(*path, others) && are_apart(others) }
     }
 }
 
-/// Whether texts can be told in files at these paths: not on standard output, and not two in one file.
-fn can_tell(answers: Option<&str>, depth: Option<&str>) -> bool
-    ensures { result ≡ can_tell (option_map (λ s. s.now) answers.entry) (option_map (λ s. s.now) depth.entry) }
+/// Whether a path, if there is one, is among others.
+fn is_among(path: Option<&str>, others: &[Option<&str>]) -> bool
+    ensures { result ≡ list_any (is_one_path (option_map (λ s. s.now) path.entry)) (map (option_map (λ s. s.now)) others.now) }
 {
-    is_file(answers) && is_file(depth) && !is_one_path(answers, depth)
+    match others {
+        [] => false,
+        [other, others @ ..] => is_one_path(path, *other) || is_among(path, others),
+    }
 }
 
 /// Whether a path, if there is one, isn't that of standard output.
@@ -600,12 +602,8 @@ fn run_command<'a>(alloc: Global) -> Result<Command<'a>, OutOfMemory>
 {
     let command = titled(alloc, RUN, RUN_SHORT, RUN_HELP)
         .arg(path(alloc, SEGMENT, SEGMENT_HELP))?
-        .arg(path(alloc, ORDERS, ORDERS_HELP))?
-        .arg(count(alloc, WORKERS, WORKERS_SHORT, WORKERS_HELP))?
-        .arg(count(alloc, THREADS, THREADS_SHORT, THREADS_HELP))?
-        .arg(file(alloc, ANSWERS, ANSWERS_SHORT, ANSWERS_HELP))?
-        .arg(file(alloc, DEPTH, DEPTH_SHORT, DEPTH_HELP))?;
-    Ok(command)
+        .arg(path(alloc, ORDERS, ORDERS_HELP))?;
+    with_options(alloc, command)
 }
 
 /// The part of the command line that runs a day with a carry file, and writes one.
@@ -617,9 +615,22 @@ fn carry_command<'a>(alloc: Global) -> Result<Command<'a>, OutOfMemory>
         .arg(path(alloc, SEGMENT, SEGMENT_HELP))?
         .arg(path(alloc, CARRIED, CARRIED_HELP))?
         .arg(path(alloc, ORDERS, ORDERS_HELP))?
-        .arg(path(alloc, KEEP, KEEP_HELP))?
+        .arg(path(alloc, KEEP, KEEP_HELP))?;
+    with_options(alloc, command)
+}
+
+/// The same part, with the options of a day.
+fn with_options<'a>(alloc: Global, command: Command<'a>) -> Result<Command<'a>, OutOfMemory>
+    requires { (fields_of command).has_globals ≡ false }
+    ensures app { IfOk result (λ with. app_of with ≡ with_options (app_of command.entry)) }
+    ensures local { IfOk result (λ with. (fields_of with).has_globals ≡ false) }
+{
+    let command = command
         .arg(count(alloc, WORKERS, WORKERS_SHORT, WORKERS_HELP))?
-        .arg(count(alloc, THREADS, THREADS_SHORT, THREADS_HELP))?;
+        .arg(count(alloc, THREADS, THREADS_SHORT, THREADS_HELP))?
+        .arg(file(alloc, ANSWERS, ANSWERS_SHORT, ANSWERS_HELP))?
+        .arg(file(alloc, TRADES, TRADES_SHORT, TRADES_HELP))?
+        .arg(file(alloc, DEPTH, DEPTH_SHORT, DEPTH_HELP))?;
     Ok(command)
 }
 

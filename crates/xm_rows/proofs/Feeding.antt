@@ -3,7 +3,7 @@ use Rattle.std.proofs.Common.{◌≡◌, ℕ, suc, zero, ◌+◌, ◌<◌, ◌�
 use Rattle.std.proofs.lemmas.List.{append-nil, length-take-le, map-append, map-set, take_more}
 use Rattle.std.proofs.lemmas.Option.{slice_get-map, slice_get_past, slice_get_read}
 use Rattle.xm_rows.proofs.Days.{after_rows-append}
-use Rattle.xm_rows.proofs.Tells.{state-behind}
+use Rattle.xm_rows.proofs.Tells.{state-behind, told_of_rows-append}
 use Rattle.xm_rows.specs.Day.{Day as TheDay, after_row, after_rows, answered, counted, day, day_of, on_security, opening_day}
 use Rattle.xm_rows.specs.Feeds.{Feed, feed_after, feed_of, feed_shows, next_feed}
 use Rattle.xm_rows.specs.MarketDepth.{change_lines, depth_header, depths_of, limit_line, limit_lines, market_depth, told_change, told_depth}
@@ -132,13 +132,6 @@ next-told names d row f is = by_state (slice_get d.states row.security) refl
 
 -- ---- the feed of rows
 
--- the levels behind some rows, and behind more
-pub depths_of-append : (names : NameLists) (d : TheDay) (rows more : List Row) → depths_of names d (rows ++ more) ≡ depths_of names d rows ++ depths_of names (after_rows d rows) more
-depths_of-append names d [] more = refl
-depths_of-append names d (row ∷ rows) more =
-    ap (λ (text : List ℕ). told_depth names d row ++ text) (depths_of-append names (after_row d row) rows more)
-    ∙ sym (append_assoc (told_depth names d row) (depths_of names (after_row d row) rows) (depths_of names (after_rows (after_row d row) rows) more))
-
 feed_after-append : (names : NameLists) (d : TheDay) (rows more : List Row) (f : Feed) → feed_after names d (rows ++ more) f ≡ feed_after names (after_rows d rows) more (feed_after names d rows f)
 feed_after-append names d [] more f = refl
 feed_after-append names d (row ∷ rows) more f = feed_after-append names (after_row d row) rows more (next_feed names row (slice_get (after_row d row).states row.security) f)
@@ -191,7 +184,7 @@ feed-joined asked names config taken rows at before after so_far is next = next 
     whole =
         fed names (day config taken) rows (feed_of names config taken) refl
         ∙ ap₂ (λ (text : List ℕ) (d : TheDay). record { text = text; shown = map market_depth d.states })
-        (append_assoc depth_header (depths_of names begun taken) (depths_of names (day config taken) rows) ∙ ap (λ (text : List ℕ). depth_header ++ text) (sym (depths_of-append names begun taken rows)))
+        (append_assoc depth_header (depths_of names begun taken) (depths_of names (day config taken) rows) ∙ ap (λ (text : List ℕ). depth_header ++ text) (sym (told_of_rows-append (told_depth names) begun taken rows)))
         (sym (after_rows-append begun taken rows))
 
     go : (b : Bool) → option_map (feed_after names at rows) (where_asked b (feed_of names config taken)) ≡ where_asked b (feed_of names config (taken ++ rows))

@@ -52,6 +52,15 @@ answer_on row (Some s) = answer_by s row.command (refusal_of s row.command)
 abbrev pub row_answer : List State → Row → Result Reply Refusal
 row_answer states row = answer_on row (slice_get states row.security)
 
+-- what a day tells of a row: by the row and its text, the answer to it, and the state of its security behind it
+abbrev pub told_behind : (Row → List ℕ → Result Reply Refusal → Option State → List ℕ) → (ℕ → List ℕ) → Day → Row → List ℕ
+told_behind tells texts d row = tells row (texts row.line) (row_answer d.states row) (slice_get (after_row d row).states row.security)
+
+-- of rows that it takes one after another, by what it tells of one
+abbrev pub told_of_rows : (Day → Row → List ℕ) → Day → List Row → List ℕ
+told_of_rows told d [] = []
+told_of_rows told d (row ∷ rows) = told d row ++ told_of_rows told (after_row d row) rows
+
 -- the day with one row more counted, which was answered so
 abbrev pub counted : Day → Result Reply Refusal → Day
 counted d (Ok reply) = record d { accepted = d.accepted + 1 }

@@ -3,7 +3,7 @@ use Rattle.std.specs.Prelude.{codes, ℕ, suc, zero, ◌==◌, Bool, ◌&&◌, i
 use Rattle.std.specs.Cmp.Lexicographic.{pointwise}
 use Rattle.std.specs.Fmt.{decimal}
 use Rattle.std.specs.Option.{option_eq}
-use Rattle.xm_rows.specs.Day.{Day, after_row, opening_day}
+use Rattle.xm_rows.specs.Day.{Day, after_row, opening_day, told_of_rows}
 use Rattle.xm_statement.specs.Statement.{name_at, side_word}
 use Rattle.xm_rows.specs.declared.depth.MarketDepth.{MarketDepth}
 use Rattle.xm_rows.specs.declared.depth.SideDepth.{SideDepth}
@@ -87,8 +87,7 @@ told_depth names d row = told_change names row (slice_get d.states row.security)
 
 -- those of rows that it takes one after another
 abbrev pub depths_of : NameLists → Day → List Row → List ℕ
-depths_of names d [] = []
-depths_of names d (row ∷ rows) = told_depth names d row ++ depths_of names (after_row d row) rows
+depths_of names d rows = told_of_rows (told_depth names) d rows
 
 abbrev pub depth_header : List ℕ
 depth_header = codes "record,security,side,rank,limit,quantity\n"

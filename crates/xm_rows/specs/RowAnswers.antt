@@ -1,8 +1,8 @@
 -- What a day tells of its rows: of each the answer, and the market after it.
-use Rattle.std.specs.Prelude.{codes, ℕ, pos, ◌*◌, ◌==◌, Bool, true, false, if◌then◌else◌, List, [], ◌∷◌, ◌++◌, slice_get, Option, Some, None, Result, Ok, Err}
+use Rattle.std.specs.Prelude.{codes, ℕ, pos, ◌*◌, ◌==◌, Bool, true, false, if◌then◌else◌, List, [], ◌∷◌, ◌++◌, Option, Some, None, Result, Ok, Err}
 use Rattle.std.specs.List.{flat_map, list_any}
 use Rattle.std.specs.Fmt.{decimal}
-use Rattle.xm_rows.specs.Day.{Day, after_row, opening_day, row_answer}
+use Rattle.xm_rows.specs.Day.{Day, opening_day, told_behind, told_of_rows}
 use Rattle.xm_statement.specs.Statement.{name_at, phase_word}
 use Rattle.xm_desk.specs.Shown.{level_in, units_left}
 use Rattle.xm_files.specs.Names.{NameLists}
@@ -103,13 +103,11 @@ answer_line names row text answer state = record_line row text (security_fields 
 
 -- the line of a row that a day takes, where records have these texts by their numbers
 abbrev pub told_of : NameLists → (ℕ → List ℕ) → Day → Row → List ℕ
-told_of names texts d row =
-    answer_line names row (texts row.line) (row_answer d.states row) (slice_get (after_row d row).states row.security)
+told_of names texts d row = told_behind (answer_line names) texts d row
 
 -- those of rows that it takes one after another
 abbrev pub answers_of : NameLists → (ℕ → List ℕ) → Day → List Row → List ℕ
-answers_of names texts d [] = []
-answers_of names texts d (row ∷ rows) = told_of names texts d row ++ answers_of names texts (after_row d row) rows
+answers_of names texts d rows = told_of_rows (told_of names texts) d rows
 
 abbrev pub answers_header : List ℕ
 answers_header =

@@ -4,6 +4,7 @@ use Rattle.std.specs.Bool.{OnFalse, OnTrue}
 use Rattle.xm_rows.specs.Day.{Day, LacksMemoryAt, day, day_of, opening_day}
 use Rattle.xm_rows.specs.Feeds.{feed_of}
 use Rattle.xm_rows.specs.RowAnswers.{answers_text, where_asked}
+use Rattle.xm_rows.specs.RowTrades.{trades_text}
 use Rattle.xm_rows.specs.declared.desks.OpenDay.{OpenDay}
 use Rattle.xm_rows.specs.declared.faults.DayFault.{DayFault}
 use Rattle.xm_rows.specs.declared.faults.DayFault.TheVariants.{Open, OutOfMemory}
@@ -32,11 +33,13 @@ IsOpenFault config fault = segment_fault config ≡ Some fault
 -- the statement alone is asked for
 pub record AsksNothing (asked : AskedTexts) : Type 0 where
   pub answers : asked.answers ≡ false
+  pub trades : asked.trades ≡ false
   pub depth : asked.depth ≡ false
 
 -- nothing is told beside it
 pub record TellsNothing (told : Told) : Type 0 where
   pub answers : told.answers ≡ None
+  pub trades : told.trades ≡ None
   pub depth : told.depth ≡ None
 
 -- desks have taken these rows of an order file of these bytes in their order: their day is that of the rows, and so are the texts that are asked for
@@ -46,6 +49,7 @@ pub record TookRows (asked : AskedTexts) (names : NameLists) (orders : List ℕ)
   pub day_is : day_of d.desks.items d.report.accepted d.report.refused ≡ day config rows
   pub all : d.report.accepted + d.report.refused ≡ length rows
   pub answers_are : d.told.answers ≡ where_asked asked.answers (answers_text names config orders rows)
+  pub trades_are : d.told.trades ≡ where_asked asked.trades (trades_text names config orders rows)
   pub depth_is : d.told.depth ≡ where_asked asked.depth (feed_of names config rows)
 
 -- the desks have taken these rows, unless the segment can't be opened or memory is wanting, where nothing is asked for at one

@@ -1,14 +1,14 @@
 //! The answers to rows, line by line.
-ghost use Rattle.std.specs.Prelude.{◌≡◌, ◌*◌, ◌++◌, map, option_map, pos, slice_get, true, IfOk, Some, OnErr, OnOk};
-ghost use Rattle.xm_rows.specs.RowAnswers.{answer_fields, answer_line, answer_word, answers_header, market_fields, number_field, priced_fields, reply_fields, rest_named, security_fields, unknown_fields, where_asked};
+ghost use Rattle.std.specs.Prelude.{◌≡◌, ◌≢◌, ◌*◌, ◌++◌, map, option_map, pos, slice_get, true, IfOk, None, Some, OnErr, OnOk};
+ghost use Rattle.xm_rows.specs.RowAnswers.{answer_fields, answer_line, answer_word, answers_header, market_fields, number_field, priced_fields, reply_fields, rest_named, security_fields, unknown_fields, where_asked, with_text};
+ghost use Rattle.xm_files.specs.RecordTexts.{text_of_record};
 ghost use Rattle.xm_rules.specs.Step.{replay};
 ghost use Rattle.xm_ticks.specs.Writing.{money_text};
 
+use crate::lines::{Lines, begun};
 use crate::quoted::push_field;
-use crate::told::begun;
 use crate::words::refusal_word;
 use std::alloc::{Allocator, Global};
-use std::marker::Model;
 use xm_desk::Desk;
 use xm_files::{RecordTexts, SegmentNames};
 use xm_memory::OutOfMemory;
@@ -21,84 +21,29 @@ use xm_statement::words::phase_word;
 use xm_ticks::{Price, TickSize};
 
 /// The names of the fields.
-const HEADER: &str =
+pub(crate) const HEADER: &str =
     "record,security,answer,version,phase,first_trade,trades,quantity,money,rest,best_buy,buy_quantity,best_sell,sell_quantity,last,auction,indicative,indicative_quantity,text\n";
 
-/// The text of the answers so far, where they are asked for. A clause sees the text.
-#[derive(Drop)]
-pub struct Answers {
-    text: Option<Vec<u8>>,
-}
-
-impl Model for Answers {
-    ghost use Rattle.std.specs.Prelude.{ℕ, List, Option, option_map};
-
-    ghost Value = { Option (List ℕ) };
-
-    ghost view = { λ a. option_map (λ text. text.items) a.text };
-}
-
-impl Answers {
-    ghost use Rattle.std.specs.Prelude.{◌≡◌, ◌≢◌, [], map, option_map, slice_get, unwrap_or, None, true, IfOk, OnErr, OnOk};
-    ghost use Rattle.xm_rows.specs.RowAnswers.{answer_line, answers_header, where_asked, with_text};
-    ghost use Rattle.xm_files.specs.RecordTexts.{text_of_record};
-    ghost use Rattle.xm_rules.specs.Step.{replay};
-
-    /// None are asked for.
-    pub(crate) fn unasked() -> Answers
-        ensures { result ≡ None }
-    {
-        Answers { text: None }
-    }
-
-    /// The answers to no row: the header, if they are asked for.
-    pub(crate) fn of(alloc: Global, asked: bool) -> Result<Answers, OutOfMemory>
-        ensures begun { IfOk result (λ answers. answers ≡ where_asked asked answers_header) }
-        ensures asked { OnErr result (asked ≡ true) }
-    {
-        Ok(Answers {
-            text: begun_answers(alloc, asked)?,
-        })
-    }
-
-    /// This text of answers, where there is one.
-    pub fn behind(text: Option<Vec<u8>>) -> Answers
-        ensures { result ≡ option_map (λ told. told.items) text }
-    {
-        Answers { text }
-    }
-
-    /// Adds the line of a row that was answered so by the desks, which have taken it. The texts are those of its file.
-    #[inline(always)]
-    pub(crate) fn tell<A: Allocator + Copy>(
-        &mut self,
-        names: &SegmentNames,
-        texts: &mut RecordTexts<'_>,
-        desks: &[Desk<A>],
-        row: &Row,
-        answer: &Result<Reply, Refusal>,
-    ) -> Result<(), OutOfMemory>
-        ensures told { OnOk result (self.new ≡ with_text (answer_line names.now row.now (text_of_record texts.old.orders row.now.line) answer.now (slice_get (map replay desks.now) row.now.security)) self.old) }
-        ensures texts { texts.new.orders ≡ texts.old.orders }
-        ensures asked { OnErr result (self.old ≢ None) }
-    {
-        let Some(text) = &mut self.text else {
-            return Ok(());
-        };
-        texts.read(row.line)?;
-        push_answer(text, names, desks, row, texts.text(), answer)?;
-        Ok(())
-    }
-
-    /// The text, which is empty where none was asked for.
-    pub fn into_text(self, alloc: Global) -> Vec<u8>
-        ensures { result.items ≡ unwrap_or self [] }
-    {
-        match self.text {
-            None => Vec::new(alloc),
-            Some(text) => text,
-        }
-    }
+/// Adds the line of a row that was answered so by the desks, which have taken it. The texts are those of its file.
+#[inline(always)]
+pub(crate) fn tell_answer<A: Allocator + Copy>(
+    lines: &mut Lines,
+    names: &SegmentNames,
+    texts: &mut RecordTexts<'_>,
+    desks: &[Desk<A>],
+    row: &Row,
+    answer: &Result<Reply, Refusal>,
+) -> Result<(), OutOfMemory>
+    ensures told { OnOk result (lines.new ≡ with_text (answer_line names.now row.now (text_of_record texts.old.orders row.now.line) answer.now (slice_get (map replay desks.now) row.now.security)) lines.old) }
+    ensures texts { texts.new.orders ≡ texts.old.orders }
+    ensures asked { OnErr result (lines.old ≢ None) }
+{
+    let Some(text) = &mut lines.text else {
+        return Ok(());
+    };
+    texts.read(row.line)?;
+    push_answer(text, names, desks, row, texts.text(), answer)?;
+    Ok(())
 }
 
 /// The answers to no row: the header, if they are asked for.

@@ -4,7 +4,7 @@ ghost use Rattle.xm_rows.specs.MarketDepth.{change_lines, depth_header, level_li
 ghost use Rattle.xm_rows.specs.RowAnswers.{where_asked};
 ghost use Rattle.xm_rules.specs.Step.{replay};
 
-use crate::told::begun;
+use crate::lines::begun;
 use std::alloc::{Allocator, Global};
 use std::marker::Model;
 use xm_desk::Desk;

@@ -4,6 +4,7 @@ ghost use Rattle.xm_rows.specs.Taken.{HasTaken, TellsNothing};
 ghost use Rattle.xm_rows.specs.Day.{Accepts, LacksMemoryAt, after_row, after_rows, counted, day_of, row_answer};
 ghost use Rattle.xm_rows.specs.Feeds.{feed_after};
 ghost use Rattle.xm_rows.specs.RowAnswers.{answers_of, with_text};
+ghost use Rattle.xm_rows.specs.RowTrades.{trades_of};
 ghost use Rattle.xm_rows.specs.declared.report.AskedTexts.{AskedTexts};
 ghost use Rattle.xm_files.specs.Names.{NameLists};
 ghost use Rattle.xm_files.specs.RecordTexts.{text_of_record};
@@ -89,6 +90,7 @@ fn take_rows<A: Allocator + Copy>(
     ensures taken { IfOk result (λ report. day_of desks.new report.accepted report.refused ≡ after_rows (day_of desks.old before.accepted before.refused) rows.now) }
     ensures counted { IfOk result (λ report. report.accepted + report.refused ≡ before.accepted + before.refused + length rows.now) }
     ensures answers { OnOk result (told.new.answers ≡ with_text (answers_of names.now (text_of_record texts.old.orders) (day_of desks.old before.accepted before.refused) rows.now) told.old.answers) }
+    ensures trades { OnOk result (told.new.trades ≡ with_text (trades_of names.now (text_of_record texts.old.orders) (day_of desks.old before.accepted before.refused) rows.now) told.old.trades) }
     ensures depth { OnOk result (told.new.depth ≡ option_map (feed_after names.now (day_of desks.old before.accepted before.refused) rows.now) told.old.depth) }
     ensures texts { texts.new.orders ≡ texts.old.orders }
     ensures memory { OnErr result (TellsNothing told.old → LacksMemoryAt (day_of desks.old before.accepted before.refused) rows.now) }

@@ -12,29 +12,24 @@ pub struct DayReport {
     pub refused: u64,
 }
 
-/// Which texts are asked for beside the statement of a day: the answers to its rows, and the levels behind them.
+/// Which texts are asked for beside the statement of a day: the answers to its rows, their trades, and the levels behind them.
 #[derive(Clone, Copy, PartialEq, Eq, Debug)]
 pub struct AskedTexts {
     pub answers: bool,
+    pub trades: bool,
     pub depth: bool,
-}
-
-/// What a day counts, and the texts that were asked for beside its statement. One that wasn't is empty.
-#[derive(Debug, Drop)]
-pub struct ToldDay {
-    pub report: DayReport,
-    pub answers: Vec<u8>,
-    pub depth: Vec<u8>,
 }
 
 impl AskedTexts {
     /// The statement alone.
     pub fn nothing() -> AskedTexts
         ensures answers { result.answers ≡ false }
+        ensures trades { result.trades ≡ false }
         ensures depth { result.depth ≡ false }
     {
         AskedTexts {
             answers: false,
+            trades: false,
             depth: false,
         }
     }

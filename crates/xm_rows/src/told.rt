@@ -1,27 +1,30 @@
 //! What is told of rows beside the statement of their day.
-ghost use Rattle.std.specs.Prelude.{◌≡◌, true, map, option_map, slice_get, IfOk, OnErr, OnOk};
+ghost use Rattle.std.specs.Prelude.{◌≡◌, map, option_map, slice_get, IfOk, OnErr, OnOk};
 ghost use Rattle.xm_rows.specs.Taken.{AsksNothing, TellsNothing};
 ghost use Rattle.xm_rows.specs.Feeds.{next_feed};
 ghost use Rattle.xm_rows.specs.MarketDepth.{depth_header, market_depth};
 ghost use Rattle.xm_rows.specs.RowAnswers.{answer_line, answers_header, where_asked, with_text};
+ghost use Rattle.xm_rows.specs.RowTrades.{trade_lines, trades_header};
 ghost use Rattle.xm_files.specs.RecordTexts.{text_of_record};
 ghost use Rattle.xm_rules.specs.Step.{replay};
 
-use crate::answers::Answers;
+use crate::answers::{self, tell_answer};
 use crate::depth::Depths;
+use crate::lines::Lines;
 use crate::report::AskedTexts;
+use crate::trades::{self, tell_trades};
 use std::alloc::{Allocator, Global};
 use xm_desk::Desk;
 use xm_files::{RecordTexts, SegmentNames};
 use xm_memory::OutOfMemory;
 use xm_rules::{Refusal, Reply};
 use xm_segment::Row;
-use xm_statement::texts::push_text;
 
 /// The texts so far that are told beside a statement, as far as they are asked for.
 #[derive(Drop)]
 pub struct Told {
-    pub answers: Answers,
+    pub answers: Lines,
+    pub trades: Lines,
     pub depth: Depths,
 }
 
@@ -31,7 +34,8 @@ impl Told {
         ensures { TellsNothing result }
     {
         Told {
-            answers: Answers::unasked(),
+            answers: Lines::unasked(),
+            trades: Lines::unasked(),
             depth: Depths::unasked(),
         }
     }
@@ -43,12 +47,18 @@ impl Told {
         asked: AskedTexts,
     ) -> Result<Told, OutOfMemory>
         ensures answers { IfOk result (λ told. told.answers ≡ where_asked asked.answers answers_header) }
+        ensures trades { IfOk result (λ told. told.trades ≡ where_asked asked.trades trades_header) }
         ensures depth { IfOk result (λ told. told.depth ≡ where_asked asked.depth (record { text = depth_header; shown = map market_depth (map replay desks.now) })) }
         ensures asked { OnErr result (AsksNothing asked → ⊥) }
     {
-        let answers = Answers::of(alloc, asked.answers)?;
+        let answers = Lines::of(alloc, asked.answers, answers::HEADER)?;
+        let trades = Lines::of(alloc, asked.trades, trades::HEADER)?;
         let depth = Depths::of(alloc, desks, asked.depth)?;
-        Ok(Told { answers, depth })
+        Ok(Told {
+            answers,
+            trades,
+            depth,
+        })
     }
 
     /// Adds what is told of a row that was answered so by the desks, which have taken it. The texts are those of its file.
@@ -62,29 +72,14 @@ impl Told {
         answer: &Result<Reply, Refusal>,
     ) -> Result<(), OutOfMemory>
         ensures answers { OnOk result (self.new.answers ≡ with_text (answer_line names.now row.now (text_of_record texts.old.orders row.now.line) answer.now (slice_get (map replay desks.now) row.now.security)) self.old.answers) }
+        ensures trades { OnOk result (self.new.trades ≡ with_text (trade_lines names.now row.now (text_of_record texts.old.orders row.now.line) answer.now (slice_get (map replay desks.now) row.now.security)) self.old.trades) }
         ensures depth { OnOk result (self.new.depth ≡ option_map (next_feed names.now row.now (slice_get (map replay desks.now) row.now.security)) self.old.depth) }
         ensures texts { texts.new.orders ≡ texts.old.orders }
         ensures asked { OnErr result (TellsNothing self.old → ⊥) }
     {
-        self.answers.tell(names, texts, desks, row, answer)?;
+        tell_answer(&mut self.answers, names, texts, desks, row, answer)?;
+        tell_trades(&mut self.trades, names, texts, desks, row, answer)?;
         self.depth.tell(names, desks, row)?;
         Ok(())
     }
-}
-
-/// A text that is its header so far, if it is asked for.
-pub(crate) fn begun(
-    alloc: Global,
-    asked: bool,
-    header: &str,
-) -> Result<Option<Vec<u8>>, OutOfMemory>
-    ensures begun { IfOk result (λ text. option_map (λ told. told.items) text ≡ where_asked asked header.now) }
-    ensures asked { OnErr result (asked ≡ true) }
-{
-    if !asked {
-        return Ok(None);
-    }
-    let mut text = Vec::new(alloc);
-    push_text(&mut text, header)?;
-    Ok(Some(text))
 }

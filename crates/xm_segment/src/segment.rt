@@ -73,12 +73,11 @@ impl<S: Naming> Segment<S> {
         (lanes, own.into_row())
     }
 
-    /// Takes a command on the security with this index, under its lock.
+    /// Takes a command on the security with this index. It may wait while another worker has that security in hand.
     ///
     /// An accepted command raises the seat's three shares of the security by one, its reply's quantity and its money; it is
     /// published with the number of the seat's row, and the row's watch has it as its own. A refused one changes nothing, but the
-    /// watch has seen what it was refused at. The refusals are those of `Desk::apply`, and `UnknownSecurity`, for which no lock is
-    /// taken.
+    /// watch has seen what it was refused at. The refusals are those of `Desk::apply`, and `UnknownSecurity`.
     pub fn submit<R: Wait>(
         &self,
         rt: &R,

@@ -2,7 +2,7 @@
 use Rattle.std.proofs.Common.{◌≡◌, ◌≢◌, ◌==◌, ℕ, zero, suc, ◌+◌, ◌-◌, ◌<◌, ◌≤◌, Bool, true, false, if◌then◌else◌, List, [], ◌∷◌, ◌++◌, length, map, slice_get, set, get_or, fold, take, All, Option, Some, None, Result, Ok, Err, option_map, refl, ap, sym, subst, arith, ◌∙◌}
 use Rattle.std.specs.Result.{IsErrAnd}
 use Rattle.std.proofs.lemmas.Bool.Decides.{nat_tests}
-use Rattle.std.proofs.lemmas.List.{get_or_default, get_or-set_other, get_or-set_same, length-map, length_push}
+use Rattle.std.proofs.lemmas.List.{get_or_default, get_or-set_other, get_or-set_same, length-map, length-set, length_push}
 use Rattle.std.proofs.lemmas.List.Sums.{fold-append, fold_more, sum_by-cons, sum_by-set}
 use Rattle.std.proofs.lemmas.Option.{get_or_from_slice_get, slice_get-get_or, slice_get-map, slice_get_past}
 use Rattle.xm_rows.proofs.Places.{set-there, within-length}
@@ -160,6 +160,20 @@ same-elements (x ∷ xs) (y ∷ ys) each =
     let first : Some x ≡ Some y = each 0 in
     let same : x ≡ y = cc in
     ap (λ z. z ∷ xs) same ∙ ap (λ zs. y ∷ zs) (same-elements xs ys (λ k. each (suc k)))
+
+pub length-row : (js : List Journal) (row : Row) (o : Option Journal) → slice_get js row.security ≡ o → length (all_row js row) ≡ length js
+length-row js row None none = ap (λ (ks : List Journal). length ks) (ap (on_known js row) none)
+length-row js row (Some j) is = ap (λ (ks : List Journal). length ks) (ap (on_known js row) is) ∙ length-set js row.security (journal_after j row.command)
+
+pub length-rows : (js : List Journal) (rows : List Row) → length (all_rows js rows) ≡ length js
+length-rows js [] = refl
+length-rows js (row ∷ rows) = length-rows (all_row js row) rows ∙ length-row js row (slice_get js row.security) refl
+
+pub rows-at : (js : List Journal) (rows : List Row) (k : ℕ) (j : Journal) → k < length js → get_or (all_rows js rows) k j ≡ own_rows k (get_or js k j) rows
+rows-at js rows k j inside = get_or_from_slice_get (all_rows js rows) k (own_rows k (get_or js k j) rows) j (at-rows js rows k ∙ ap (option_map (λ i. own_rows k i rows)) (slice_get-get_or js k j inside))
+
+pub row-at : (js : List Journal) (row : Row) (k : ℕ) (j : Journal) → k < length js → get_or (all_row js row) k j ≡ own_row k (get_or js k j) row
+row-at js row k j inside = rows-at js (row ∷ []) k j inside
 
 -- ---- securities that take their rows
 

@@ -1,32 +1,69 @@
--- Lines that are kept, and one more.
-use Rattle.std.proofs.Common.{◌≡◌, ℕ, zero, suc, ◌+◌, ◌-◌, ◌≤◌, List, [], ◌∷◌, ◌++◌, All, drop, length, map, take, refl, ap, arith, ◌∙◌}
-use Rattle.std.proofs.lemmas.List.{drop-append-le, drop_at, length-drop, take-append-le, take_all}
+-- What is kept, and one more.
+use Rattle.std.proofs.Common.{◌≡◌, ℕ, zero, suc, ◌+◌, ◌-◌, ◌<◌, ◌≤◌, List, [], ◌∷◌, ◌++◌, append_assoc, All, drop, get_or, length, map, slice_range, take, refl, ap, arith, ◌∙◌}
+use Rattle.std.proofs.lemmas.List.{drop-append-le, drop_at, drop_more, get_or-drop, length-drop, take-append-le, take_all, take_more}
 use Rattle.std.proofs.lemmas.List.Elements.{All-tail}
-use Rattle.xm_threads.specs.KeptLines.{line_at}
+use Rattle.xm_threads.specs.KeptRows.{IsPartOf, part_at, row_of_lines}
 use Rattle.xm_threads.specs.declared.kept_lines.Span.{Span}
 
--- a line stays where it is
-line-stays : (text more : List ℕ) (s : Span) → s.begin ≤ s.end → s.end ≤ length text → line_at (text ++ more) s ≡ line_at text s
-line-stays text more s order within =
-    let begins : s.begin ≤ length text = omega (arith, order, within) in
-    let long = length-drop s.begin text in
-    ap (take (s.end - s.begin)) (drop-append-le s.begin text more begins) ∙ take-append-le (s.end - s.begin) (drop s.begin text) more (omega (arith, long, order, within))
+-- a part stays where it is
+part-stays : {A : Type 0} (least : ℕ) (xs more : List A) (s : Span) → IsPartOf least xs s → part_at (xs ++ more) s ≡ part_at xs s
+part-stays least xs more s is =
+    let begins : s.begin ≤ length xs = omega (arith, is.order, is.within) in
+    let long = length-drop s.begin xs in
+    ap (take (s.end - s.begin)) (drop-append-le s.begin xs more begins) ∙ take-append-le (s.end - s.begin) (drop s.begin xs) more (omega (arith, long, is.order, is.within))
 
--- the last line is what was added
-last-line : (text more : List ℕ) (s : Span) → s.begin ≡ length text → s.end ≡ length text + length more → line_at (text ++ more) s ≡ more
-last-line text more s begins ends =
+-- the last part is what was added
+last-part : {A : Type 0} (xs more : List A) (s : Span) → s.begin ≡ length xs → s.end ≡ length xs + length more → part_at (xs ++ more) s ≡ more
+last-part xs more s begins ends =
     let long : length more ≡ s.end - s.begin = omega (arith, begins, ends) in
-    ap (λ (n : ℕ). take (s.end - s.begin) (drop n (text ++ more))) begins ∙ ap (take (s.end - s.begin)) (drop_at text more (length text) refl) ∙ take_all (s.end - s.begin) more (omega (arith, long))
+    ap (λ (n : ℕ). take (s.end - s.begin) (drop n (xs ++ more))) begins ∙ ap (take (s.end - s.begin)) (drop_at xs more (length xs) refl) ∙ take_all (s.end - s.begin) more (omega (arith, long))
 
--- a line more
-pub lines-push : (text more : List ℕ) (spans : List Span) (taken : ℕ) (s : Span) → taken ≤ length spans → All (λ (o : Span). (o.begin ≤ o.end) × (o.end ≤ length text)) spans → s.begin ≡ length text → s.end ≡ length text + length more
-    → map (line_at (text ++ more)) (drop taken (spans ++ s ∷ [])) ≡ map (line_at text) (drop taken spans) ++ more ∷ []
-lines-push text more [] zero s within inside begins ends = ap (λ line. line ∷ []) (last-line text more s begins ends)
-lines-push text more [] (suc n) s within inside begins ends = absurd (omega (arith, within))
-lines-push text more (o ∷ spans) zero s within inside begins ends =
-    let first = inside 0 o (omega arith) in
-    let rest = All-tail (λ (p : Span). (p.begin ≤ p.end) × (p.end ≤ length text)) o spans inside in
-    ap (λ line. line ∷ map (line_at (text ++ more)) (spans ++ s ∷ [])) (line-stays text more o first.0 first.1)
-    ∙ ap (λ lines. line_at text o ∷ lines) (lines-push text more spans zero s (omega arith) rest begins ends)
-lines-push text more (o ∷ spans) (suc n) s within inside begins ends =
-    lines-push text more spans n s (omega (arith, within)) (All-tail (λ (p : Span). (p.begin ≤ p.end) × (p.end ≤ length text)) o spans inside) begins ends
+-- what is seen of parts stays
+pub parts-stay : {A B : Type 0} (sees : List A → B) (least : ℕ) (xs more : List A) (spans : List Span) → All (IsPartOf least xs) spans → map (λ (s : Span). sees (part_at (xs ++ more) s)) spans ≡ map (λ (s : Span). sees (part_at xs s)) spans
+parts-stay sees least xs more [] are = refl
+parts-stay sees least xs more (s ∷ spans) are =
+    ap (λ part. sees part ∷ map (λ (o : Span). sees (part_at (xs ++ more) o)) spans) (part-stays least xs more s (are 0 s (omega arith)))
+    ∙ ap (λ seen. sees (part_at xs s) ∷ seen) (parts-stay sees least xs more spans (All-tail (IsPartOf least xs) s spans are))
+
+-- and one part more is seen
+pub parts-push : {A B : Type 0} (sees : List A → B) (least : ℕ) (xs more : List A) (spans : List Span) (told : ℕ) (s : Span) → All (IsPartOf least xs) spans → told ≤ length spans → s.begin ≡ length xs → s.end ≡ length xs + length more
+    → map (λ (o : Span). sees (part_at (xs ++ more) o)) (drop told (spans ++ s ∷ [])) ≡ map (λ (o : Span). sees (part_at xs o)) (drop told spans) ++ sees more ∷ []
+parts-push sees least xs more [] zero s are within begins ends = ap (λ part. sees part ∷ []) (last-part xs more s begins ends)
+parts-push sees least xs more [] (suc n) s are within begins ends = absurd (omega (arith, within))
+parts-push sees least xs more (o ∷ spans) zero s are within begins ends =
+    ap (λ part. sees part ∷ map (λ (p : Span). sees (part_at (xs ++ more) p)) (spans ++ s ∷ [])) (part-stays least xs more o (are 0 o (omega arith)))
+    ∙ ap (λ seen. sees (part_at xs o) ∷ seen) (parts-push sees least xs more spans zero s (All-tail (IsPartOf least xs) o spans are) (omega arith) begins ends)
+parts-push sees least xs more (o ∷ spans) (suc n) s are within begins ends = parts-push sees least xs more spans n s (All-tail (IsPartOf least xs) o spans are) (omega (arith, within)) begins ends
+
+-- parts of what is there are parts of what has more, and so is one part more
+pub parts-more : {A : Type 0} (least : ℕ) (xs ys : List A) (spans : List Span) (s : Span) → length xs ≤ length ys → All (IsPartOf least xs) spans → IsPartOf least ys s → All (IsPartOf least ys) (spans ++ s ∷ [])
+parts-more least xs ys [] s more are last zero d inside = last
+parts-more least xs ys [] s more are last (suc k) d inside = absurd (omega (arith, inside))
+parts-more least xs ys (o ∷ spans) s more are last zero d inside = let is = are 0 o (omega arith) in record { order = is.order; within = omega (arith, is.within, more) }
+parts-more least xs ys (o ∷ spans) s more are last (suc k) d inside = parts-more least xs ys spans s more (All-tail (IsPartOf least xs) o spans are) last k d (omega (arith, inside))
+
+-- an answer, levels and trades are added one after another
+pub three-pushed : {A : Type 0} (xs one two three trades : List A) (answer levels : A) → one ≡ xs ++ answer ∷ [] → two ≡ one ++ levels ∷ [] → three ≡ two ++ trades → three ≡ xs ++ answer ∷ levels ∷ trades
+three-pushed xs one two three trades answer levels first second third =
+    third ∙ ap (λ ys. ys ++ trades) (second ∙ ap (λ ys. ys ++ levels ∷ []) first) ∙ append_assoc (xs ++ answer ∷ []) (levels ∷ []) trades ∙ append_assoc xs (answer ∷ []) (levels ∷ trades)
+
+-- a part that ends with one element more
+pub range-more : {A : Type 0} (xs : List A) (begin i : ℕ) (d : A) → begin ≤ i → i < length xs → slice_range xs begin (i + 1) ≡ slice_range xs begin i ++ get_or xs i d ∷ []
+range-more xs begin i d order within =
+    let more : (i + 1) - begin ≡ (i - begin) + 1 = omega (arith, order) in
+    let at : begin + (i - begin) ≡ i = omega (arith, order) in
+    let inside : i - begin < length (drop begin xs) = omega (arith, length-drop begin xs, order, within) in
+    ap (λ (n : ℕ). take n (drop begin xs)) more
+    ∙ take_more (drop begin xs) (i - begin) d inside
+    ∙ ap (λ x. slice_range xs begin i ++ x ∷ []) (get_or-drop begin xs (i - begin) d ∙ ap (λ (n : ℕ). get_or xs n d) at)
+
+-- the lines of a row are its answer, its levels, and each of its trades
+pub row-lines : (lines : List (List ℕ)) (s : Span) → IsPartOf 2 lines s → row_of_lines (part_at lines s) ≡ record { answer = get_or lines s.begin []; trades = slice_range lines (s.begin + 2) s.end; levels = get_or lines (s.begin + 1) [] }
+row-lines lines s is =
+    let left = s.end - (s.begin + 2) in
+    let long : s.end - s.begin ≡ suc (suc left) = omega (arith, is.order) in
+    let third : s.begin + 1 + 1 ≡ s.begin + 2 = omega arith in
+    ap (λ (n : ℕ). row_of_lines (take n (drop s.begin lines))) long
+    ∙ ap (λ more. row_of_lines (take (suc (suc left)) more))
+    (drop_more lines s.begin [] (omega (arith, is.order, is.within)) ∙ ap (λ more. get_or lines s.begin [] ∷ more) (drop_more lines (s.begin + 1) [] (omega (arith, is.order, is.within))))
+    ∙ ap (λ (n : ℕ). record { answer = get_or lines s.begin []; trades = take left (drop n lines); levels = get_or lines (s.begin + 1) [] }) third

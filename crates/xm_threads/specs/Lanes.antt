@@ -1,11 +1,13 @@
 -- Securities that take the rows of their segment apart: each its own, in their order.
-use Rattle.std.specs.Prelude.{◌≡◌, ◌≢◌, ℕ, ◌+◌, ◌<◌, ◌≤◌, ◌==◌, ◌++◌, All, Bool, false, true, if◌then◌else◌, List, [], ◌∷◌, fold, length, map, slice_index_or, Option, Some, None, is_some, option_map, Result, Ok, Err, IfErr, OnOk}
+use Rattle.std.specs.Prelude.{◌≡◌, ◌≢◌, ℕ, ◌+◌, ◌<◌, ◌≤◌, ◌==◌, ◌++◌, All, Bool, ◌||◌, false, true, if◌then◌else◌, List, [], ◌∷◌, fold, length, map, slice_get, slice_index_or, slice_set, Option, Some, None, is_some, Result, Ok, Err, IfErr, OnOk}
 use Rattle.std.specs.Bool.{OnTrue}
+use Rattle.std.specs.List.{flat_map}
 use Rattle.xm_rows.specs.Taken.{IsOpenFault}
-use Rattle.xm_rows.specs.Day.{answer_on, day_of}
-use Rattle.xm_threads.specs.KeptLines.{behind_first, first_line}
-use Rattle.xm_rows.specs.MarketDepth.{depth_text, depths_of, told_change}
-use Rattle.xm_rows.specs.RowAnswers.{answers_of, answers_text, security_fields, where_asked, with_text}
+use Rattle.xm_rows.specs.Day.{answer_on}
+use Rattle.xm_threads.specs.KeptRows.{KeptRow, behind_first}
+use Rattle.xm_rows.specs.MarketDepth.{depth_text, told_change}
+use Rattle.xm_rows.specs.RowAnswers.{answers_text, record_line, security_fields, unknown_fields, where_asked, with_text}
+use Rattle.xm_rows.specs.RowTrades.{row_trades, trades_text}
 use Rattle.xm_rows.specs.declared.faults.DayFault.{DayFault}
 use Rattle.xm_rows.specs.declared.faults.DayFault.TheVariants.{Open, OutOfMemory}
 use Rattle.xm_rows.specs.declared.report.AskedTexts.{AskedTexts}
@@ -17,24 +19,27 @@ use Rattle.xm_files.specs.RecordTexts.{text_of_record}
 use Rattle.xm_files.specs.declared.file_faults.FileCause.TheVariants.{OutOfMemory as NoMemory}
 use Rattle.xm_files.specs.declared.file_faults.FileFault.{FileFault}
 use Rattle.xm_rules.specs.Refusals.{refusal_of}
+use Rattle.xm_rules.specs.State.{State}
 use Rattle.xm_rules.specs.Step.{Journal, replay}
 use Rattle.xm_rules.specs.declared.commands.Command.{Command}
 use Rattle.xm_rules.specs.declared.replies.Refusal.{Refusal}
+use Rattle.xm_rules.specs.declared.replies.Refusal.TheVariants.{UnknownSecurity}
+use Rattle.xm_rules.specs.declared.replies.Reply.{Reply}
 use Rattle.xm_segment.specs.Opening.{journal_of, segment_fault}
 use Rattle.xm_segment.specs.declared.config.SegmentConfig.{SegmentConfig}
 use Rattle.xm_segment.specs.declared.rows.Row.{Row}
 
--- a security that takes its rows: its journal, the lines that it tells of them and that weren't taken yet, as far as they are asked for, and
--- whether memory was wanting for a row
+-- a security that takes its rows: what is asked for of them, its journal, what it keeps of its rows that weren't told yet, and whether memory
+-- was wanting for a row
 pub record LaneView : Type 0 where
+  pub asked : AskedTexts
   pub journal : Journal
-  pub answers : Option (List (List ℕ))
-  pub levels : Option (List (List ℕ))
+  pub kept : List KeptRow
   pub lacks_memory : Bool
 
 -- one that has told all
 abbrev pub fresh_lane : AskedTexts → Journal → LaneView
-fresh_lane asked j = record { journal = j; answers = where_asked asked.answers []; levels = where_asked asked.depth []; lacks_memory = false }
+fresh_lane asked j = record { asked = asked; journal = j; kept = []; lacks_memory = false }
 
 abbrev pub if_accepted : Option Refusal → Journal → Command → Journal
 if_accepted None j command = record j { commands = j.commands ++ command ∷ [] }
@@ -51,24 +56,31 @@ own_row k j row = if row.security == k then journal_after j row.command else j
 abbrev pub own_rows : ℕ → Journal → List Row → Journal
 own_rows k j rows = fold (own_row k) j rows
 
--- the answer of a security to a row, from its name on
-abbrev pub own_answer : NameLists → Journal → Row → List ℕ
-own_answer names j row = security_fields names row (answer_on row (Some (replay j))) (Some (replay (journal_after j row.command)))
+abbrev pub asks_any : AskedTexts → Bool
+asks_any asked = asked.answers || asked.trades || asked.depth
 
--- its levels behind a row, if they aren't those before it
-abbrev pub own_levels : NameLists → Journal → Row → List ℕ
-own_levels names j row = told_change names row (Some (replay j)) (Some (replay (journal_after j row.command)))
+-- what isn't asked for is empty
+abbrev pub if_asked : {A : Type 0} → Bool → List A → List A
+if_asked asked told = if asked then told else []
 
-abbrev pub with_line : List ℕ → Option (List (List ℕ)) → Option (List (List ℕ))
-with_line line kept = option_map (λ lines. lines ++ line ∷ []) kept
+-- what is kept of a row that was answered so, by the state of its security behind it and the lines of its levels
+abbrev pub kept_row : AskedTexts → NameLists → Row → Result Reply Refusal → State → List ℕ → KeptRow
+kept_row asked names row answer state levels = record {
+  answer = if_asked asked.answers (security_fields names row answer (Some state));
+  trades = if_asked asked.trades (row_trades names row answer (Some state));
+  levels = if_asked asked.depth levels;
+}
 
--- a security behind a row of its own
+-- what a security keeps of a row of its own
+abbrev pub own_kept : AskedTexts → NameLists → Journal → Row → KeptRow
+own_kept asked names j row =
+    kept_row asked names row (answer_on row (Some (replay j))) (replay (journal_after j row.command)) (told_change names row (Some (replay j)) (Some (replay (journal_after j row.command))))
+
+-- a security behind a row of its own; it keeps none where nothing is asked for
 abbrev pub lane_after : NameLists → LaneView → Row → LaneView
-lane_after names l row = record {
+lane_after names l row = record l {
   journal = journal_after l.journal row.command;
-  answers = with_line (own_answer names l.journal row) l.answers;
-  levels = with_line (own_levels names l.journal row) l.levels;
-  lacks_memory = l.lacks_memory;
+  kept = l.kept ++ if_asked (asks_any l.asked) (own_kept l.asked names l.journal row ∷ []);
 }
 
 -- the security with this index behind a row of the segment
@@ -91,104 +103,68 @@ pub record AreTaken (config : SegmentConfig) (rows : List Row) (lanes : List Lan
 
 -- ---- what they tell of their rows
 
--- the first of the lines that are kept, and the others
-abbrev pub next_line : Option (List (List ℕ)) → List ℕ
-next_line None = []
-next_line (Some lines) = first_line lines
-
-abbrev pub behind_next : Option (List (List ℕ)) → Option (List (List ℕ))
-behind_next kept = option_map behind_first kept
-
--- what the security of a row tells next, where it is known
-abbrev pub told_next : (LaneView → Option (List (List ℕ))) → List ℕ → Option LaneView → List ℕ
-told_next kept unknown None = unknown
-told_next kept unknown (Some l) = next_line (kept l)
-
--- the security with this index, of which the next answer was told, if the row is its own; and the next levels
-unfoldable pub answered_next : ℕ → Row → LaneView → LaneView
-answered_next k row l = if row.security == k then record l { answers = behind_next l.answers } else l
-
-unfoldable pub changed_next : ℕ → Row → LaneView → LaneView
-changed_next k row l = if row.security == k then record l { levels = behind_next l.levels } else l
-
--- the lines of the security with this index, whose journal was this before rows, of those that are its own
-abbrev pub own_lines : (Journal → Row → List ℕ) → ℕ → Journal → List Row → List (List ℕ)
-own_lines line k j [] = []
-own_lines line k j (row ∷ rows) = (if row.security == k then line j row ∷ [] else []) ++ own_lines line k (own_row k j row) rows
-
-abbrev pub keeps_answers : LaneView → List (List ℕ) → LaneView
-keeps_answers l lines = record l { answers = Some lines }
-
-abbrev pub keeps_levels : LaneView → List (List ℕ) → LaneView
-keeps_levels l lines = record l { levels = Some lines }
-
--- securities whose journals were these before rows, some of which were told: a text has what is told of these, and they keep the lines of the others
-pub record IsTelling (told : List Row → List ℕ) (line : Journal → Row → List ℕ) (keeps : LaneView → List (List ℕ) → LaneView) (js : List Journal) (rows more : List Row) (old : List LaneView) (before : List ℕ) (new : List LaneView) (after : List ℕ) : Type 0 where
-  pub text : after ≡ before ++ told rows
-  pub lanes : (k : ℕ) (d : LaneView) → k < length old → slice_index_or new k d ≡ keeps (slice_index_or old k d) (own_lines line k (own_rows k (slice_index_or js k d.journal) rows) more)
-
--- a text goes on with the answers of securities to rows that they have taken, if they keep these
-abbrev pub AnswersTold : List ℕ → List Row → List LaneView → List ℕ → List LaneView → List ℕ → Type 0
-AnswersTold orders rows old before new after =
-    (names : NameLists) (js : List Journal) (accepted refused : ℕ) → length js ≡ length old
-    → IsTelling (answers_of names (text_of_record orders) (day_of js accepted refused)) (own_answer names) keeps_answers js [] rows old before old before
-    → IsTelling (answers_of names (text_of_record orders) (day_of js accepted refused)) (own_answer names) keeps_answers js rows [] old before new after
-
--- and with the levels behind them
-abbrev pub LevelsTold : List Row → List LaneView → List ℕ → List LaneView → List ℕ → Type 0
-LevelsTold rows old before new after =
-    (names : NameLists) (js : List Journal) (accepted refused : ℕ) → length js ≡ length old
-    → IsTelling (depths_of names (day_of js accepted refused)) (own_levels names) keeps_levels js [] rows old before old before
-    → IsTelling (depths_of names (day_of js accepted refused)) (own_levels names) keeps_levels js rows [] old before new after
-
--- the same, where answers are asked for; afterwards the securities keep none
-abbrev pub AnswersAdded : List ℕ → List Row → List LaneView → Option (List ℕ) → List LaneView → Option (List ℕ) → Type 0
-AnswersAdded orders rows old before new after =
-    (names : NameLists) (js : List Journal) (accepted refused : ℕ) → length js ≡ length old
-    → ((k : ℕ) (d : LaneView) → k < length old → (slice_index_or old k d).answers ≡ where_asked (is_some before) (own_lines (own_answer names) k (slice_index_or js k d.journal) rows))
-    → (after ≡ with_text (answers_of names (text_of_record orders) (day_of js accepted refused) rows) before)
-    × ((k : ℕ) (d : LaneView) → k < length old → slice_index_or new k d ≡ record (slice_index_or old k d) { answers = where_asked (is_some before) [] })
-
--- and where levels are
-abbrev pub LevelsAdded : List Row → List LaneView → Option (List ℕ) → List LaneView → Option (List ℕ) → Type 0
-LevelsAdded rows old before new after =
-    (names : NameLists) (js : List Journal) (accepted refused : ℕ) → length js ≡ length old
-    → ((k : ℕ) (d : LaneView) → k < length old → (slice_index_or old k d).levels ≡ where_asked (is_some before) (own_lines (own_levels names) k (slice_index_or js k d.journal) rows))
-    → (after ≡ with_text (depths_of names (day_of js accepted refused) rows) before)
-    × ((k : ℕ) (d : LaneView) → k < length old → slice_index_or new k d ≡ record (slice_index_or old k d) { levels = where_asked (is_some before) [] })
-
--- lines aside, they stand as they stood
-abbrev pub AreSame : List LaneView → List LaneView → Type 0
-AreSame old new =
-    (k : ℕ) (d : LaneView) → k < length old
-    → ((slice_index_or new k d).journal ≡ (slice_index_or old k d).journal) × ((slice_index_or new k d).lacks_memory ≡ (slice_index_or old k d).lacks_memory)
-
--- the texts so far that are told of the rows of a segment, as far as they are asked for, and whether memory was wanting for them
-pub record MergedView : Type 0 where
+-- the texts so far that are told of the rows of a segment, as far as they are asked for
+pub record TextsView : Type 0 where
   pub answers : Option (List ℕ)
+  pub trades : Option (List ℕ)
   pub levels : Option (List ℕ)
+
+abbrev pub texts_where : AskedTexts → List ℕ → List ℕ → List ℕ → TextsView
+texts_where asked answers trades levels = record { answers = where_asked asked.answers answers; trades = where_asked asked.trades trades; levels = where_asked asked.depth levels }
+
+abbrev pub tells_any : TextsView → Bool
+tells_any t = is_some t.answers || is_some t.trades || is_some t.levels
+
+-- they go on with what is kept of a row, whose record has this free text
+abbrev pub with_kept : Row → List ℕ → KeptRow → TextsView → TextsView
+with_kept row text kept t = record {
+  answers = with_text (record_line row text kept.answer) t.answers;
+  trades = with_text (flat_map (record_line row text) kept.trades) t.trades;
+  levels = with_text kept.levels t.levels;
+}
+
+-- and with the first row that is kept, where there is one
+abbrev pub with_first : Row → List ℕ → List KeptRow → TextsView → TextsView
+with_first row text [] t = t
+with_first row text (kept ∷ more) t = with_kept row text kept t
+
+-- what is told of a row of an unknown security: its answer alone
+abbrev pub unknown_row : KeptRow
+unknown_row = record { answer = unknown_fields (Err UnknownSecurity); trades = []; levels = [] }
+
+-- the securities of a segment, and the texts of their rows so far
+pub record LanesAndTexts : Type 0 where
+  pub lanes : List LaneView
+  pub texts : TextsView
+
+-- they go on with a row of this security, if it is known: it tells what it keeps next
+abbrev pub told_by_lane : Row → List ℕ → Option LaneView → LanesAndTexts → LanesAndTexts
+told_by_lane row text None s = record s { texts = with_kept row text unknown_row s.texts }
+told_by_lane row text (Some l) s = record { lanes = slice_set s.lanes row.security (record l { kept = behind_first l.kept }); texts = with_first row text l.kept s.texts }
+
+-- and with a row, where records have these texts by their numbers
+abbrev pub told_row : (ℕ → List ℕ) → LanesAndTexts → Row → LanesAndTexts
+told_row texts s row = told_by_lane row (texts row.line) (slice_get s.lanes row.security) s
+
+-- texts go on with what securities keep of these rows of an order file of these bytes, one after another; nothing happens where no text is asked for
+abbrev pub IsAdded : List ℕ → List Row → List LaneView → TextsView → List LaneView → TextsView → Type 0
+IsAdded orders rows old before new after =
+    record { lanes = new; texts = after } ≡ if tells_any before then fold (told_row (text_of_record orders)) (record { lanes = old; texts = before }) rows else record { lanes = old; texts = before }
+
+-- the texts, and whether memory was wanting for them
+pub record MergedView : Type 0 where
+  pub texts : TextsView
   pub lacks_memory : Bool
 
--- they go on with what securities whose journals were these before rows keep of these, and then keep nothing
-pub record IsAdded (orders : List ℕ) (rows : List Row) (old : List LaneView) (before : MergedView) (new : List LaneView) (after : MergedView) : Type 0 where
-  pub same : AreSame old new
-  pub told : (asked : AskedTexts) (names : NameLists) (js : List Journal) (accepted refused : ℕ) → length js ≡ length old
-      → ((k : ℕ) (d : LaneView) → k < length old → slice_index_or old k d ≡ lane_rows names k (fresh_lane asked (slice_index_or js k d.journal)) rows)
-      → is_some before.answers ≡ asked.answers → is_some before.levels ≡ asked.depth
-      → (after.answers ≡ with_text (answers_of names (text_of_record orders) (day_of js accepted refused) rows) before.answers)
-      × (after.levels ≡ with_text (depths_of names (day_of js accepted refused) rows) before.levels)
-      × ((k : ℕ) (d : LaneView) → k < length old → slice_index_or new k d ≡ fresh_lane asked (own_rows k (slice_index_or js k d.journal) rows))
-
--- they have told all of these rows of an order file of these bytes
-pub record ToldRows (asked : AskedTexts) (names : NameLists) (orders : List ℕ) (config : SegmentConfig) (rows : List Row) (lanes : List LaneView) (merged : MergedView) : Type 0 where
+-- securities have told all of these rows of an order file of these bytes
+pub record ToldRows (asked : AskedTexts) (names : NameLists) (orders : List ℕ) (config : SegmentConfig) (rows : List Row) (lanes : List LaneView) (texts : TextsView) : Type 0 where
   pub lanes_are : (k : ℕ) (d : LaneView) → k < length lanes → slice_index_or lanes k d ≡ fresh_lane asked (own_rows k (slice_index_or (map (journal_of config) config.securities) k d.journal) rows)
-  pub answers_are : merged.answers ≡ where_asked asked.answers (answers_text names config orders rows)
-  pub levels_are : merged.levels ≡ where_asked asked.depth (depth_text names config rows)
+  pub texts_are : texts ≡ texts_where asked (answers_text names config orders rows) (trades_text names config orders rows) (depth_text names config rows)
 
 -- the same, unless memory was wanting
 abbrev pub AreTold : AskedTexts → NameLists → List ℕ → SegmentConfig → List Row → List LaneView → MergedView → Type 0
 AreTold asked names orders config rows lanes merged =
-    merged.lacks_memory ≡ false → All (λ (l : LaneView). l.lacks_memory ≡ false) lanes → ToldRows asked names orders config rows lanes merged
+    merged.lacks_memory ≡ false → All (λ (l : LaneView). l.lacks_memory ≡ false) lanes → ToldRows asked names orders config rows lanes merged.texts
 
 -- they have taken these rows, unless memory was wanting for what they tell
 abbrev pub AreTakenSoFar : SegmentConfig → List Row → List LaneView → MergedView → Type 0

@@ -1,3 +1,3 @@
-pub mod KeptLines
+pub mod KeptRows
 pub mod Lanes
 pub mod Sections

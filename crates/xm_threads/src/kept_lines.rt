@@ -1,42 +1,35 @@
-//! Lines that are kept until they are taken.
+//! Lines that are kept one after another.
 use std::alloc::Global;
 use std::marker::Model;
 use xm_memory::OutOfMemory;
 
-/// Where a line stands in a text.
+/// Where something begins in a list, and where it ends.
 #[derive(Clone, Copy)]
-struct Span {
-    begin: usize,
-    end: usize,
+pub(crate) struct Span {
+    pub(crate) begin: usize,
+    pub(crate) end: usize,
 }
 
-/// Lines one after another. A clause sees those that aren't taken yet.
+/// The lines so far, in one text.
 #[derive(Drop)]
 pub(crate) struct KeptLines {
     text: Vec<u8>,
     spans: Vec<Span>,
-    // How many were taken.
-    taken: usize,
 }
 
 impl Model for KeptLines {
-    ghost use Rattle.std.specs.Prelude.{ℕ, ◌≤◌, All, List, drop, length, map};
-    ghost use Rattle.xm_threads.specs.KeptLines.{line_at};
-    ghost use Rattle.xm_threads.specs.declared.kept_lines.Span.{Span};
+    ghost use Rattle.std.specs.Prelude.{ℕ, All, List, map};
+    ghost use Rattle.xm_threads.specs.KeptRows.{IsPartOf, part_at};
 
     ghost Value = { List (List ℕ) };
 
-    ghost view = { λ l. map (line_at l.text.items) (drop l.taken l.spans.items) };
+    ghost view = { λ l. map (part_at l.text.items) l.spans.items };
 
-    ghost invariant = { λ l. record {
-      inside : All (λ (s : Span). (s.begin ≤ s.end) × (s.end ≤ length l.text.items)) l.spans.items;
-      taken : l.taken ≤ length l.spans.items;
-    } };
+    ghost invariant = { λ l. All (IsPartOf 0 l.text.items) l.spans.items };
 }
 
 impl KeptLines {
-    ghost use Rattle.std.specs.Prelude.{◌≡◌, ◌++◌, ◌∷◌, [], OnOk};
-    ghost use Rattle.xm_threads.specs.KeptLines.{behind_first, first_line};
+    ghost use Rattle.std.specs.Prelude.{◌≡◌, ◌<◌, ◌++◌, ◌∷◌, [], OnErr, OnOk, length, slice_index_or};
 
     /// No line.
     pub(crate) fn new(alloc: Global) -> KeptLines
@@ -45,13 +38,29 @@ impl KeptLines {
         KeptLines {
             text: Vec::new(alloc),
             spans: Vec::new(alloc),
-            taken: 0,
         }
     }
 
-    /// Adds a line.
+    /// How many there are.
+    pub(crate) fn len(&self) -> usize
+        ensures { result ≡ length self.now }
+    {
+        self.spans.len()
+    }
+
+    /// The line with this index.
+    pub(crate) fn line(&self, index: usize) -> &[u8]
+        requires { index < length self.now }
+        ensures { result.now ≡ slice_index_or self.now index [] }
+    {
+        let span = self.spans[index];
+        &self.text[span.begin..span.end]
+    }
+
+    /// Adds a line. `OutOfMemory` changes nothing.
     pub(crate) fn push(&mut self, line: &[u8]) -> Result<(), OutOfMemory>
-        ensures { OnOk result (self.new ≡ self.old ++ line.now ∷ []) }
+        ensures pushed { OnOk result (self.new ≡ self.old ++ line.now ∷ []) }
+        ensures kept { OnErr result (self.new ≡ self.old) }
     {
         let begin = self.text.len();
         self.text.extend_from_slice(line)?;
@@ -60,29 +69,11 @@ impl KeptLines {
         Ok(())
     }
 
-    /// Takes the first line, and adds it to a text. Nothing is added where there is none.
-    pub(crate) fn take(&mut self, text: &mut Vec<u8>) -> Result<(), OutOfMemory>
-        ensures text { OnOk result (text.new.items ≡ text.old.items ++ first_line self.old) }
-        ensures left { OnOk result (self.new ≡ behind_first self.old) }
-    {
-        if self.taken == self.spans.len() {
-            return Ok(());
-        }
-        let span = self.spans[self.taken];
-        text.extend_from_slice(&self.text[span.begin..span.end])?;
-        self.taken += 1;
-        if self.taken == self.spans.len() {
-            self.clear();
-        }
-        Ok(())
-    }
-
     /// Drops all lines. Their room stays.
-    fn clear(&mut self)
+    pub(crate) fn clear(&mut self)
         ensures { self.new ≡ [] }
     {
         self.text.clear();
         self.spans.clear();
-        self.taken = 0;
     }
 }

@@ -1,19 +1,20 @@
 //! Securities that take the rows of their segment apart, each its own.
-ghost use Rattle.std.specs.Prelude.{◌≡◌, ◌≤◌, ◌<◌, ◌+◌, ℕ, List, All, None, IfOk, IfSome, OnErr, OnOk, Some, [], false, is_some, length, map, slice_index_or};
+ghost use Rattle.std.specs.Prelude.{◌≡◌, ◌≤◌, ◌<◌, ◌+◌, ℕ, List, All, None, IfOk, OnErr, OnOk, Some, false, length, map, slice_index_or};
+ghost use Rattle.std.specs.Bool.{OnTrue};
 ghost use Rattle.xm_rows.specs.Taken.{RowsTaken, commands_in};
 ghost use Rattle.xm_rows.specs.Day.{answer_on};
-ghost use Rattle.xm_threads.specs.Lanes.{AreOpened, AreTold, AreTakenSoFar, LaneView, TookMore, TookOwnRows, fresh_lane, journal_after, lane_row, with_line};
-ghost use Rattle.xm_rows.specs.MarketDepth.{change_lines, market_depth};
-ghost use Rattle.xm_rows.specs.RowAnswers.{security_fields, where_asked};
+ghost use Rattle.xm_threads.specs.Lanes.{AreOpened, AreTold, AreTakenSoFar, LaneView, TookMore, TookOwnRows, asks_any, fresh_lane, journal_after, lane_row};
+ghost use Rattle.xm_rows.specs.MarketDepth.{market_depth};
 ghost use Rattle.xm_rows.specs.declared.report.AskedTexts.{AskedTexts};
 ghost use Rattle.xm_files.specs.Batches.{rows_so_far};
 ghost use Rattle.xm_files.specs.Names.{NameLists};
 ghost use Rattle.xm_files.specs.declared.orders.TheConstants.{MAX_ROWS};
-ghost use Rattle.xm_rules.specs.Step.{Journal, replay};
+ghost use Rattle.xm_rules.specs.Step.{replay};
 ghost use Rattle.xm_segment.specs.Opening.{segment_fault};
 
-use crate::kept_lines::KeptLines;
+use crate::kept_rows::KeptRows;
 use crate::merged::Merged;
+use crate::row_texts::RowTexts;
 use std::alloc::Global;
 use std::marker::Model;
 use std::thread;
@@ -22,42 +23,41 @@ use xm_desk::Desk;
 use xm_files::{Batch, MAX_ROWS, RecordTexts, SegmentNames};
 use xm_memory::OutOfMemory;
 use xm_names::Storage;
-use xm_rows::{
-    AskedTexts, DayFault, DayReport, MarketDepth, OpenDay, by_rule, push_change, push_known,
-};
+use xm_rows::{AskedTexts, DayFault, DayReport, MarketDepth, OpenDay, by_rule};
 use xm_rules::{Refusal, Reply};
 use xm_segment::{Row, SegmentConfig, open_desks};
 
-/// The desk of a security, what it tells of its rows, as far as it is asked for, and the want of memory that it met. From then on it takes
-/// no row.
+/// The desk of a security, what is asked for of its rows, what it keeps of those that aren't told yet, and the want of memory that it met.
+/// From then on it takes no row.
 #[derive(Drop)]
 pub(crate) struct Lane {
+    asked: AskedTexts,
     desk: Desk<Global>,
-    answers: Option<KeptLines>,
-    levels: Option<KeptLines>,
+    kept: KeptRows,
     // The levels that were shown last, where they are asked for.
     shown: MarketDepth,
-    // The line that is being made.
-    line: Vec<u8>,
     wanting: Option<OutOfMemory>,
 }
 
 impl Model for Lane {
-    ghost use Rattle.std.specs.Prelude.{◌≡◌, IfSome, is_some};
+    ghost use Rattle.std.specs.Prelude.{◌≡◌, is_some};
+    ghost use Rattle.std.specs.Bool.{OnTrue};
     ghost use Rattle.xm_threads.specs.Lanes.{LaneView};
     ghost use Rattle.xm_rows.specs.MarketDepth.{market_depth};
     ghost use Rattle.xm_rules.specs.Step.{replay};
 
     ghost Value = { LaneView };
 
-    ghost view = { λ l. record { journal = l.desk; answers = l.answers; levels = l.levels; lacks_memory = is_some l.wanting } };
+    ghost view = { λ l. record { asked = l.asked; journal = l.desk; kept = l.kept; lacks_memory = is_some l.wanting } };
 
-    ghost invariant = { λ l. IfSome l.levels (λ _. l.shown ≡ market_depth (replay l.desk)) };
+    ghost invariant = { λ l. OnTrue l.asked.depth (l.shown ≡ market_depth (replay l.desk)) };
 }
 
 impl Lane {
-    ghost use Rattle.std.specs.Prelude.{◌≡◌, ◌++◌, IfOk, OnErr, OnOk, false, true};
-    ghost use Rattle.xm_threads.specs.Lanes.{behind_next, fresh_lane, lane_after, next_line};
+    ghost use Rattle.std.specs.Prelude.{◌≡◌, IfOk, OnErr, OnOk, false, true};
+    ghost use Rattle.xm_threads.specs.KeptRows.{behind_first};
+    ghost use Rattle.xm_threads.specs.Lanes.{fresh_lane, lane_after, with_first};
+    ghost use Rattle.xm_files.specs.RecordTexts.{text_of_record};
 
     /// A desk that takes rows, of which these texts are told.
     fn of(alloc: Global, desk: Desk<Global>, asked: AskedTexts) -> Lane
@@ -65,11 +65,10 @@ impl Lane {
     {
         let shown = MarketDepth::of(&desk);
         Lane {
+            asked,
             desk,
-            answers: kept_where(alloc, asked.answers),
-            levels: kept_where(alloc, asked.depth),
+            kept: KeptRows::new(alloc),
             shown,
-            line: Vec::new(alloc),
             wanting: None,
         }
     }
@@ -91,46 +90,33 @@ impl Lane {
     {
         let answer = answered(&mut self.desk, row)?;
         let before = self.shown;
-        show(&mut self.shown, &self.levels, &self.desk);
-        keep_answer(
-            &mut self.answers,
-            &mut self.line,
+        show(&mut self.shown, self.asked.depth, &self.desk);
+        if !asks_any(self.asked) {
+            return Ok(());
+        }
+        self.kept.push(
+            self.asked,
             names,
             &self.desk,
             row,
             &answer,
-        )?;
-        keep_levels(
-            &mut self.levels,
-            &mut self.line,
-            names,
-            &self.desk,
-            row,
             &before,
             &self.shown,
         )
     }
 
-    /// Adds the next answer that it keeps to a text.
-    pub(crate) fn tell_answer(&mut self, text: &mut Vec<u8>) -> Result<(), OutOfMemory>
-        ensures text { OnOk result (text.new.items ≡ text.old.items ++ next_line self.old.answers) }
-        ensures left { OnOk result (self.new ≡ record self.old { answers = behind_next self.old.answers }) }
+    /// Tells the next row of those that it keeps. The texts are those of its file.
+    pub(crate) fn tell(
+        &mut self,
+        told: &mut RowTexts,
+        texts: &mut RecordTexts<'_>,
+        row: &Row,
+    ) -> Result<(), OutOfMemory>
+        ensures told { OnOk result (told.new ≡ with_first row.now (text_of_record texts.old.orders row.now.line) self.old.kept told.old) }
+        ensures left { OnOk result (self.new ≡ record self.old { kept = behind_first self.old.kept }) }
+        ensures texts { texts.new.orders ≡ texts.old.orders }
     {
-        match &mut self.answers {
-            None => Ok(()),
-            Some(lines) => lines.take(text),
-        }
-    }
-
-    /// Adds the levels behind a row that it keeps next to a text.
-    pub(crate) fn tell_levels(&mut self, text: &mut Vec<u8>) -> Result<(), OutOfMemory>
-        ensures text { OnOk result (text.new.items ≡ text.old.items ++ next_line self.old.levels) }
-        ensures left { OnOk result (self.new ≡ record self.old { levels = behind_next self.old.levels }) }
-    {
-        match &mut self.levels {
-            None => Ok(()),
-            Some(lines) => lines.take(text),
-        }
+        self.kept.tell(told, texts, row)
     }
 
     /// The desk, or the want of memory that it met.
@@ -147,15 +133,12 @@ impl Lane {
     }
 }
 
-/// Where lines are kept, if they are asked for.
-fn kept_where(alloc: Global, asked: bool) -> Option<KeptLines>
-    ensures { result ≡ where_asked asked [] }
+/// Whether any text is asked for.
+#[inline(always)]
+fn asks_any(asked: AskedTexts) -> bool
+    ensures { result ≡ asks_any asked }
 {
-    if asked {
-        Some(KeptLines::new(alloc))
-    } else {
-        None
-    }
+    asked.answers || asked.trades || asked.depth
 }
 
 /// Has a desk answer a row. `OutOfMemory` changes nothing.
@@ -171,56 +154,14 @@ fn answered(desk: &mut Desk<Global>, row: &Row) -> Result<Result<Reply, Refusal>
     }
 }
 
-/// Shows the levels of a desk as they stand, if levels are asked for.
+/// Shows the levels of a desk as they stand, if they are asked for.
 #[inline(always)]
-fn show(shown: &mut MarketDepth, kept: &Option<KeptLines>, desk: &Desk<Global>)
-    ensures { IfSome kept.now (λ _. shown.new ≡ market_depth (replay desk.now)) }
+fn show(shown: &mut MarketDepth, asked: bool, desk: &Desk<Global>)
+    ensures { OnTrue asked (shown.new ≡ market_depth (replay desk.now)) }
 {
-    if kept.is_some() {
+    if asked {
         *shown = MarketDepth::of(desk);
     }
-}
-
-/// Keeps the answer of a desk to a row that it has taken, if answers are asked for.
-#[inline(always)]
-fn keep_answer(
-    kept: &mut Option<KeptLines>,
-    line: &mut Vec<u8>,
-    names: &SegmentNames,
-    desk: &Desk<Global>,
-    row: &Row,
-    answer: &Result<Reply, Refusal>,
-) -> Result<(), OutOfMemory>
-    ensures { OnOk result (kept.new ≡ with_line (security_fields names.now row.now answer.now (Some (replay desk.now))) kept.old) }
-{
-    let Some(lines) = kept else {
-        return Ok(());
-    };
-    line.clear();
-    push_known(line, names, desk, row, answer)?;
-    lines.push(line.as_slice())
-}
-
-/// Keeps the levels of a desk behind a row that it has taken, if levels are asked for.
-#[inline(always)]
-fn keep_levels(
-    kept: &mut Option<KeptLines>,
-    line: &mut Vec<u8>,
-    names: &SegmentNames,
-    desk: &Desk<Global>,
-    row: &Row,
-    before: &MarketDepth,
-    after: &MarketDepth,
-) -> Result<(), OutOfMemory>
-    ensures kept { OnOk result (kept.new ≡ with_line (change_lines names.now row.now (replay desk.now).settings.tick before.now after.now) kept.old) }
-    ensures asked { is_some kept.new ≡ is_some kept.old }
-{
-    let Some(lines) = kept else {
-        return Ok(());
-    };
-    line.clear();
-    push_change(line, names, row, desk.settings().tick, before, after)?;
-    lines.push(line.as_slice())
 }
 
 /// Opens the desks of a segment, for their rows, of which these texts are told.

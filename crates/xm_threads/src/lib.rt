@@ -3,8 +3,10 @@
 
 mod batches;
 mod kept_lines;
+mod kept_rows;
 mod lanes;
 mod merged;
+mod row_texts;
 mod sections;
 
 pub use crate::batches::run_apart;

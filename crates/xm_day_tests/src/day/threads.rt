@@ -2,38 +2,39 @@
 use super::drawn::{Draw, add, order_file, segment_file};
 use super::workers::{APART, TWO};
 use super::{Answer, FAILURES, READ_FAILED};
-use crate::files::fixtures::{
-    BAD_WIDTHS, CASCADE, HEADER, NO_SECURITY, ORDERS, OneByteReader, SECOND_HEADER, SEGMENT,
-    ShortWriter,
-};
-use std::io::{ErrorKind, Read, Write};
+use crate::files::fixtures::{CASCADE, OneByteReader, SECOND_HEADER, SEGMENT, ShortWriter};
+use std::io::{ErrorKind, Read};
 use std::process::Abort;
 use std::thread::Threads;
 use xm_day::{
-    AskedTexts, DayFault, ToldDay, carry_alone, carry_on_threads, run_on_threads, run_told,
+    AskedTexts, DayFault, DayTexts, HandsOn, StatementText, day_texts, open_carried_files,
+    send_statement, take_on_threads,
 };
 use xm_files::{FileCause, FileFault};
 use xm_names::Storage;
 
 /// On how many threads a day is run, beside the run by one.
-const NUMBERS: [u32; 5] = [1, 2, 3, 8, 64];
+const THREADS: u32 = 3;
 
-/// On how many a long one is run.
-const LONG_NUMBERS: [u32; 1] = [3];
-
-/// Both texts beside a statement.
-const BOTH: AskedTexts = AskedTexts {
+/// All texts beside a statement.
+const ALL: AskedTexts = AskedTexts {
     answers: true,
+    trades: true,
     depth: true,
 };
 
-/// What a day answers, what it writes, and what it tells beside that.
+/// A carry file without an entry.
+const NONE: &str = carried!("");
+
+/// What a day answers, and its texts.
 #[derive(Drop)]
 struct Told {
     answer: Answer,
     statement: Vec<u8>,
     answers: Vec<u8>,
+    trades: Vec<u8>,
     depth: Vec<u8>,
+    left: Vec<u8>,
 }
 
 impl Told {
@@ -41,265 +42,109 @@ impl Told {
         self.answer == other.answer
             && self.statement == other.statement
             && self.answers == other.answers
+            && self.trades == other.trades
             && self.depth == other.depth
+            && self.left == other.left
     }
 }
 
-/// A day that ended so, and wrote this.
-fn told_of(rt: &impl AllocGlobal, ended: Result<ToldDay, DayFault>, statement: Vec<u8>) -> Told {
+/// A day that ended so.
+fn told_of(rt: &(impl Abort + AllocGlobal), ended: Result<DayTexts, DayFault>) -> Told {
     match ended {
         Ok(day) => {
-            let ToldDay {
-                report,
+            let DayTexts {
+                statement,
                 answers,
+                trades,
                 depth,
+                carry,
+                report,
             } = day;
             Told {
                 answer: Ok((report.accepted, report.refused)),
-                statement,
+                statement: written(rt, &statement),
                 answers,
+                trades,
                 depth,
+                left: carry,
             }
         }
         Err(fault) => Told {
             answer: Err(fault),
-            statement,
+            statement: Vec::new(rt.alloc()),
             answers: Vec::new(rt.alloc()),
+            trades: Vec::new(rt.alloc()),
             depth: Vec::new(rt.alloc()),
+            left: Vec::new(rt.alloc()),
         },
     }
 }
 
-/// Runs the day of two texts as one thread does.
-fn tell_alone(rt: &impl AllocGlobal, segment: &str, orders: &str) -> Told {
-    let storage = Storage::with_fixed_seed(rt.alloc());
+/// The bytes of a statement.
+fn written(rt: &(impl Abort + AllocGlobal), statement: &StatementText) -> Vec<u8> {
     let mut out = Vec::new(rt.alloc());
-    let (mut segment, mut orders) = (segment.as_bytes(), orders.as_bytes());
-    let ended = run_told(storage, &mut segment, &mut orders, &mut out, BOTH);
-    told_of(rt, ended, out)
+    send_statement(statement, &mut out).expect(rt, "memory");
+    out
 }
 
-/// Runs a day on so many threads. A clause sees nothing of it.
+/// The texts of a day on so many threads. A clause sees nothing of them.
+fn made(
+    rt: &(impl Abort + AllocGlobal + Threads + Sync),
+    threads: u32,
+    segment: &str,
+    carry: &[u8],
+    orders: &mut impl Read,
+    asked: AskedTexts,
+) -> Result<DayTexts, DayFault> {
+    assert!(rt; 1 <= threads);
+    let storage = Storage::with_fixed_seed(rt.alloc());
+    let (mut segment, mut carry) = (segment.as_bytes(), carry);
+    let (config, names) = open_carried_files(storage, &mut segment, &mut carry)?;
+    let taken = take_on_threads(rt, threads, storage, &config, &names, orders, asked);
+    day_texts(rt.alloc(), &names, taken, HandsOn::WhatIsLeft)
+}
+
+/// What the day of three texts gives on so many threads.
 fn tell(
     rt: &(impl Abort + AllocGlobal + Threads + Sync),
     threads: u32,
-    segment: &mut impl Read,
-    orders: &mut impl Read,
-    out: &mut impl Write,
-    asked: AskedTexts,
-) -> Result<ToldDay, DayFault> {
-    assert!(rt; 1 <= threads);
-    let storage = Storage::with_fixed_seed(rt.alloc());
-    run_on_threads(rt, threads, storage, segment, orders, out, asked)
-}
-
-/// Compares what the day of two texts gives on so many threads with what it gives on one.
-fn is_told(
-    rt: &(impl Abort + AllocGlobal + Threads + Sync),
-    name: &str,
-    threads: u32,
     segment: &str,
+    carry: &[u8],
     orders: &str,
-    alone: &Told,
-) {
-    let mut out = Vec::new(rt.alloc());
-    let (mut segment, mut orders) = (segment.as_bytes(), orders.as_bytes());
-    let ended = tell(rt, threads, &mut segment, &mut orders, &mut out, BOTH);
-    let day = told_of(rt, ended, out);
-    assert!(rt; day.is(alone), "{name}, on {threads} threads");
+) -> Told {
+    let mut orders = orders.as_bytes();
+    told_of(rt, made(rt, threads, segment, carry, &mut orders, ALL))
 }
 
-/// Compares what the day of two texts gives on each of these numbers of threads, and tells what it answers.
+/// Compares what the day of three texts gives on several threads with what it gives on one, and gives it.
 fn agrees(
     rt: &(impl Abort + AllocGlobal + Threads + Sync),
-    numbers: &[u32],
     name: &str,
     segment: &str,
-    orders: &str,
-) -> Answer {
-    let alone = tell_alone(rt, segment, orders);
-    for threads in numbers {
-        is_told(rt, name, *threads, segment, orders, &alone);
-    }
-    alone.answer
-}
-
-/// Days of few rows, with their files.
-const DAYS: [(&str, &str, &str); 9] = [
-    ("a cascade", SEGMENT, CASCADE),
-    ("orders", SEGMENT, ORDERS),
-    ("two securities", TWO, APART),
-    ("rows of unknown names", TWO, CASCADE),
-    ("no row", SEGMENT, HEADER),
-    ("no row of version 2", SEGMENT, SECOND_HEADER),
-    ("no security", NO_SECURITY, HEADER),
-    ("no header", NO_SECURITY, ""),
-    ("bad widths", BAD_WIDTHS, CASCADE),
-];
-
-#[test]
-fn days_of_few_rows(rt: HostRuntime) {
-    for (name, segment, orders) in DAYS {
-        let _ = agrees(&rt, &NUMBERS, name, segment, orders);
-    }
-}
-
-/// Compares a drawn day of so many securities and rows, of which some are accepted and some refused.
-fn drawn_day_agrees(
-    rt: &(impl Abort + AllocGlobal + Threads + Sync),
-    numbers: &[u32],
-    draw: &mut Draw,
-    securities: usize,
-    rows: u32,
-) {
-    let segment = segment_file(rt, "20260105", securities);
-    let orders = order_file(rt, draw, securities, rows);
-    let (segment, orders) = (segment.as_str(), orders.as_str());
-    let answer = agrees(rt, numbers, "a drawn day", segment, orders);
-    let (accepted, refused) = answer.expect(rt, "a day without a fault");
-    assert!(rt; accepted > 0 && refused > 0);
-}
-
-#[test]
-fn drawn_days_of_one_to_eight_securities(rt: HostRuntime) {
-    let mut draw = Draw { state: 20_260_105 };
-    for securities in 1..9usize {
-        drawn_day_agrees(&rt, &NUMBERS, &mut draw, securities, 600);
-    }
-}
-
-/// The rows of a long day are read in several rounds and parts.
-#[test]
-fn long_drawn_days(rt: HostRuntime) {
-    let mut draw = Draw { state: 7 };
-    drawn_day_agrees(&rt, &LONG_NUMBERS, &mut draw, 1, 80_000);
-    drawn_day_agrees(&rt, &LONG_NUMBERS, &mut draw, 5, 80_000);
-}
-
-/// What one security's day of `CARRIED` leaves is the carry file of the next one.
-#[derive(Drop)]
-struct Left {
-    answer: Answer,
-    statement: Vec<u8>,
-    left: Vec<u8>,
-}
-
-impl Left {
-    fn is(&self, other: &Left) -> bool {
-        self.answer == other.answer && self.statement == other.statement && self.left == other.left
-    }
-}
-
-/// Runs a day of three texts as one thread does.
-fn leave_alone(rt: &impl AllocGlobal, segment: &str, carry: &[u8], orders: &str) -> Left {
-    let storage = Storage::with_fixed_seed(rt.alloc());
-    let (mut statement, mut left) = (Vec::new(rt.alloc()), Vec::new(rt.alloc()));
-    let (mut segment, mut carry, mut orders) = (segment.as_bytes(), carry, orders.as_bytes());
-    let ended = carry_alone(
-        storage,
-        &mut segment,
-        &mut carry,
-        &mut orders,
-        &mut statement,
-        &mut left,
-    );
-    Left {
-        answer: ended.map(|report| (report.accepted, report.refused)),
-        statement,
-        left,
-    }
-}
-
-/// Runs it on so many threads.
-fn leave(
-    rt: &(impl Abort + AllocGlobal + Threads + Sync),
-    threads: u32,
-    segment: &str,
     carry: &[u8],
     orders: &str,
-) -> Left {
-    assert!(rt; 1 <= threads);
-    let storage = Storage::with_fixed_seed(rt.alloc());
-    let (mut statement, mut left) = (Vec::new(rt.alloc()), Vec::new(rt.alloc()));
-    let (mut segment, mut carry, mut orders) = (segment.as_bytes(), carry, orders.as_bytes());
-    let ended = carry_on_threads(
-        rt,
-        threads,
-        storage,
-        &mut segment,
-        &mut carry,
-        &mut orders,
-        &mut statement,
-        &mut left,
-    );
-    Left {
-        answer: ended.map(|report| (report.accepted, report.refused)),
-        statement,
-        left,
-    }
-}
-
-/// Compares what the day of three texts gives and leaves on each number of threads, and gives it.
-fn leaves(
-    rt: &(impl Abort + AllocGlobal + Threads + Sync),
-    segment: &str,
-    carry: &[u8],
-    orders: &str,
-) -> Left {
-    let alone = leave_alone(rt, segment, carry, orders);
-    for threads in NUMBERS {
-        let day = leave(rt, threads, segment, carry, orders);
-        assert!(rt;
-            day.is(&alone),
-            "a day of three texts, on {threads} threads"
-        );
-    }
+) -> Told {
+    let alone = tell(rt, 1, segment, carry, orders);
+    let day = tell(rt, THREADS, segment, carry, orders);
+    assert!(rt; day.is(&alone), "{name}");
     alone
 }
 
-/// A carry file without an entry.
-const NONE: &str = carried!("");
-
-/// Compares two drawn days in a row of so many securities, of which the second opens with what the first left.
-fn days_in_a_row_agree(
-    rt: &(impl Abort + AllocGlobal + Threads + Sync),
-    draw: &mut Draw,
-    securities: usize,
-) {
-    let (first, second) = (
-        segment_file(rt, "20260105", securities),
-        segment_file(rt, "20260106", securities),
-    );
-    let orders = order_file(rt, draw, securities, 600);
-    let day = leaves(rt, first.as_str(), NONE.as_bytes(), orders.as_str());
-    assert!(rt; day.answer.is_ok() && day.left.len() > NONE.len());
-    let orders = order_file(rt, draw, securities, 600);
-    let next = leaves(rt, second.as_str(), day.left.as_slice(), orders.as_str());
-    assert!(rt; next.answer.is_ok());
-}
-
+/// The rows of long days are read in several rounds and parts. The second day opens with what the first one left.
 #[test]
-fn drawn_days_in_a_row(rt: HostRuntime) {
+fn long_drawn_days_in_a_row(rt: HostRuntime) {
     let mut draw = Draw { state: 20_260_106 };
-    for securities in 1..9usize {
-        days_in_a_row_agree(&rt, &mut draw, securities);
-    }
-}
-
-/// The faults of three files: of the carry file before that of the order file, and this before that of the opening.
-const FAULTY: [(&str, &str, &str); 4] = [
-    ("date", "", ""),
-    (NO_SECURITY, HEADER, ""),
-    (BAD_WIDTHS, NONE, ""),
-    (BAD_WIDTHS, NONE, HEADER),
-];
-
-#[test]
-fn the_first_fault_of_three_files(rt: HostRuntime) {
-    for (segment, carry, orders) in FAULTY {
-        let day = leaves(&rt, segment, carry.as_bytes(), orders);
-        assert!(rt; day.answer.is_err() && day.statement.is_empty() && day.left.is_empty());
-    }
+    let first = segment_file(&rt, "20260105", 5);
+    let second = segment_file(&rt, "20260106", 5);
+    let orders = order_file(&rt, &mut draw, 5, 80_000);
+    let (segment, carry) = (first.as_str(), NONE.as_bytes());
+    let day = agrees(&rt, "a drawn day", segment, carry, orders.as_str());
+    let (accepted, refused) = day.answer.expect(&rt, "a day without a fault");
+    assert!(rt; accepted > 0 && refused > 0 && day.left.len() > NONE.len());
+    let orders = order_file(&rt, &mut draw, 5, 600);
+    let (segment, carry) = (second.as_str(), day.left.as_slice());
+    let next = agrees(&rt, "the day behind it", segment, carry, orders.as_str());
+    assert!(rt; next.answer.is_ok());
 }
 
 /// What is put between the rows of a file: its name, its text, and the cause of the fault that its first record then has, if any.
@@ -382,81 +227,43 @@ fn file_with(rt: &(impl Abort + AllocGlobal), rows: u32, place: u32, text: &str)
     orders
 }
 
+/// How many rows a file has that is longer than a MiB, and is read in several parts and rounds.
+const ROWS: u32 = 40_000;
+
+/// Where a text is put into it: at its begin, behind the first round, and at its end.
+const PLACES: [u32; 3] = [0, 33_000, ROWS];
+
 /// Compares a day in whose order file such a text was put before the row with this number: its fault, or that it has none.
 fn put_agrees(
     rt: &(impl Abort + AllocGlobal + Threads + Sync),
-    numbers: &[u32],
     segment: &str,
-    rows: u32,
     place: u32,
     put: &(&str, &str, Option<FileCause>),
 ) {
     let (name, text, cause) = put;
-    let orders = file_with(rt, rows, place, text);
-    let answer = agrees(rt, numbers, name, segment, orders.as_str());
+    let orders = file_with(rt, ROWS, place, text);
+    let day = agrees(rt, name, segment, NONE.as_bytes(), orders.as_str());
     match cause {
         Some(cause) => {
             let line = place.wrapping_add(2);
             let cause = *cause;
             assert!(rt;
-                answer == Err(DayFault::Orders(FileFault { line, cause })),
+                day.answer == Err(DayFault::Orders(FileFault { line, cause })),
                 "{name}"
             );
         }
-        None => assert!(rt; answer.is_ok(), "{name}"),
+        None => assert!(rt; day.answer.is_ok(), "{name}"),
     }
 }
-
-/// How many rows a file has into which a text is put.
-const ROWS: u32 = 600;
-
-/// Where it is put: early, in the middle, and at the end.
-const PLACES: [u32; 4] = [0, 7, 301, ROWS];
-
-#[test]
-fn faults_and_odd_rows_anywhere_in_a_file(rt: HostRuntime) {
-    let segment = segment_file(&rt, "20260105", 4);
-    let puts = PUTS;
-    for place in PLACES {
-        for put in &puts {
-            put_agrees(&rt, &NUMBERS, segment.as_str(), ROWS, place, put);
-        }
-    }
-}
-
-/// How many rows a file has that is longer than a MiB, and is read in several parts and rounds.
-const LONG_ROWS: u32 = 40_000;
-
-/// Where a text is put into it: behind the first round, and late.
-const FAR_PLACES: [u32; 2] = [33_000, 39_990];
 
 #[test]
 fn faults_and_odd_rows_anywhere_in_a_long_file(rt: HostRuntime) {
     let segment = segment_file(&rt, "20260105", 4);
     let puts = PUTS;
-    for place in FAR_PLACES {
-        for put in puts.iter().step_by(8) {
-            put_agrees(&rt, &LONG_NUMBERS, segment.as_str(), LONG_ROWS, place, put);
+    for place in PLACES {
+        for put in &puts {
+            put_agrees(&rt, segment.as_str(), place, put);
         }
-    }
-}
-
-/// The end of a file without a line feed.
-const ENDS: [(&str, &str, Option<FileCause>); 2] = [
-    (
-        "a bad number at the end",
-        "cancel,M0,x,S0,,,,,,,,,",
-        Some(FileCause::BadField),
-    ),
-    ("a row at the end", "cancel,M0,1,S0,,,,,,,,,", None),
-];
-
-#[test]
-fn files_without_a_line_feed_at_the_end(rt: HostRuntime) {
-    let segment = segment_file(&rt, "20260105", 4);
-    let ends = ENDS;
-    for end in &ends {
-        put_agrees(&rt, &NUMBERS, segment.as_str(), ROWS, ROWS, end);
     }
 }
 
@@ -476,36 +283,26 @@ fn rows_of_all_securities_beyond_the_most_rows(rt: HostRuntime) {
         add(&rt, &mut orders, "open,,,*,,,,,,,,,\n");
     }
     add(&rt, &mut orders, "open,,,S0,,,,,,,,,\nwalk\n");
-    let mut out = Vec::new(rt.alloc());
-    let (mut segment, mut orders) = (segment.as_bytes(), orders.as_bytes());
+    let mut orders = orders.as_bytes();
+    let (segment, carry) = (segment.as_str(), NONE.as_bytes());
     let nothing = AskedTexts::nothing();
-    let ended = tell(&rt, 3, &mut segment, &mut orders, &mut out, nothing);
-    let day = told_of(&rt, ended, out);
-    assert!(rt; day.answer == Err(TOO_MANY_ROWS) && day.statement.is_empty());
+    let day = made(&rt, THREADS, segment, carry, &mut orders, nothing);
+    assert!(rt; told_of(&rt, day).answer == Err(TOO_MANY_ROWS));
 }
 
-/// Compares the fault of a day on so many threads whose order file fails at this call, one byte being read a call.
-fn orders_fail(rt: &(impl Abort + AllocGlobal + Threads + Sync), threads: u32, call: usize) {
-    let mut orders = OneByteReader::new(CASCADE, Some((call, ErrorKind::BrokenPipe)));
-    let mut out = Vec::new(rt.alloc());
-    let mut segment = SEGMENT.as_bytes();
-    let ended = tell(rt, threads, &mut segment, &mut orders, &mut out, BOTH);
-    let day = told_of(rt, ended, out);
-    assert!(rt; day.answer == Err(DayFault::Orders(READ_FAILED)) && day.statement.is_empty());
-}
-
+/// The order file fails at each call in turn, one byte being read a call.
 #[test]
 fn readers_that_fail(rt: HostRuntime) {
     for call in 0..CASCADE.len() + 1 {
-        orders_fail(&rt, 2, call);
-        orders_fail(&rt, 8, call);
+        let mut orders = OneByteReader::new(CASCADE, Some((call, ErrorKind::BrokenPipe)));
+        let day = made(&rt, THREADS, SEGMENT, NONE.as_bytes(), &mut orders, ALL);
+        assert!(rt; told_of(&rt, day).answer == Err(DayFault::Orders(READ_FAILED)));
     }
 }
 
-/// Compares what a writer with this room holds, which then fails, behind the day of two texts on so many threads.
+/// Compares what a writer with this room holds, which then fails, behind the statement of a day on several threads.
 fn fails_after(
     rt: &(impl Abort + AllocGlobal + Threads + Sync),
-    threads: u32,
     segment: &str,
     orders: &str,
     statement: &[u8],
@@ -513,9 +310,10 @@ fn fails_after(
 ) {
     for failure in FAILURES {
         let mut out = ShortWriter::new(rt.alloc(), room, failure);
-        let (mut segment, mut orders) = (segment.as_bytes(), orders.as_bytes());
-        let ended = tell(rt, threads, &mut segment, &mut orders, &mut out, BOTH);
-        assert!(rt; matches!(ended, Err(DayFault::WriteFailed)));
+        let mut orders = orders.as_bytes();
+        let day = made(rt, THREADS, segment, NONE.as_bytes(), &mut orders, ALL);
+        let day = day.expect(rt, "a day");
+        assert!(rt; send_statement(&day.statement, &mut out) == Err(DayFault::WriteFailed));
         assert!(rt; out.bytes.as_slice() == statement.get(..room).unwrap_or(b""));
     }
 }
@@ -523,11 +321,10 @@ fn fails_after(
 #[test]
 fn writers_that_fail(rt: HostRuntime) {
     for (segment, orders) in [(SEGMENT, CASCADE), (TWO, APART)] {
-        let alone = tell_alone(&rt, segment, orders);
+        let alone = tell(&rt, 1, segment, NONE.as_bytes(), orders);
         let statement = alone.statement.as_slice();
         for room in (0..statement.len()).step_by(41) {
-            fails_after(&rt, 2, segment, orders, statement, room);
-            fails_after(&rt, 8, segment, orders, statement, room);
+            fails_after(&rt, segment, orders, statement, room);
         }
     }
 }

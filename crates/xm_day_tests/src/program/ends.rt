@@ -195,7 +195,12 @@ const WRITTEN: [End; 4] = [
 
 /// What is told where the answers can't be written as the words ask.
 pub const CANNOT_TELL: Printed = Printed::Text(
-    "error: --answers and --depth go with one worker, and with a file each: standard output has the statement\n\nUsage: xetra-day run [OPTIONS] <SEGMENT> <ORDERS>\n\nFor more information, try '--help'.\n",
+    "error: --answers, --trades and --depth go with one worker, and with a file each: standard output has the statement\n\nUsage: xetra-day run [OPTIONS] <SEGMENT> <ORDERS>\n\nFor more information, try '--help'.\n",
+);
+
+/// The same of a day that hands on what it leaves.
+pub const CANNOT_TELL_CARRIED: Printed = Printed::Text(
+    "error: --answers, --trades and --depth go with one worker, and with a file each: standard output has the statement\n\nUsage: xetra-day carry [OPTIONS] <SEGMENT> <IN> <ORDERS> <OUT>\n\nFor more information, try '--help'.\n",
 );
 
 /// Runs that write no answers: the order file is at fault, the file is one that is read, or it can't be made, and mistakes.

@@ -72,12 +72,19 @@ Options:
           file is made before any file is read, and written behind the statement. docs/FORMATS.md tells of
           each field. It goes with one worker.
 
+      --trades <FILE>
+          Writes each trade, and the row that set it off, to this file (CSV)
+          
+          A line a trade, in the order of the rows: record,security,sweep,kind,price,quantity,buyer,
+          buy_reference,seller,sell_reference,text. The file is made before any file is read, and written
+          behind the statement and the answers. docs/FORMATS.md tells of each field. It goes with one worker.
+
       --depth <FILE>
           Writes the best levels of both sides, behind each row that changed them, to this file (CSV)
           
           Five limits of each side with the units that rest at them, and the units of market orders, as far as
           they are active in the phase. The file is made before any file is read, and written behind the
-          statement and the answers. docs/FORMATS.md tells of each field. It goes with one worker.
+          statement, the answers and the trades. docs/FORMATS.md tells of each field. It goes with one worker.
 
   -h, --help
           Print help (see a summary with '-h')
@@ -139,7 +146,7 @@ const HELP: [End; 10] = [
     prints!(WHOLE_HELP, b"-h"),
     prints!(WHOLE_HELP, b"help"),
     complains!(2, WHOLE_HELP,),
-    prints!(Printed::Text("xetra-day 0.2.0\n"), b"--version"),
+    prints!(Printed::Text("xetra-day 0.3.0\n"), b"--version"),
 ];
 
 #[test]

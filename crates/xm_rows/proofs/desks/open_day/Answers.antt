@@ -5,6 +5,7 @@ use Rattle.xm_rows.proofs.Taking.{if_memory}
 use Rattle.xm_rows.proofs.Feeding.{feed-begun}
 use Rattle.xm_rows.specs.Day.{Day}
 use Rattle.xm_rows.specs.RowAnswers.{answers_header, where_asked}
+use Rattle.xm_rows.specs.RowTrades.{trades_header}
 use Rattle.xm_rules.specs.Step.{replay}
 use Rattle.xm_segment.specs.Opening.{journal_of}
 use Rattle.xm_rows.proofs.desks.open_day.Goals as goal
@@ -19,6 +20,7 @@ returns c = λ names orders.
       day_is = day-opened config c.in_ok-desks.desks.items opened;
       all = refl;
       answers_are = c.in_ok-told.ensures.answers ∙ ap (where_asked c.args.asked.answers) (sym (append-nil answers_header));
+      trades_are = c.in_ok-told.ensures.trades ∙ ap (where_asked c.args.asked.trades) (sym (append-nil trades_header));
       depth_is = c.in_ok-told.ensures.depth ∙ ap (where_asked c.args.asked.depth) (feed-begun names config _ (ap (map replay) c.as_slice.ensures.value ∙ ap (λ (d : Day). d.states) (day-opened config c.in_ok-desks.desks.items opened)));
     }
 

@@ -4,11 +4,13 @@ use Rattle.xm_rules.specs.Step.{Journal}
 use Rattle.xm_rows.proofs.Days.{after_rows-append, lacks-later, lent_back}
 use Rattle.xm_rows.proofs.Taking.{if_memory}
 use Rattle.xm_rows.proofs.Feeding.{feed-joined}
-use Rattle.xm_rows.proofs.Tells.{answers-joined}
+use Rattle.xm_rows.proofs.Tells.{told-joined}
 use Rattle.xm_rows.specs.Taken.{HasTaken}
 use Rattle.xm_rows.specs.Day.{Day, LacksMemoryAt, after_rows, day_of, opening_day}
 use Rattle.xm_rows.specs.Feeds.{feed_of}
-use Rattle.xm_rows.specs.RowAnswers.{answers_text, where_asked}
+use Rattle.xm_rows.specs.RowAnswers.{answers_header, answers_text, told_of, where_asked}
+use Rattle.xm_rows.specs.RowTrades.{told_trades, trades_header, trades_text}
+use Rattle.xm_files.specs.RecordTexts.{text_of_record}
 use Rattle.xm_rows.proofs.desks.take_more.Goals as goal
 
 pub returns-clause-taken : goal.returns-clause-taken
@@ -34,7 +36,8 @@ returns-clause-taken c = λ asked config taken has.
           ∙ ap (λ (d : Day). after_rows d rows) day
           ∙ sym (after_rows-append (opening_day config) taken rows);
       all = omega (arith, both, counted, count);
-      answers_are = answers-joined asked.answers names orders config taken rows _ _ _ before.answers_are day c.in_ok-report.ensures.answers;
+      answers_are = told-joined asked.answers (told_of names (text_of_record orders)) answers_header config taken rows _ _ _ before.answers_are day c.in_ok-report.ensures.answers;
+      trades_are = told-joined asked.trades (told_trades names (text_of_record orders)) trades_header config taken rows _ _ _ before.trades_are day c.in_ok-report.ensures.trades;
       depth_is = feed-joined asked.depth names config taken rows _ _ _ before.depth_is day c.in_ok-report.ensures.depth;
     }
 
@@ -50,5 +53,6 @@ returns-in_err-report-clause-taken c = λ asked config taken has.
     if_memory asked names orders config (taken ++ rows) c.from_residual-in_err-report.result c.from_residual-in_err-report.ensures.1 before.sound
     (λ unasked. lacks-later (opening_day config) taken rows (subst Lacks day (c.in_err-report.ensures.memory (record {
       answers = before.answers_are ∙ ap (λ (b : Bool). where_asked b (answers_text names config orders taken)) unasked.answers;
+      trades = before.trades_are ∙ ap (λ (b : Bool). where_asked b (trades_text names config orders taken)) unasked.trades;
       depth = before.depth_is ∙ ap (λ (b : Bool). where_asked b (feed_of names config taken)) unasked.depth;
     }))))

@@ -3,7 +3,7 @@ use Rattle.std.proofs.lemmas.List.{length-map}
 use Rattle.xm_threads.proofs.Apart.{day-apart, few-accepted}
 use Rattle.xm_threads.proofs.Merging.{feed-behind}
 use Rattle.xm_rows.specs.Day.{Day, day_of}
-use Rattle.xm_threads.specs.Lanes.{LaneView}
+use Rattle.xm_threads.specs.Lanes.{LaneView, TextsView}
 use Rattle.xm_rows.specs.Taken.{commands_in}
 use Rattle.xm_files.specs.Batches.{rows_so_far}
 use Rattle.xm_rules.specs.Step.{Journal, replay}
@@ -45,8 +45,9 @@ returns c = λ asked names orders tells.
           ∙ ap (day_of journals (commands_in journals)) left
           ∙ apart;
       all = omega (arith, accepted, left, few, c.total-rows.ensures.total);
-      answers_are = c.in_ok-told.ensures.answers ∙ told.answers_are;
+      answers_are = c.in_ok-told.ensures.answers ∙ ap (λ (t : TextsView). t.answers) told.texts_are;
+      trades_are = c.in_ok-told.ensures.trades ∙ ap (λ (t : TextsView). t.trades) told.texts_are;
       depth_is = c.in_ok-told.ensures.depth
-          ∙ feed-behind asked.depth names c.args.config.now rows (map replay c.as_slice.result.now) c.args.merged.levels told.levels_are
+          ∙ feed-behind asked.depth names c.args.config.now rows (map replay c.as_slice.result.now) c.args.merged.texts.levels (ap (λ (t : TextsView). t.levels) told.texts_are)
           (ap (map replay) (c.as_slice.ensures.value ∙ is) ∙ ap (λ (d : Day). d.states) apart);
     }
