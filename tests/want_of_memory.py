@@ -1,6 +1,6 @@
 #!/usr/bin/env python3
 """Want of memory is told where a growth was refused. Types say most of that: `OutOfMemory` has no public constructor. What they
-can't say: no crate but `xm_memory`, which makes it, and `xm_refusing`, which refuses growths for tests, names the error of a
+can't say: no crate but `xm_memory`, which makes it, and `xm_failing_alloc`, which refuses growths for tests, names the error of a
 refused growth; and what takes another's word for one (`told_by`), or a count for too high (`count_within`), is named in
 docs/TESTED.md. Prints each place where that isn't so, and ends with status 1 where there is one."""
 import pathlib
@@ -8,7 +8,7 @@ import re
 import sys
 
 ROOT = pathlib.Path(__file__).resolve().parent.parent
-MAKERS = {"xm_memory", "xm_refusing"}
+MAKERS = {"xm_memory", "xm_failing_alloc"}
 GROWTH = re.compile(r"\b(AllocError|AllocFailed)\b")
 WORD = re.compile(r"\b(told_by|count_within)\(")
 

@@ -3,7 +3,7 @@
 use std::alloc::Global;
 use std::marker::Model;
 use xm_desk::Desk;
-use xm_names::Storage;
+use xm_name_index::Storage;
 use xm_rules::{
     Carried, Command, DeskSettings, Order, Phase, Quote, Refusal, Reply, Side, Stop, Trade, Widths,
 };

@@ -8,7 +8,7 @@ use std::rt::Files;
 use std::sync::Wait;
 use std::thread::Threads;
 use xm_day::{AskedTexts, DayFault};
-use xm_names::Storage;
+use xm_name_index::Storage;
 use xm_program::{
     Concurrency, Count, Input, Output, TextFiles, carry_over, fault_line, open_input, run,
 };

@@ -4,7 +4,7 @@ use Rattle.std.proofs.Crossing.{crosses}
 use Rattle.std.specs.contracts.alloc.Global.{the_row as heap}
 use Rattle.std.specs.contracts.impls.GlobalAllocator.TheImpl.{ghosts}
 use Rattle.xm_ladders.proofs.Crosses.{ladders-send}
-use Rattle.xm_names.proofs.Crosses.{names-send}
+use Rattle.xm_name_index.proofs.Crosses.{names-send}
 use Rattle.xm_queues.proofs.Crosses.{queues-send}
 use Rattle.xm_book.specs.contracts.order_queues.OrderQueues as OrderQueues
 use Rattle.xm_book.specs.contracts.book.Book as Book

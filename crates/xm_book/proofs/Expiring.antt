@@ -15,7 +15,7 @@ use Rattle.xm_slots.proofs.Tests.{find-filter, length-kept, none-found}
 use Rattle.xm_slots.proofs.Members.{Contains-map, IsMade-map, Passes-filter, find-Some, list_any-false}
 use Rattle.xm_rules.specs.Commands.{is_in_range, outlasts}
 use Rattle.xm_book.proofs.Named.{rests-kept}
-use Rattle.xm_names.specs.Names.{NamesOfMember, Retains, lookup, reserved}
+use Rattle.xm_name_index.specs.Names.{NamesOfMember, Retains, lookup, reserved}
 use Rattle.xm_rules.specs.Orders.{is_named}
 use Rattle.xm_rules.specs.declared.orders.Order.{Order}
 use Rattle.xm_queues.specs.Keys.{AreDistinct}

@@ -21,7 +21,7 @@ use Rattle.xm_book.proofs.Named.{fewer-left, key_of-reduced, orders-reduced, own
 use Rattle.xm_slots.proofs.Leaving.{key-once}
 use Rattle.xm_slots.proofs.Tests.{length-kept, none-found, some-found}
 use Rattle.xm_book.proofs.Reserved.{Gains-length, Gains-same, count_one}
-use Rattle.xm_names.specs.Names.{NamesOfMember, lookup, reserved}
+use Rattle.xm_name_index.specs.Names.{NamesOfMember, lookup, reserved}
 use Rattle.xm_queues.specs.Keys.{AreDistinct}
 use Rattle.xm_rules.specs.Commands.{is_in_range}
 use Rattle.xm_rules.specs.Orders.{is_named, removed, with_rest, without_member}

@@ -4,7 +4,7 @@ use Rattle.xm_ladders.specs.Ladder.{HasLevels, LadderView}
 use Rattle.xm_ladders.specs.Ladders.{ladder_on, side_of, with_ladder, with_side}
 use Rattle.xm_ladders.specs.declared.ladders.Ladders.{Ladders}
 use Rattle.xm_ladders.specs.declared.ladders.SideLadders.{SideLadders}
-use Rattle.xm_prices.proofs.Callers.{room-less}
+use Rattle.xm_price_maps.proofs.Callers.{room-less}
 use Rattle.xm_rules.specs.Orders.{same_restriction}
 use Rattle.xm_rules.specs.Sides.{same_side}
 use Rattle.xm_rules.specs.declared.orders.OrderKind.{OrderKind}

@@ -6,7 +6,7 @@ use Rattle.std.specs.Prelude.{◌≡◌, ◌≤◌, ◌==◌, ℕ, Bool, List, m
 use Rattle.xm_book.specs.Queued.{QueuedOrders}
 use Rattle.xm_book.specs.TimeList.{IsBook}
 use Rattle.xm_book.specs.declared.places.Place.{Place}
-use Rattle.xm_names.specs.Names.{NamesOfMember, lookup, reserved}
+use Rattle.xm_name_index.specs.Names.{NamesOfMember, lookup, reserved}
 
 abbrev pub is_for : ℕ → Place → Bool
 is_for member p = p.member == member

@@ -17,7 +17,7 @@ use crate::places::Place;
 use std::alloc::Allocator;
 use std::marker::Model;
 use xm_memory::OutOfMemory;
-use xm_names::{Names, Storage};
+use xm_name_index::{Names, Storage};
 use xm_rules::{Order, OrderKind, Phase, Side};
 use xm_slots::Entry;
 use xm_ticks::Price;

@@ -7,12 +7,12 @@ ghost use Rattle.xm_book.specs.Expiry.{outlives};
 ghost use Rattle.xm_book.specs.Indexed.{AreOrdersIndexed};
 ghost use Rattle.xm_slots.specs.Listing.{is_done};
 ghost use Rattle.xm_slots.specs.declared.listing.Listed.{Listed};
-ghost use Rattle.xm_names.specs.Names.{lookup, reserved};
+ghost use Rattle.xm_name_index.specs.Names.{lookup, reserved};
 ghost use Rattle.xm_rules.specs.declared.orders.Order.{Order};
 
 use crate::order_queues::OrderQueues;
 use std::alloc::Allocator;
-use xm_names::Names;
+use xm_name_index::Names;
 
 /// Takes out the orders that aren't valid beyond a day, with their names. The names go member by member, as they lie
 /// together, and then the orders by their keys: by its name, each order would be looked up in another member's table.

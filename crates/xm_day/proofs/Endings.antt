@@ -2,15 +2,15 @@
 use Rattle.std.proofs.Common.{◌≡◌, ℕ, List, Option, None, Some, Result, Ok, Err, IfErr, IfSome, sym, subst, Vec}
 use Rattle.std.specs.Global.{Global}
 use Rattle.xm_day.specs.Answers.{AreRowsOf, FileRun, IsOfWriting, IsSegmentOf}
-use Rattle.xm_rows.specs.Taken.{HasTaken, RowsTaken}
+use Rattle.xm_replay.specs.Taken.{HasTaken, RowsTaken}
 use Rattle.xm_day.specs.Checks.{IsCheck, OpensTo}
-use Rattle.xm_rows.specs.declared.desks.OpenDay.{OpenDay}
+use Rattle.xm_replay.specs.declared.desks.OpenDay.{OpenDay}
 use Rattle.xm_files.specs.Orders.{orders_of}
 use Rattle.xm_files.specs.Names.{NameLists}
 use Rattle.xm_segment.specs.declared.config.SegmentConfig.{SegmentConfig}
-use Rattle.xm_rows.specs.declared.faults.DayFault.{DayFault}
-use Rattle.xm_rows.specs.declared.report.AskedTexts.{AskedTexts}
-use Rattle.xm_rows.specs.declared.faults.DayFault.TheVariants.{Segment, Carry, Orders, Open, OutOfMemory, WriteFailed}
+use Rattle.xm_replay.specs.declared.faults.DayFault.{DayFault}
+use Rattle.xm_replay.specs.declared.report.AskedTexts.{AskedTexts}
+use Rattle.xm_replay.specs.declared.faults.DayFault.TheVariants.{Segment, Carry, Orders, Open, OutOfMemory, WriteFailed}
 use Rattle.xm_segment.specs.declared.rows.Row.{Row}
 
 -- the rows of known bytes are those of their file

@@ -3,11 +3,11 @@
 use Rattle.std.specs.Prelude.{◌≡◌, ◌⊎◌, ℕ, List, Option, Result, Ok, Err, IfSome}
 use Rattle.std.specs.Io.KnownBytes.{Appends}
 use Rattle.xm_day.specs.Answers.{DayOfRowsEnds, IsFileFault, IsSegmentOf, statement_of}
-use Rattle.xm_statement.specs.Carry.{carry_text}
-use Rattle.xm_rows.specs.Day.{Day}
-use Rattle.xm_rows.specs.declared.faults.DayFault.{DayFault}
-use Rattle.xm_rows.specs.declared.faults.DayFault.TheVariants.{Segment, Carry}
-use Rattle.xm_rows.specs.declared.report.DayReport.{DayReport}
+use Rattle.xm_texts.specs.Carry.{carry_text}
+use Rattle.xm_replay.specs.Day.{Day}
+use Rattle.xm_replay.specs.declared.faults.DayFault.{DayFault}
+use Rattle.xm_replay.specs.declared.faults.DayFault.TheVariants.{Segment, Carry}
+use Rattle.xm_replay.specs.declared.report.DayReport.{DayReport}
 use Rattle.xm_files.specs.Carry.{carry_of}
 use Rattle.xm_files.specs.Names.{NameLists}
 use Rattle.xm_files.specs.Segment.{segment_of}

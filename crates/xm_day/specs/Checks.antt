@@ -3,9 +3,9 @@ use Rattle.std.specs.Prelude.{◌≡◌, ℕ, List, ◌++◌, codes, length, Opt
 use Rattle.std.specs.Fmt.{decimal}
 use Rattle.std.specs.Global.{Global}
 use Rattle.xm_day.specs.Answers.{IsFileFault, IsSegmentOf}
-use Rattle.xm_rows.specs.Taken.{IsOpenFault}
-use Rattle.xm_rows.specs.declared.faults.DayFault.{DayFault}
-use Rattle.xm_rows.specs.declared.faults.DayFault.TheVariants.{Segment, Open, OutOfMemory}
+use Rattle.xm_replay.specs.Taken.{IsOpenFault}
+use Rattle.xm_replay.specs.declared.faults.DayFault.{DayFault}
+use Rattle.xm_replay.specs.declared.faults.DayFault.TheVariants.{Segment, Open, OutOfMemory}
 use Rattle.xm_files.specs.Names.{NameLists}
 use Rattle.xm_files.specs.Segment.{segment_of}
 use Rattle.xm_segment.specs.Opening.{segment_fault}

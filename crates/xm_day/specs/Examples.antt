@@ -23,9 +23,9 @@ use Rattle.xm_rules.specs.declared.replies.Refusal.{Refusal}
 use Rattle.xm_rules.specs.declared.replies.Refusal.TheVariants as refused
 use Rattle.xm_rules.specs.declared.replies.Reply.{Reply}
 use Rattle.xm_segment.specs.Opening.{settings_of}
-use Rattle.xm_rows.specs.MarketDepth.{depth_header}
-use Rattle.xm_rows.specs.RowAnswers.{answers_header}
-use Rattle.xm_rows.specs.RowTrades.{trades_header}
+use Rattle.xm_replay.specs.MarketDepth.{depth_header}
+use Rattle.xm_replay.specs.RowAnswers.{answers_header}
+use Rattle.xm_replay.specs.RowTrades.{trades_header}
 use Rattle.xm_files.specs.Names.{NameLists}
 use Rattle.xm_segment.specs.declared.config.SecurityConfig.{SecurityConfig}
 use Rattle.xm_segment.specs.declared.config.SegmentConfig.{SegmentConfig}

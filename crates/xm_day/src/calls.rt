@@ -5,8 +5,8 @@ ghost use Rattle.std.specs.Io.KnownBytes.{Appends};
 ghost use Rattle.xm_day.specs.Answers.{DayEnds, InFileOrder, IsOfWriting, OrdersEnd};
 ghost use Rattle.xm_day.specs.CarriedDays.{CarriedDayEnds};
 ghost use Rattle.xm_day.specs.Days.{BothWritten, StatementWritten};
-ghost use Rattle.xm_statement.specs.Carry.{carry_text};
-ghost use Rattle.xm_statement.specs.Statement.{statement};
+ghost use Rattle.xm_texts.specs.Carry.{carry_text};
+ghost use Rattle.xm_texts.specs.Statement.{statement};
 ghost use Rattle.xm_rules.specs.Step.{replay};
 ghost use Rattle.xm_ticks.specs.Writing.{AppendsPrefix};
 ghost use Rattle.xm_workers.specs.Workers.{IsShared};
@@ -22,10 +22,10 @@ use std::sync::Wait;
 use std::thread::Threads;
 use xm_desk::Desk;
 use xm_files::SegmentNames;
-use xm_names::Storage;
-use xm_rows::{AskedTexts, DayFault, DayReport};
+use xm_name_index::Storage;
+use xm_replay::{AskedTexts, DayFault, DayReport};
 use xm_segment::{Gate, SegmentConfig};
-use xm_statement::{carry_text, statement_text};
+use xm_texts::{carry_text, statement_text};
 use xm_ticks::write_whole;
 
 /// Writes the statement of the desks of a segment, which are in index order.

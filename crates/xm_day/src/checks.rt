@@ -1,6 +1,6 @@
 //! The check of a segment file.
 ghost use Rattle.std.specs.Prelude.{◌≡◌, IfErr, IfOk, None, OnOk};
-ghost use Rattle.xm_rows.specs.Taken.{IsOpenFault};
+ghost use Rattle.xm_replay.specs.Taken.{IsOpenFault};
 ghost use Rattle.xm_day.specs.Checks.{IsCheck, check_line};
 ghost use Rattle.xm_segment.specs.Opening.{segment_fault};
 
@@ -9,10 +9,10 @@ use std::alloc::{Allocator, Global};
 use std::io::Read;
 use xm_desk::OpenFault;
 use xm_memory::OutOfMemory;
-use xm_names::Storage;
-use xm_rows::DayFault;
+use xm_name_index::Storage;
+use xm_replay::DayFault;
 use xm_segment::{SegmentConfig, open_desks};
-use xm_statement::texts::{push_number, push_text};
+use xm_texts::texts::{push_number, push_text};
 
 /// Checks a segment file: reads it, sees that the segment opens, and gives its line: how many securities and members it has. The
 /// checks come in this order.

@@ -1,6 +1,6 @@
 //! The desks of a segment that have taken an order file.
 ghost use Rattle.std.specs.Prelude.{◌≡◌, ◌≤◌, length};
-ghost use Rattle.xm_rows.specs.Taken.{HasTaken, RowsTaken};
+ghost use Rattle.xm_replay.specs.Taken.{HasTaken, RowsTaken};
 ghost use Rattle.xm_day.specs.Answers.{FileRun};
 ghost use Rattle.xm_day.specs.Days.{IsUntold, SharesRows};
 ghost use Rattle.xm_segment.specs.declared.opening.TheConstants.{MAX_WORKERS};
@@ -10,8 +10,8 @@ use std::io::Read;
 use std::sync::Wait;
 use std::thread::Threads;
 use xm_files::{SegmentNames, read_orders};
-use xm_names::Storage;
-use xm_rows::{AskedTexts, DayFault, OpenDay, Told, run_rows};
+use xm_name_index::Storage;
+use xm_replay::{AskedTexts, DayFault, OpenDay, Told, run_rows};
 use xm_segment::{Gate, SegmentConfig};
 use xm_threads::run_apart;
 use xm_workers::run_shared;

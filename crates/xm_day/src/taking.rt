@@ -2,7 +2,7 @@
 ghost use Rattle.std.specs.Prelude.{◌≡◌, ◌≢◌, ◌≤◌, ◌<◌, IfOk, None, length, map};
 ghost use Rattle.xm_day.specs.Answers.{InFileOrder};
 ghost use Rattle.xm_day.specs.Days.{IsStated, TakesFile, nothing_asked};
-ghost use Rattle.xm_statement.specs.Statement.{statement};
+ghost use Rattle.xm_texts.specs.Statement.{statement};
 ghost use Rattle.xm_workers.specs.Workers.{IsShared};
 ghost use Rattle.xm_rules.specs.Step.{replay};
 ghost use Rattle.xm_segment.specs.Opening.{segment_fault};
@@ -17,10 +17,10 @@ use std::thread::Threads;
 use xm_desk::Desk;
 use xm_files::SegmentNames;
 use xm_memory::OutOfMemory;
-use xm_names::Storage;
-use xm_rows::{AskedTexts, DayFault, DayReport, OpenDay};
+use xm_name_index::Storage;
+use xm_replay::{AskedTexts, DayFault, DayReport, OpenDay};
 use xm_segment::{Gate, SegmentConfig};
-use xm_statement::{push_day, push_members, push_rows, statement_text};
+use xm_texts::{push_day, push_members, push_rows, statement_text};
 use xm_threads::security_texts;
 
 /// A day whose rows are taken, with the text of its statement.

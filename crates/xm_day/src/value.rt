@@ -1,7 +1,7 @@
 //! The texts of a day.
 ghost use Rattle.std.specs.Prelude.{◌≡◌, IfOk, length, map};
 ghost use Rattle.xm_day.specs.Days.{HasTextsOf, hands_on, text_where};
-ghost use Rattle.xm_statement.specs.Carry.{carry_text};
+ghost use Rattle.xm_texts.specs.Carry.{carry_text};
 ghost use Rattle.xm_rules.specs.Step.{replay};
 
 use crate::statement_text::StatementText;
@@ -10,8 +10,8 @@ use std::alloc::Global;
 use xm_desk::Desk;
 use xm_files::SegmentNames;
 use xm_memory::OutOfMemory;
-use xm_rows::{DayFault, DayReport, OpenDay};
-use xm_statement::carry_text;
+use xm_replay::{DayFault, DayReport, OpenDay};
+use xm_texts::carry_text;
 
 /// What a day hands on to the next one.
 #[derive(Clone, Copy, PartialEq, Eq, Debug)]

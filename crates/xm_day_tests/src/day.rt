@@ -15,7 +15,7 @@ use std::process::Abort;
 use xm_day::{DayFault, run_alone};
 use xm_desk::OpenFault;
 use xm_files::{FileCause, FileFault};
-use xm_names::Storage;
+use xm_name_index::Storage;
 
 const STATEMENT: &str = "DAY 20260105
 SECURITY XYZ opening-call

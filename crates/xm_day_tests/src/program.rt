@@ -46,7 +46,7 @@ use std::{fs, io};
 use xm_day::{AskedTexts, DayFault};
 use xm_desk::OpenFault;
 use xm_files::{FileCause, FileFault};
-use xm_names::Storage;
+use xm_name_index::Storage;
 use xm_program::{
     Concurrency, Count, DayRequest, Failure, Input, Output, Request, TextFiles, TextPaths, check,
     fault_line, open_input, read_words, run,

@@ -17,7 +17,7 @@ use crate::unsettled::market::Market;
 use std::alloc::Allocator;
 use std::marker::Model;
 use xm_memory::OutOfMemory;
-use xm_names::Storage;
+use xm_name_index::Storage;
 use xm_positions::Positions;
 use xm_rules::{
     Command, DeskSettings, Order, PHASE_COMMANDS_MORE, Phase, Quote, Refusal, Reply, Side, Stop,

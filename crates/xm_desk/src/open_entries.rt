@@ -16,7 +16,7 @@ use std::alloc::Allocator;
 use std::marker::Model;
 use xm_book::{Book, Place};
 use xm_memory::OutOfMemory;
-use xm_names::Storage;
+use xm_name_index::Storage;
 use xm_rules::{DeskSettings, Order, Stop};
 use xm_stops::Stops;
 use xm_ticks::Price;

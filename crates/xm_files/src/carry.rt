@@ -26,7 +26,7 @@ use csv::ByteRecord;
 use std::alloc::Global;
 use std::io::Read;
 use xm_memory::OutOfMemory;
-use xm_names::Storage;
+use xm_name_index::Storage;
 use xm_segment::{Securities, SecurityConfig, SegmentConfig};
 
 /// Reads a carry file: the settings of a segment, with the orders and stops of each security that the file lists in place of

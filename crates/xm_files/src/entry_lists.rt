@@ -13,7 +13,7 @@ use std::alloc::Global;
 use std::marker::Model;
 use std::mem;
 use xm_memory::OutOfMemory;
-use xm_names::{Names, Storage};
+use xm_name_index::{Names, Storage};
 use xm_rules::{Carried, MAX_CARRIED, Order, Stop};
 
 /// The orders and stops of a security that were read so far, in the order of the file. A clause sees both lists.
@@ -37,7 +37,7 @@ impl Drop for EntryLists {
 impl Model for EntryLists {
     ghost use Rattle.std.specs.Prelude.{◌≡◌, ℕ, is_some};
     ghost use Rattle.std.specs.List.{list_any};
-    ghost use Rattle.xm_names.specs.Names.{lookup};
+    ghost use Rattle.xm_name_index.specs.Names.{lookup};
     ghost use Rattle.xm_rules.specs.Entries.{Entries, is_same_name, names};
 
     ghost Value = { Entries };

@@ -3,7 +3,7 @@ use denote.Param.Send.{IsSend, sendable}
 use Rattle.std.proofs.Crossing.{crosses}
 use Rattle.std.specs.contracts.alloc.Global.{the_row as heap}
 use Rattle.std.specs.contracts.impls.GlobalAllocator.TheImpl.{ghosts}
-use Rattle.xm_prices.proofs.Crosses.{levels-send}
+use Rattle.xm_price_maps.proofs.Crosses.{levels-send}
 use Rattle.xm_ladders.specs.contracts.ladder.Ladder as Ladder
 use Rattle.xm_ladders.specs.contracts.ladders.SideLadders as SideLadders
 use Rattle.xm_ladders.specs.contracts.ladders.Ladders as Ladders

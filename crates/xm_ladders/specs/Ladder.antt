@@ -1,7 +1,7 @@
 -- The levels of one side and restriction, as a clause sees them.
 use Rattle.std.specs.Prelude.{◌≡◌, ℕ, ◌<◌, ◌≤◌, false, List, [], Option, Some, None, IfSome, IsSome}
 use Rattle.xm_ladders.specs.declared.level.Level.{Level}
-use Rattle.xm_prices.specs.Levels as levels
+use Rattle.xm_price_maps.specs.Levels as levels
 use Rattle.xm_queues.specs.Queue.{IsQueue}
 use Rattle.xm_queues.specs.declared.links.Link.{Link}
 use Rattle.xm_rules.specs.Sides.{reaches}

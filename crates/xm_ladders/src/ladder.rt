@@ -9,7 +9,7 @@ use crate::level::Level;
 use std::alloc::Allocator;
 use std::marker::Model;
 use xm_memory::OutOfMemory;
-use xm_prices::Levels;
+use xm_price_maps::Levels;
 use xm_rules::{OrderKind, Side};
 use xm_ticks::Price;
 

@@ -3,8 +3,8 @@ use Rattle.std.proofs.Common.{◌≡◌, ◌≢◌, ◌⊎◌, ℕ, List, [], Op
 use Rattle.clap.specs.Values.{kind_of}
 use Rattle.clap.specs.Words.{Kinds}
 use Rattle.clap.specs.declared.error.Error.{Error}
-use Rattle.xm_rows.specs.declared.faults.DayFault.{DayFault}
-use Rattle.xm_rows.specs.declared.faults.DayFault.TheVariants.{Segment, Carry, Orders, Open, OutOfMemory, WriteFailed}
+use Rattle.xm_replay.specs.declared.faults.DayFault.{DayFault}
+use Rattle.xm_replay.specs.declared.faults.DayFault.TheVariants.{Segment, Carry, Orders, Open, OutOfMemory, WriteFailed}
 use Rattle.xm_program.specs.Ends.{AskedEnds, AsksHelp, HasDone, IsDone}
 use Rattle.xm_program.specs.Requests.{AnswersWords, Asked, IsTold}
 use Rattle.xm_program.specs.declared.requests.Failure.{Failure}

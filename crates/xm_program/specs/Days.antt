@@ -8,11 +8,11 @@ use Rattle.xm_day.specs.Days.{DayFiles, IsDay, nothing_asked}
 use Rattle.xm_day.specs.declared.value.DayTexts.{DayTexts}
 use Rattle.xm_day.specs.declared.value.HandsOn.{HandsOn}
 use Rattle.xm_day.specs.declared.value.HandsOn.TheVariants.{Nothing, WhatIsLeft}
-use Rattle.xm_rows.specs.Day.{Day}
+use Rattle.xm_replay.specs.Day.{Day}
 use Rattle.xm_workers.specs.Workers.{IsShared}
-use Rattle.xm_rows.specs.declared.report.AskedTexts.{AskedTexts}
-use Rattle.xm_rows.specs.declared.faults.DayFault.{DayFault}
-use Rattle.xm_rows.specs.declared.faults.DayFault.TheVariants.{WriteFailed}
+use Rattle.xm_replay.specs.declared.report.AskedTexts.{AskedTexts}
+use Rattle.xm_replay.specs.declared.faults.DayFault.{DayFault}
+use Rattle.xm_replay.specs.declared.faults.DayFault.TheVariants.{WriteFailed}
 use Rattle.xm_program.specs.FaultLines.{told}
 use Rattle.xm_program.specs.declared.concurrency.Concurrency.{Concurrency}
 use Rattle.xm_program.specs.declared.concurrency.Concurrency.TheVariants.{Threads, Workers}

@@ -4,8 +4,8 @@ use Rattle.std.specs.Io.KnownBytes.{Appends}
 use Rattle.clap.specs.Values.{kind_of}
 use Rattle.clap.specs.Words.{IsAmong, Kinds}
 use Rattle.clap.specs.declared.error.kind.ErrorKind.{ErrorKind}
-use Rattle.xm_rows.specs.declared.faults.DayFault.{DayFault}
-use Rattle.xm_rows.specs.declared.faults.DayFault.TheVariants.{OutOfMemory, WriteFailed}
+use Rattle.xm_replay.specs.declared.faults.DayFault.{DayFault}
+use Rattle.xm_replay.specs.declared.faults.DayFault.TheVariants.{OutOfMemory, WriteFailed}
 use Rattle.xm_program.specs.Days.{CheckCallEnds, FilesEnd}
 use Rattle.xm_program.specs.FaultLines.{fault_line}
 use Rattle.xm_program.specs.Requests.{Asked, IsOfWords, asked_texts, check, day, end_status, is_mistake}

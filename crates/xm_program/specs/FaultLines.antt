@@ -6,8 +6,8 @@ use Rattle.xm_desk.specs.declared.opening.OpenFault.TheVariants as opening
 use Rattle.xm_files.specs.declared.file_faults.FileCause.{FileCause}
 use Rattle.xm_files.specs.declared.file_faults.FileCause.TheVariants as file
 use Rattle.xm_files.specs.declared.file_faults.FileFault.{FileFault}
-use Rattle.xm_rows.specs.declared.faults.DayFault.{DayFault}
-use Rattle.xm_rows.specs.declared.faults.DayFault.TheVariants as day
+use Rattle.xm_replay.specs.declared.faults.DayFault.{DayFault}
+use Rattle.xm_replay.specs.declared.faults.DayFault.TheVariants as day
 
 -- a file's fault, by its name
 abbrev pub cause_name : FileCause → List ℕ

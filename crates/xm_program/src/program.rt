@@ -30,7 +30,7 @@ use xm_day::{
 };
 use xm_files::SegmentNames;
 use xm_memory::OutOfMemory;
-use xm_names::{Seed, Storage};
+use xm_name_index::{Seed, Storage};
 use xm_segment::{NoGate, SegmentConfig};
 use xm_ticks::write_whole;
 

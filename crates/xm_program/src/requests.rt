@@ -302,7 +302,7 @@ impl Failure {
 
 impl From<OutOfMemory> for Failure {
     ghost use Rattle.xm_program.specs.declared.requests.Failure.TheVariants.{Day};
-    ghost use Rattle.xm_rows.specs.declared.faults.DayFault.TheVariants.{OutOfMemory};
+    ghost use Rattle.xm_replay.specs.declared.faults.DayFault.TheVariants.{OutOfMemory};
 
     ghost from_gives = { λ _ failure. failure ≡ Day (OutOfMemory tt) };
 

@@ -1,6 +1,6 @@
 //! The orders and stops that a day begins with.
 ghost use Rattle.std.specs.Prelude.{◌≡◌, ◌||◌, ℕ, [], IfOk, OnOk, is_some, not};
-ghost use Rattle.xm_names.specs.Names.{lookup};
+ghost use Rattle.xm_name_index.specs.Names.{lookup};
 ghost use Rattle.std.specs.List.{list_all};
 ghost use Rattle.xm_rules.specs.Opening.{can_be_left, is_carriable, is_carriable_stop};
 ghost use Rattle.xm_rules.specs.Entries.{are_distinct, is_same_name, names, none_left};
@@ -10,7 +10,7 @@ use crate::orders::{Order, Stop};
 use std::alloc::Global;
 use std::marker::Model;
 use xm_memory::OutOfMemory;
-use xm_names::{Names, Storage};
+use xm_name_index::{Names, Storage};
 
 /// The most orders and stops, together, that a security begins a day with.
 pub const MAX_CARRIED: usize = 100_000;

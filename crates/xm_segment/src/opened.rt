@@ -25,7 +25,7 @@ use std::marker::Model;
 use std::sync::Mutex;
 use xm_desk::{Desk, OpenFault};
 use xm_memory::OutOfMemory;
-use xm_names::Storage;
+use xm_name_index::Storage;
 
 /// A segment that is opened, and which no type names yet: its desks, its boards and its ledgers. Whoever opens it picks its type by
 /// their names. A clause sees the settings of its securities, the boards, the ledgers, and for how many workers and watchers it is.

@@ -9,7 +9,7 @@ use crate::config::{SecurityConfig, SegmentConfig};
 use std::alloc::Allocator;
 use xm_desk::{Desk, MAX_MEMBERS, OpenFault};
 use xm_memory::OutOfMemory;
-use xm_names::Storage;
+use xm_name_index::Storage;
 use xm_rules::DeskSettings;
 
 /// The most securities of a segment.

@@ -3,8 +3,8 @@ use denote.Param.Send.{IsSend, sendable}
 use Rattle.std.proofs.Crossing.{crosses}
 use Rattle.std.specs.contracts.alloc.Global.{the_row as heap}
 use Rattle.std.specs.contracts.impls.GlobalAllocator.TheImpl.{ghosts}
-use Rattle.xm_names.proofs.Crosses.{names-send}
-use Rattle.xm_prices.proofs.Crosses.{levels-send}
+use Rattle.xm_name_index.proofs.Crosses.{names-send}
+use Rattle.xm_price_maps.proofs.Crosses.{levels-send}
 use Rattle.xm_queues.proofs.Crosses.{queues-send}
 use Rattle.xm_stops.specs.contracts.trigger_table.TriggerTable as TriggerTable
 use Rattle.xm_stops.specs.contracts.trigger_queues.TriggerQueues as TriggerQueues

@@ -6,7 +6,7 @@ use Rattle.std.proofs.Common.{◌≡◌, ℕ, ◌+◌, ◌-◌, Bool, true, fals
 use Rattle.std.specs.List.{list_any}
 use Rattle.std.proofs.lemmas.Bool.Decides.{nat_tests}
 use Rattle.std.proofs.lemmas.List.{length-map, map-append}
-use Rattle.xm_names.specs.Names.{NamesOfMember, lookup, reserved}
+use Rattle.xm_name_index.specs.Names.{NamesOfMember, lookup, reserved}
 use Rattle.xm_queues.specs.Keys.{AreDistinct}
 use Rattle.xm_rules.specs.Orders.{is_stop_named, removed_stop, without_stops_of}
 use Rattle.xm_rules.specs.declared.orders.Stop.{Stop}

@@ -3,7 +3,7 @@ use Rattle.xm_stops.specs.Listing.{stop_owner, stop_reference}
 use Rattle.xm_slots.specs.Listing.{listed_item}
 use Rattle.xm_slots.specs.Naming.{have_own_names, key_by_name}
 use Rattle.std.specs.Prelude.{◌≡◌, ◌==◌, ℕ, if◌then◌else◌, List, map, IsTrue, Option, Some, None}
-use Rattle.xm_names.specs.Names.{NamesOfMember, lookup, reserved}
+use Rattle.xm_name_index.specs.Names.{NamesOfMember, lookup, reserved}
 use Rattle.xm_rules.specs.declared.orders.Stop.{Stop}
 use Rattle.xm_stops.specs.Queued.{QueuedStops}
 

@@ -1,7 +1,7 @@
 -- What the tables of both sides end as, once a `&mut` to one of them has ended.
 use Rattle.std.specs.Borrow.{Fml, Lends, MutBor, RattleType}
 use Rattle.std.specs.declared.alloc.Allocator.{Ghosts}
-use Rattle.xm_prices.specs.Levels.{LevelsView}
+use Rattle.xm_price_maps.specs.Levels.{LevelsView}
 use Rattle.xm_queues.specs.declared.queues.Ends.{Ends}
 use Rattle.xm_rules.specs.declared.orders.Side.{Side}
 use Rattle.xm_stops.specs.Triggers.{with_table}

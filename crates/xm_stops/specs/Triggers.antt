@@ -1,6 +1,6 @@
 -- The triggers of one side that are in use, and those of both, as a clause sees them.
 use Rattle.std.specs.Prelude.{◌≡◌, ◌==◌, ◌<◌, ℕ, Bool, ◌&&◌, false, List, [], length, Option, Some, None, IsSome}
-use Rattle.xm_prices.specs.Levels.{LevelsView, HasPrice, HasLevelRoom, level_at}
+use Rattle.xm_price_maps.specs.Levels.{LevelsView, HasPrice, HasLevelRoom, level_at}
 use Rattle.xm_queues.specs.Queue.{IsQueue}
 use Rattle.xm_queues.specs.declared.links.Link.{Link}
 use Rattle.xm_queues.specs.declared.queues.Ends.{Ends}

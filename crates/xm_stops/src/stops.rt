@@ -16,7 +16,7 @@ use crate::taking::{Reason, take_leaving};
 use std::alloc::Allocator;
 use std::marker::Model;
 use xm_memory::OutOfMemory;
-use xm_names::{Names, Storage};
+use xm_name_index::{Names, Storage};
 use xm_rules::Stop;
 use xm_slots::Entry;
 use xm_ticks::Price;

@@ -15,7 +15,7 @@ ghost use Rattle.xm_stops.specs.declared.taking.Reason.TheVariants.{Expired, Rea
 use crate::entry_queue::EntryQueue;
 use crate::stop_queues::StopQueues;
 use std::alloc::Allocator;
-use xm_names::Names;
+use xm_name_index::Names;
 use xm_ticks::Price;
 
 /// Why stops leave.

@@ -1,13 +1,13 @@
 //! The triggers of one side that are in use.
 ghost use Rattle.std.specs.Prelude.{◌≡◌, ◌==◌, if◌then◌else◌, ℕ, ◌+◌, ◌≤◌, IfNone, IfSome, IsSome, None, Some, OnOk};
-ghost use Rattle.xm_prices.specs.Levels.{HasPrice, HasLevelRoom, level_at};
+ghost use Rattle.xm_price_maps.specs.Levels.{HasPrice, HasLevelRoom, level_at};
 ghost use Rattle.xm_stops.specs.Triggers.{IsQueueFound, IsNearest};
 ghost use Rattle.xm_ticks.specs.declared.numbers.TheConstants.{MAX_PRICE};
 
 use std::alloc::Allocator;
 use std::marker::Model;
 use xm_memory::OutOfMemory;
-use xm_prices::Levels;
+use xm_price_maps::Levels;
 use xm_queues::Ends;
 use xm_rules::Side;
 
@@ -24,7 +24,7 @@ impl<A: Allocator + Copy> Drop for TriggerTable<A> {
 }
 
 impl<A: Allocator + Copy> Model for TriggerTable<A> {
-    ghost use Rattle.xm_prices.specs.Levels.{LevelsView};
+    ghost use Rattle.xm_price_maps.specs.Levels.{LevelsView};
     ghost use Rattle.xm_queues.specs.declared.queues.Ends.{Ends};
 
     ghost Value = { LevelsView Ends };

@@ -3,7 +3,7 @@ use std::alloc::Allocator;
 use std::process::Abort;
 use xm_ladders::{Ladder, Ladders, Level};
 use xm_queues::Ends;
-use xm_refusing::Refusing;
+use xm_failing_alloc::Refusing;
 use xm_rules::{OrderKind, Restriction, Side};
 use xm_ticks::Price;
 

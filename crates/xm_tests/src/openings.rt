@@ -5,7 +5,7 @@ use std::marker::Model;
 use std::process::Abort;
 use xm_memory::OutOfMemory;
 use xm_positions::Positions;
-use xm_refusing::{Counted, Refusing, Tried, refuse_all};
+use xm_failing_alloc::{Counted, Refusing, Tried, refuse_all};
 
 #[derive(Clone, Copy)]
 enum Call {

@@ -7,7 +7,7 @@ use std::marker::Model;
 use std::process::Abort;
 use xm_memory::OutOfMemory;
 use xm_queues::{Ends, Queues};
-use xm_refusing::Refusing;
+use xm_failing_alloc::Refusing;
 
 /// How many keys a queue has.
 const KEYS: usize = 100;

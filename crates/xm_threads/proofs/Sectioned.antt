@@ -2,7 +2,7 @@
 use Rattle.std.proofs.Common.{◌≡◌, ℕ, suc, ◌+◌, ◌<◌, List, [], ◌∷◌, ◌++◌, get_or, length, map, refl, ap, arith, ◌∙◌}
 use Rattle.std.specs.List.{flat_map}
 use Rattle.xm_threads.specs.Sections.{SectionView, blank_sections, told_section}
-use Rattle.xm_statement.specs.Statement.{each_text, security_text}
+use Rattle.xm_texts.specs.Statement.{each_text, security_text}
 use Rattle.xm_files.specs.Names.{NameLists}
 use Rattle.xm_rules.specs.Step.{Journal, replay}
 

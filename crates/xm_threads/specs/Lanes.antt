@@ -2,15 +2,15 @@
 use Rattle.std.specs.Prelude.{◌≡◌, ◌≢◌, ℕ, ◌+◌, ◌<◌, ◌≤◌, ◌==◌, ◌++◌, All, Bool, ◌||◌, false, true, if◌then◌else◌, List, [], ◌∷◌, fold, length, map, slice_get, slice_index_or, slice_set, Option, Some, None, is_some, Result, Ok, Err, IfErr, OnOk}
 use Rattle.std.specs.Bool.{OnTrue}
 use Rattle.std.specs.List.{flat_map}
-use Rattle.xm_rows.specs.Taken.{IsOpenFault}
-use Rattle.xm_rows.specs.Day.{answer_on}
+use Rattle.xm_replay.specs.Taken.{IsOpenFault}
+use Rattle.xm_replay.specs.Day.{answer_on}
 use Rattle.xm_threads.specs.KeptRows.{KeptRow, behind_first}
-use Rattle.xm_rows.specs.MarketDepth.{depth_text, told_change}
-use Rattle.xm_rows.specs.RowAnswers.{answers_text, record_line, security_fields, unknown_fields, where_asked, with_text}
-use Rattle.xm_rows.specs.RowTrades.{row_trades, trades_text}
-use Rattle.xm_rows.specs.declared.faults.DayFault.{DayFault}
-use Rattle.xm_rows.specs.declared.faults.DayFault.TheVariants.{Open, OutOfMemory}
-use Rattle.xm_rows.specs.declared.report.AskedTexts.{AskedTexts}
+use Rattle.xm_replay.specs.MarketDepth.{depth_text, told_change}
+use Rattle.xm_replay.specs.RowAnswers.{answers_text, record_line, security_fields, unknown_fields, where_asked, with_text}
+use Rattle.xm_replay.specs.RowTrades.{row_trades, trades_text}
+use Rattle.xm_replay.specs.declared.faults.DayFault.{DayFault}
+use Rattle.xm_replay.specs.declared.faults.DayFault.TheVariants.{Open, OutOfMemory}
+use Rattle.xm_replay.specs.declared.report.AskedTexts.{AskedTexts}
 use Rattle.xm_files.specs.Batches.{RowsLeft, RowsRead, rows_from, rows_so_far}
 use Rattle.xm_files.specs.FileFaults.{is_from_outside}
 use Rattle.xm_files.specs.Names.{NameLists}

@@ -1,6 +1,6 @@
 -- The lines of a statement that tell of each security, made by itself.
 use Rattle.std.specs.Prelude.{◌≡◌, ℕ, ◌+◌, ◌<◌, ◌++◌, Bool, false, List, [], ◌∷◌, length, slice_index_or}
-use Rattle.xm_statement.specs.Statement.{security_text}
+use Rattle.xm_texts.specs.Statement.{security_text}
 use Rattle.xm_files.specs.Names.{NameLists}
 use Rattle.xm_rules.specs.Step.{Journal, replay}
 

@@ -1,9 +1,9 @@
 //! The rows of an order file, taken on threads, a batch while the next one is read.
 ghost use Rattle.std.specs.Prelude.{◌≡◌, ◌≤◌, ◌<◌, [], None, length};
 ghost use Rattle.std.specs.Thread.{IsSync};
-ghost use Rattle.xm_rows.specs.Taken.{RowsRun, RowsTaken};
+ghost use Rattle.xm_replay.specs.Taken.{RowsRun, RowsTaken};
 ghost use Rattle.xm_threads.specs.Lanes.{AreOpened, AreTold, AreTakenSoFar, IsReadBehind, TookMore};
-ghost use Rattle.xm_rows.specs.declared.report.AskedTexts.{AskedTexts};
+ghost use Rattle.xm_replay.specs.declared.report.AskedTexts.{AskedTexts};
 ghost use Rattle.xm_files.specs.Batches.{rows_so_far, text_left};
 ghost use Rattle.xm_files.specs.declared.bytes.TheConstants.{MAX_BYTES};
 
@@ -13,8 +13,8 @@ use std::alloc::Global;
 use std::thread::Threads;
 use std::{mem, thread};
 use xm_files::{Batch, FileFault, FileParts, RecordTexts, RowReader, SegmentNames};
-use xm_names::Storage;
-use xm_rows::{AskedTexts, DayFault, OpenDay};
+use xm_name_index::Storage;
+use xm_replay::{AskedTexts, DayFault, OpenDay};
 use xm_segment::SegmentConfig;
 
 /// Reads the rows of an order file of these bytes, and has the securities of a segment take them on so many threads, each its

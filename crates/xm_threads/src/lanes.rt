@@ -1,11 +1,11 @@
 //! Securities that take the rows of their segment apart, each its own.
 ghost use Rattle.std.specs.Prelude.{◌≡◌, ◌≤◌, ◌<◌, ◌+◌, ℕ, List, All, None, IfOk, OnErr, OnOk, Some, false, length, map, slice_index_or};
 ghost use Rattle.std.specs.Bool.{OnTrue};
-ghost use Rattle.xm_rows.specs.Taken.{RowsTaken, commands_in};
-ghost use Rattle.xm_rows.specs.Day.{answer_on};
+ghost use Rattle.xm_replay.specs.Taken.{RowsTaken, commands_in};
+ghost use Rattle.xm_replay.specs.Day.{answer_on};
 ghost use Rattle.xm_threads.specs.Lanes.{AreOpened, AreTold, AreTakenSoFar, LaneView, TookMore, TookOwnRows, asks_any, fresh_lane, journal_after, lane_row};
-ghost use Rattle.xm_rows.specs.MarketDepth.{market_depth};
-ghost use Rattle.xm_rows.specs.declared.report.AskedTexts.{AskedTexts};
+ghost use Rattle.xm_replay.specs.MarketDepth.{market_depth};
+ghost use Rattle.xm_replay.specs.declared.report.AskedTexts.{AskedTexts};
 ghost use Rattle.xm_files.specs.Batches.{rows_so_far};
 ghost use Rattle.xm_files.specs.Names.{NameLists};
 ghost use Rattle.xm_files.specs.declared.orders.TheConstants.{MAX_ROWS};
@@ -22,8 +22,8 @@ use std::thread::Threads;
 use xm_desk::Desk;
 use xm_files::{Batch, MAX_ROWS, RecordTexts, SegmentNames};
 use xm_memory::OutOfMemory;
-use xm_names::Storage;
-use xm_rows::{AskedTexts, DayFault, DayReport, MarketDepth, OpenDay, by_rule};
+use xm_name_index::Storage;
+use xm_replay::{AskedTexts, DayFault, DayReport, MarketDepth, OpenDay, by_rule};
 use xm_rules::{Refusal, Reply};
 use xm_segment::{Row, SegmentConfig, open_desks};
 
@@ -43,7 +43,7 @@ impl Model for Lane {
     ghost use Rattle.std.specs.Prelude.{◌≡◌, is_some};
     ghost use Rattle.std.specs.Bool.{OnTrue};
     ghost use Rattle.xm_threads.specs.Lanes.{LaneView};
-    ghost use Rattle.xm_rows.specs.MarketDepth.{market_depth};
+    ghost use Rattle.xm_replay.specs.MarketDepth.{market_depth};
     ghost use Rattle.xm_rules.specs.Step.{replay};
 
     ghost Value = { LaneView };

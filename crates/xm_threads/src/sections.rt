@@ -2,7 +2,7 @@
 ghost use Rattle.std.specs.Prelude.{◌≡◌, ◌++◌, ◌<◌, ◌^◌, All, IfOk, OnOk, false, length, map};
 ghost use Rattle.std.specs.List.{flat_map};
 ghost use Rattle.xm_threads.specs.Sections.{SectionView, SectionsTold, blank_sections};
-ghost use Rattle.xm_statement.specs.Statement.{securities_text, security_text};
+ghost use Rattle.xm_texts.specs.Statement.{securities_text, security_text};
 ghost use Rattle.xm_rules.specs.Step.{replay};
 
 use std::alloc::Global;
@@ -12,7 +12,7 @@ use std::{slice, thread};
 use xm_desk::Desk;
 use xm_files::SegmentNames;
 use xm_memory::OutOfMemory;
-use xm_statement::{push_security, room_for_trades};
+use xm_texts::{push_security, room_for_trades};
 
 /// The desk of a security, the lines of the statement that tell of it, and the want of memory that they met.
 #[derive(Drop)]

@@ -23,7 +23,7 @@ use Rattle.xm_segment.specs.Reports.{no_report, report_from, report_of, with_ans
 use Rattle.xm_segment.specs.Seats.{IsTaken, SeatView, WereAnswered, lacks_memory}
 use Rattle.xm_segment.specs.declared.config.SegmentConfig.{SegmentConfig}
 use Rattle.xm_segment.specs.declared.rows.Row.{Row}
-use Rattle.xm_rows.proofs.Places.{same-at, set-here, set-there, some-at, within-length}
+use Rattle.xm_replay.proofs.Places.{same-at, set-here, set-there, some-at, within-length}
 use Rattle.xm_segment.specs.declared.working.WorkerReport.{WorkerReport}
 
 -- each of these rows was answered, and none of them lacked memory

@@ -2,7 +2,7 @@
 use Rattle.std.proofs.Common.{◌≡◌, ◌+◌, List, [], ◌∷◌, length, refl, ap, ◌∙◌, arith}
 use Rattle.std.proofs.lemmas.List.Sums.{sum_by-cons}
 use Rattle.xm_workers.specs.Workers.{AreJournals, accepted_by}
-use Rattle.xm_rows.specs.Taken.{commands_in}
+use Rattle.xm_replay.specs.Taken.{commands_in}
 use Rattle.xm_rules.specs.Step.{Journal}
 use Rattle.xm_rules.specs.declared.settings.DeskSettings.{DeskSettings}
 use Rattle.xm_segment.specs.Gathering.{EachGathered, all_sums, sums_from}

@@ -5,13 +5,13 @@ use Rattle.std.proofs.lemmas.Bool.Decides.{nat_tests}
 use Rattle.std.proofs.lemmas.List.{length-map}
 use Rattle.std.proofs.lemmas.List.Sums.{sum_by-cons}
 use Rattle.std.specs.Result.{IsErrAnd}
-use Rattle.xm_rows.specs.Taken.{DesksEnd, commands_in}
+use Rattle.xm_replay.specs.Taken.{DesksEnd, commands_in}
 use Rattle.xm_workers.proofs.Stands.{worker-stands}
 use Rattle.xm_workers.specs.Workers.{AreJournals, HasOpened, HasShared, HaveStood, HaveTaken, IsShared, WorkerView, rows_of, taken_by, taken_in}
-use Rattle.xm_rows.specs.declared.desks.OpenDay.{OpenDay}
-use Rattle.xm_rows.specs.declared.faults.DayFault.{DayFault}
-use Rattle.xm_rows.specs.declared.faults.DayFault.TheVariants.{OutOfMemory}
-use Rattle.xm_rows.specs.declared.report.DayReport.{DayReport}
+use Rattle.xm_replay.specs.declared.desks.OpenDay.{OpenDay}
+use Rattle.xm_replay.specs.declared.faults.DayFault.{DayFault}
+use Rattle.xm_replay.specs.declared.faults.DayFault.TheVariants.{OutOfMemory}
+use Rattle.xm_replay.specs.declared.report.DayReport.{DayReport}
 use Rattle.xm_desk.specs.declared.opening.OpenFault.{OpenFault}
 use Rattle.xm_desk.specs.declared.opening.OpenFault.TheVariants.{BadCarried, BadWidths, NoSecurity, TooMany, OutOfMemory as NoMemory}
 use Rattle.xm_board.specs.Journals.{unnumbered}

@@ -4,11 +4,11 @@ use Rattle.std.specs.List.{list_all}
 use Rattle.std.specs.Option.{option_map_or}
 use Rattle.xm_board.specs.Journals.{Begins, entry_of, grown, opening_of, unnumbered}
 use Rattle.xm_board.specs.declared.journal.NumberedJournal.{NumberedJournal}
-use Rattle.xm_rows.specs.Taken.{IsOpenFault, commands_in}
-use Rattle.xm_rows.specs.Day.{Day}
-use Rattle.xm_rows.specs.declared.faults.DayFault.{DayFault}
-use Rattle.xm_rows.specs.declared.faults.DayFault.TheVariants.{Open, OutOfMemory}
-use Rattle.xm_rows.specs.declared.report.DayReport.{DayReport}
+use Rattle.xm_replay.specs.Taken.{IsOpenFault, commands_in}
+use Rattle.xm_replay.specs.Day.{Day}
+use Rattle.xm_replay.specs.declared.faults.DayFault.{DayFault}
+use Rattle.xm_replay.specs.declared.faults.DayFault.TheVariants.{Open, OutOfMemory}
+use Rattle.xm_replay.specs.declared.report.DayReport.{DayReport}
 use Rattle.xm_desk.specs.declared.opening.OpenFault.{OpenFault}
 use Rattle.xm_files.specs.Timetable.{share_of}
 use Rattle.xm_rules.specs.Commands.{member_of}

@@ -1,6 +1,6 @@
 //! A day that workers share.
 ghost use Rattle.std.specs.Prelude.{ℕ, ◌≡◌, ◌≢◌, ◌+◌, ◌≤◌, ◌++◌, List, [], IfOk, None, Some, length, map, slice_get, sum_by, true};
-ghost use Rattle.xm_rows.specs.Taken.{DesksEnd, RowsRun, commands_in};
+ghost use Rattle.xm_replay.specs.Taken.{DesksEnd, RowsRun, commands_in};
 ghost use Rattle.xm_workers.specs.Workers.{AreJournals, HasOpened, HasShared, HaveWorked, IsShared, WorkerView, accepted_by, fresh_worker, rows_of, taken_by, taken_in};
 ghost use Rattle.xm_files.specs.Batches.{text_left};
 ghost use Rattle.xm_files.specs.Orders.{max_rows};
@@ -23,8 +23,8 @@ use std::thread::Threads;
 use xm_desk::{Desk, OpenFault};
 use xm_files::{Batch, FileFault, Part, RowReader, SegmentNames, first_phase};
 use xm_memory::OutOfMemory;
-use xm_names::Storage;
-use xm_rows::{DayFault, DayReport, OpenDay, Told};
+use xm_name_index::Storage;
+use xm_replay::{DayFault, DayReport, OpenDay, Told};
 use xm_segment::{Gate, GatherFault, Naming, Opened, Row, Seat, Segment, SegmentConfig};
 
 /// Reads the rows of an order file of these bytes, round by round, and has so many workers take them, on a segment whose type is

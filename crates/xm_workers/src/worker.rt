@@ -8,7 +8,7 @@ use std::alloc::Global;
 use std::marker::Model;
 use std::sync::Wait;
 use xm_memory::OutOfMemory;
-use xm_rows::DayReport;
+use xm_replay::DayReport;
 use xm_segment::{Gate, Naming, Row, Seat, Segment};
 
 /// A worker's seat, and how many of its rows were accepted and refused so far. The ledgers that the seat has a share of count

@@ -12,7 +12,7 @@ use std::thread::Threads;
 use xm_day::{DayFault, carry_alone, carry_day};
 use xm_desk::OpenFault;
 use xm_files::{FileCause, FileFault};
-use xm_names::Storage;
+use xm_name_index::Storage;
 use xm_segment::{MAX_WORKERS, NoGate};
 
 /// A carry file without an entry.

@@ -3,7 +3,7 @@ use super::drawn::{Draw, RESTRICTIONS, SIDES, VALIDITIES, add, kind};
 use crate::files::fixtures::HEADER;
 use std::process::Abort;
 use xm_day::carry_alone;
-use xm_names::Storage;
+use xm_name_index::Storage;
 
 /// The dates of the later days. Between some of them lie days on which orders end.
 const LATER: [&str; 4] = ["20260106", "20260108", "20260109", "20260112"];

@@ -8,8 +8,8 @@ use std::process::Abort;
 use xm_day::{DayFault, DayReport, carry, statement};
 use xm_desk::Desk;
 use xm_files::{SegmentNames, read_rows, read_segment};
-use xm_names::Storage;
-use xm_refusing::Refusing;
+use xm_name_index::Storage;
+use xm_failing_alloc::Refusing;
 use xm_segment::{Row, SegmentConfig};
 
 /// Gives rows to a desk, and counts them.

@@ -11,7 +11,7 @@ use xm_day::{
     send_statement, take_on_threads,
 };
 use xm_files::{FileCause, FileFault};
-use xm_names::Storage;
+use xm_name_index::Storage;
 
 /// On how many threads a day is run, beside the run by one.
 const THREADS: u32 = 3;

@@ -9,7 +9,7 @@ use std::thread::{self, Threads};
 use xm_day::{DayFault, run_day};
 use xm_desk::OpenFault;
 use xm_files::{FileCause, FileFault};
-use xm_names::Storage;
+use xm_name_index::Storage;
 use xm_segment::{Gate, MAX_WORKERS, NoGate};
 
 /// How often a worker looks for another one before its test fails.

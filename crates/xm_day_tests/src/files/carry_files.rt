@@ -8,7 +8,7 @@ use xm_files::FileCause::{
     BadField, BadHeader, DuplicateName, ReadFailed, Syntax, TooLong, TooManyRows,
 };
 use xm_files::{FileCause, FileFault, MAX_BYTES, read_carry, read_segment};
-use xm_names::Storage;
+use xm_name_index::Storage;
 use xm_rules::{MAX_CARRIED, Order, OrderKind, Restriction, Side, Stop, Validity};
 use xm_segment::SegmentConfig;
 use xm_ticks::Price;

@@ -6,7 +6,7 @@ use super::order_files::rows_of;
 use std::process::Abort;
 use std::test::Fail;
 use xm_files::{Round, rounds, share};
-use xm_refusing::Refusing;
+use xm_failing_alloc::Refusing;
 use xm_segment::Row;
 
 /// The rounds of `CASCADE`: two phase rows, and then seven rows of members and three phase rows.

@@ -25,7 +25,7 @@ use std::marker::Model;
 use std::snapshot::Snapshot;
 use xm_auction::auction_price;
 use xm_memory::OutOfMemory;
-use xm_names::Storage;
+use xm_name_index::Storage;
 use xm_positions::Positions;
 use xm_rules::{Command, DeskSettings, Order, Phase, Refusal, Reply, Side, Stop, Trade};
 use xm_ticks::Price;

@@ -4,7 +4,7 @@ use std::marker::Model;
 use std::process::Abort;
 use xm_desk::{Desk, OpenFault};
 use xm_memory::OutOfMemory;
-use xm_names::Storage;
+use xm_name_index::Storage;
 use xm_rules::{
     Command, DeskSettings, Order, OrderKind, Phase, Quote, Refusal, Reply, Side, Stop, Totals,
     Trade,

@@ -8,8 +8,8 @@ use std::marker::Model;
 use std::process::Abort;
 use xm_desk::OpenFault;
 use xm_memory::OutOfMemory;
-use xm_names::Storage;
-use xm_refusing::{Counted, Refusing, Tried, refuse_all};
+use xm_name_index::Storage;
+use xm_failing_alloc::{Counted, Refusing, Tried, refuse_all};
 use xm_rules::{
     Carried, Command, Condition, DeskSettings, Kind, Order, Refusal, Restriction, Side, Stop,
     Validity,

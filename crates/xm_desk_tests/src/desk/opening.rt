@@ -2,7 +2,7 @@ use super::day::Day;
 use super::settings;
 use std::process::Abort;
 use xm_desk::OpenFault;
-use xm_refusing::Refusing;
+use xm_failing_alloc::Refusing;
 use xm_rules::{DeskSettings, Widths};
 
 /// The fault of a desk whose first growth is refused.

@@ -8,7 +8,7 @@ use std::process::Abort;
 use std::sync::Wait;
 use std::thread::{self, Threads};
 use xm_desk::Desk;
-use xm_names::Storage;
+use xm_name_index::Storage;
 use xm_rules::{Command, Condition, Kind, Quote, Restriction, Side, Validity};
 use xm_segment::{Gathered, Naming, Opened, Seat, Segment, WatchRow};
 

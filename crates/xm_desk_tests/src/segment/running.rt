@@ -7,7 +7,7 @@ use std::process::Abort;
 use std::sync::Wait;
 use xm_desk::{Desk, OpenFault};
 use xm_memory::OutOfMemory;
-use xm_names::Storage;
+use xm_name_index::Storage;
 use xm_rules::{Carried, Command, Phase, Quote, Refusal, Reply, Widths};
 use xm_segment::{
     GatherFault, Gathered, Naming, Opened, Seat, Securities, SecurityConfig, Segment,

@@ -10,7 +10,7 @@ use xm_auction::{allocate, auction_price};
 use xm_book::{Book, Place, Trades};
 use xm_match::{Swept, fillable, sweep};
 use xm_memory::OutOfMemory;
-use xm_names::Storage;
+use xm_name_index::Storage;
 use xm_rules::{Auction, CallStage, Order, Phase, Side, Widths};
 use xm_ticks::Price;
 

@@ -6,7 +6,7 @@ use std::marker::Model;
 use std::process::Abort;
 use xm_book::Trades;
 use xm_memory::OutOfMemory;
-use xm_refusing::{Counted, Refusing, Tried, refuse_all};
+use xm_failing_alloc::{Counted, Refusing, Tried, refuse_all};
 use xm_rules::{Order, OrderKind, Restriction, Side};
 
 #[derive(Clone, Copy)]

@@ -5,7 +5,7 @@ ghost use Rattle.xm_ticks.specs.declared.numbers.TheConstants.{MAX_PRICE};
 
 use std::alloc::Allocator;
 use xm_memory::OutOfMemory;
-use xm_names::Storage;
+use xm_name_index::Storage;
 use xm_rules::Stop;
 use xm_stops::{Pending, Stops};
 use xm_ticks::{MAX_PRICE, Price};

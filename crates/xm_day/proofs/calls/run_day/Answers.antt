@@ -4,8 +4,8 @@ use Rattle.xm_day.specs.Answers.{DayEnds, InFileOrder}
 use Rattle.xm_day.specs.Days.{nothing_asked}
 use Rattle.xm_day.specs.declared.value.HandsOn.TheVariants.{Nothing}
 use Rattle.xm_files.proofs.PassedErrors.{is_passed}
-use Rattle.xm_rows.specs.declared.faults.DayFault.{DayFault}
-use Rattle.xm_rows.specs.declared.report.DayReport.{DayReport}
+use Rattle.xm_replay.specs.declared.faults.DayFault.{DayFault}
+use Rattle.xm_replay.specs.declared.report.DayReport.{DayReport}
 use Rattle.xm_workers.specs.Workers.{IsShared}
 use Rattle.xm_day.proofs.calls.run_day.Goals as goal
 

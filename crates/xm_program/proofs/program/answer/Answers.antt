@@ -1,6 +1,6 @@
 use Rattle.std.proofs.Common.{rules, ap, ◌≡◌, Ok, Err, inr, map, string_bytes}
 use Rattle.clap.specs.Words.{fault_of}
-use Rattle.xm_rows.specs.declared.faults.DayFault.TheVariants.{WriteFailed}
+use Rattle.xm_replay.specs.declared.faults.DayFault.TheVariants.{WriteFailed}
 use Rattle.xm_program.specs.Requests.{AnswersWords, asked_of, check, day, day_app, named_day}
 use Rattle.xm_program.specs.declared.requests.Failure.TheVariants.{Day}
 use Rattle.xm_program.specs.declared.requests.Request.TheVariants as request

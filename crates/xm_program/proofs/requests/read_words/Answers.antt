@@ -1,7 +1,7 @@
 use Rattle.std.proofs.Common.{rules, ◌≡◌, ◌∙◌, Option, Err, refl, subst, map, string_bytes}
 use Rattle.clap.specs.Words.{fault_of, kind_of}
 use Rattle.clap.specs.declared.error.kind.ErrorKind.TheVariants as kind
-use Rattle.xm_rows.specs.declared.faults.DayFault.TheVariants.{OutOfMemory}
+use Rattle.xm_replay.specs.declared.faults.DayFault.TheVariants.{OutOfMemory}
 use Rattle.xm_program.specs.Requests.{Asked, IsRequest, asked_of, day_app}
 use Rattle.xm_program.specs.declared.requests.Failure.TheVariants.{Day}
 use Rattle.xm_program.proofs.Runs.{answer-memory, answered, of_kind, requested, taken}

@@ -1,6 +1,6 @@
 use Rattle.std.proofs.Common.{◌≡◌, ◌<◌, ◌≤◌, Bool, true, false, not, ◌||◌, get_or, is_some, length, take, refl, sym, ap, ◌∙◌, arith}
 use Rattle.std.proofs.lemmas.List.{take_all, take_more}
-use Rattle.xm_names.specs.Names.{lookup}
+use Rattle.xm_name_index.specs.Names.{lookup}
 use Rattle.xm_rules.specs.Entries.{are_distinct, is_same_name}
 use Rattle.xm_rules.proofs.DistinctNames.{among-more, distinct-ends, distinct-more, stands_among}
 use Rattle.xm_rules.proofs.carried.are_distinct.Goals as goal

@@ -1,5 +1,5 @@
 use Rattle.std.proofs.Common.{◌≡◌, ℕ, is_some, take, true}
-use Rattle.xm_names.specs.Names.{lookup}
+use Rattle.xm_name_index.specs.Names.{lookup}
 use Rattle.xm_rules.specs.Entries.{are_distinct}
 use Rattle.xm_rules.proofs.DistinctNames.{stands_among}
 use Rattle.xm_rules.proofs.carried.are_distinct.Given as goal

@@ -1,5 +1,5 @@
 use Rattle.std.proofs.Common.{None, List, ℕ, ap, subst, ◌∙◌}
-use Rattle.xm_rows.specs.Taken.{RowsRun, RowsTaken}
+use Rattle.xm_replay.specs.Taken.{RowsRun, RowsTaken}
 use Rattle.xm_files.specs.Batches.{RowsLeft, text_left}
 use Rattle.xm_files.specs.RecordTexts.{TextsRead}
 use Rattle.xm_threads.proofs.batches.run_apart.Goals as goal

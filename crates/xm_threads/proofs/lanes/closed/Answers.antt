@@ -2,9 +2,9 @@ use Rattle.std.proofs.Common.{◌≡◌, ℕ, List, ◌-◌, length, map, ap, ar
 use Rattle.std.proofs.lemmas.List.{length-map}
 use Rattle.xm_threads.proofs.Apart.{day-apart, few-accepted}
 use Rattle.xm_threads.proofs.Merging.{feed-behind}
-use Rattle.xm_rows.specs.Day.{Day, day_of}
+use Rattle.xm_replay.specs.Day.{Day, day_of}
 use Rattle.xm_threads.specs.Lanes.{LaneView, TextsView}
-use Rattle.xm_rows.specs.Taken.{commands_in}
+use Rattle.xm_replay.specs.Taken.{commands_in}
 use Rattle.xm_files.specs.Batches.{rows_so_far}
 use Rattle.xm_rules.specs.Step.{Journal, replay}
 use Rattle.xm_threads.proofs.lanes.closed.Goals as goal

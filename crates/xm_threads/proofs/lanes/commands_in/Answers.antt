@@ -1,7 +1,7 @@
 use Rattle.std.proofs.Common.{◌<◌, ◌+◌, length, ap, arith, ◌∙◌}
 use Rattle.std.proofs.lemmas.List.{take_all}
 use Rattle.std.proofs.lemmas.List.Sums.{sum_by_more, sum_by-take-le}
-use Rattle.xm_rows.specs.Taken.{commands_in}
+use Rattle.xm_replay.specs.Taken.{commands_in}
 use Rattle.xm_rules.specs.Step.{Journal}
 use Rattle.xm_threads.proofs.lanes.commands_in.Goals as goal
 

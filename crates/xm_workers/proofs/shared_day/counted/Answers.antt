@@ -4,7 +4,7 @@ use Rattle.std.specs.Vec.Iter.{into_iter_items}
 use Rattle.std.proofs.lemmas.List.Sums.{sum_by-cons, sum_by_push}
 use Rattle.xm_workers.proofs.Sharing.{sum-both}
 use Rattle.xm_workers.specs.Workers.{WorkerView, accepted_by}
-use Rattle.xm_rows.specs.declared.report.DayReport.{DayReport}
+use Rattle.xm_replay.specs.declared.report.DayReport.{DayReport}
 use Rattle.xm_segment.specs.Ledgers.{accepted_in}
 use Rattle.xm_segment.specs.Seats.{SeatView}
 use Rattle.xm_workers.proofs.shared_day.counted.Goals as goal

@@ -1,5 +1,5 @@
 use Rattle.std.proofs.Common.{◌∙◌, List, None, [], ℕ, ap, subst, sym}
-use Rattle.xm_rows.specs.Taken.{DesksEnd}
+use Rattle.xm_replay.specs.Taken.{DesksEnd}
 use Rattle.xm_workers.specs.Workers.{IsShared}
 use Rattle.xm_workers.proofs.shared_day.run_named.Goals as goal
 use Rattle.xm_files.specs.Batches.{RowsLeft, rows_from, text_left}

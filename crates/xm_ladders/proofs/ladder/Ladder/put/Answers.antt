@@ -1,7 +1,7 @@
 use Rattle.std.proofs.Common.{ℕ, ◌+◌}
 use Rattle.xm_ladders.specs.Ladder.{HasLevels, LadderView}
 use Rattle.xm_ladders.specs.declared.level.Level.{Level}
-use Rattle.xm_prices.proofs.Callers.{room-less}
+use Rattle.xm_price_maps.proofs.Callers.{room-less}
 use Rattle.xm_rules.specs.declared.orders.OrderKind.{OrderKind}
 use Rattle.xm_rules.specs.declared.orders.OrderKind.TheVariants.{Market, Limit}
 use Rattle.xm_ladders.proofs.ladder.Ladder.put.Goals as goal

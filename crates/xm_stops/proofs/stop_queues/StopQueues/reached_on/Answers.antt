@@ -1,5 +1,5 @@
 use Rattle.std.proofs.Common.{◌≡◌, Some, sym, ap, ◌∙◌}
-use Rattle.xm_prices.specs.Levels.{level_at}
+use Rattle.xm_price_maps.specs.Levels.{level_at}
 use Rattle.xm_rules.specs.Sides.{reaches}
 use Rattle.xm_stops.specs.Triggers.{queue_of}
 use Rattle.xm_stops.proofs.Reaching.{front-reached, front-there, near-in-range, none-nearer, none-reached}

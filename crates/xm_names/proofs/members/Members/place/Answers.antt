@@ -1,7 +1,0 @@
-use Rattle.xm_names.proofs.Tables.{stands-if}
-use Rattle.xm_names.proofs.members.Members.place.Goals as goal
-
-pub returns-in-None-clause-some : goal.returns-in-None-clause-some
-returns-in-None-clause-some g c =
-    let m = c.self.inside.members in
-    rw (← c.self.view_is) (stands-if m.entries c.args.member c.get_index_of.result c.get_index_of.ensures.index c.get_index_of.ensures.value)

@@ -1,6 +1,0 @@
-use Rattle.std.proofs.Common.{◌≡◌, ℕ, ◌<◌, None}
-use Rattle.xm_names.specs.Tables.{key_at}
-use Rattle.xm_names.proofs.table.NameTable.occupied.Given as goal
-
-abbrev pub invariant-loop-index : goal.invariant-loop-index
-invariant-loop-index g l = (index r : ℕ) → index < l.index → key_at l.self index r ≡ None

@@ -1,0 +1,13 @@
+use Rattle.std.proofs.Common.{arith}
+use Rattle.xm_price_maps.proofs.Rooms.{has_room, room_there}
+use Rattle.xm_price_maps.proofs.set.PriceSet.has_room.Goals as goal
+
+pub returns-clause-some : goal.returns-clause-some
+returns-clause-some g c = λ h.
+    rw (← c.self.view_is) (has_room (record { pages = c.self.inside.pages.items }) c.args.price c.requires c.self.invariant.shaped (rw c.deref.ensures.value at (c.is_made.ensures.made h)))
+
+pub returns-clause-none : goal.returns-clause-none
+returns-clause-none g c = λ h had.
+    let absent = rw c.deref.ensures.value at (c.is_made.ensures.absent h) in
+    let there = room_there (record { pages = c.self.inside.pages.items }) c.args.price (rw (← c.self.view_is) at had) in
+    omega arith

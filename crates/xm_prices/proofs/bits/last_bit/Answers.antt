@@ -1,5 +1,0 @@
-use Rattle.xm_prices.proofs.NextBits.{highest}
-use Rattle.xm_prices.proofs.bits.last_bit.Goals as goal
-
-pub returns-clause-last : goal.returns-clause-last
-returns-clause-last c = (highest c.args.word c.ilog2.result c.ilog2.ensures.power_le c.ilog2.ensures.next_power_gt).1

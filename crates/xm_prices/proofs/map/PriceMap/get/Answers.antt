@@ -1,7 +1,0 @@
-use Rattle.std.proofs.Common.{rules}
-use Rattle.xm_prices.specs.Map.{value_at}
-use Rattle.xm_prices.proofs.map.PriceMap.get.Goals as goal
-
-pub returns : goal.returns
-unfolding value_at
-returns g c = search rules

@@ -1,6 +1,0 @@
-use Rattle.std.proofs.Common.{◌-◌}
-use Rattle.xm_prices.proofs.marks.+place_above.Given as goal
-use Rattle.xm_prices.specs.declared.marks.TheConstants.{PLACES}
-
-abbrev pub decreases-place_above : goal.decreases-place_above
-decreases-place_above g l = PLACES - l.place

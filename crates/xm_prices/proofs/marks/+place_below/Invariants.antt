@@ -1,6 +1,0 @@
-use Rattle.std.proofs.Common.{◌-◌}
-use Rattle.xm_prices.proofs.marks.+place_below.Given as goal
-use Rattle.xm_prices.specs.declared.marks.TheConstants.{PLACES}
-
-abbrev pub decreases-place_below : goal.decreases-place_below
-decreases-place_below g l = PLACES - l.place

@@ -1,7 +1,0 @@
-use Rattle.std.proofs.Common.{rules}
-use Rattle.xm_prices.specs.Words.{word}
-use Rattle.xm_prices.proofs.words.word.Goals as goal
-
-pub returns : goal.returns
-unfolding word
-returns g c = search rules

@@ -1,0 +1,81 @@
+-- What desks have taken of the rows of an order file, and what they told of them.
+use Rattle.std.specs.Prelude.{◌≡◌, ℕ, ◌+◌, false, List, [], length, sum_by, None, Some, Result, Ok, Err}
+use Rattle.std.specs.Bool.{OnFalse, OnTrue}
+use Rattle.xm_replay.specs.Day.{Day, LacksMemoryAt, day, day_of, opening_day}
+use Rattle.xm_replay.specs.Feeds.{feed_of}
+use Rattle.xm_replay.specs.RowAnswers.{answers_text, where_asked}
+use Rattle.xm_replay.specs.RowTrades.{trades_text}
+use Rattle.xm_replay.specs.declared.desks.OpenDay.{OpenDay}
+use Rattle.xm_replay.specs.declared.faults.DayFault.{DayFault}
+use Rattle.xm_replay.specs.declared.faults.DayFault.TheVariants.{Open, OutOfMemory}
+use Rattle.xm_replay.specs.declared.report.AskedTexts.{AskedTexts}
+use Rattle.xm_replay.specs.declared.told.Told.{Told}
+use Rattle.xm_desk.specs.declared.opening.OpenFault.{OpenFault}
+use Rattle.xm_desk.specs.declared.opening.OpenFault.TheVariants as opening
+use Rattle.xm_files.specs.Batches.{RowsLeft, rows_from}
+use Rattle.xm_files.specs.FileFaults.{is_from_outside}
+use Rattle.xm_files.specs.Names.{NameLists}
+use Rattle.xm_files.specs.declared.file_faults.FileFault.{FileFault}
+use Rattle.xm_rules.specs.Step.{Journal}
+use Rattle.xm_segment.specs.Opening.{segment_fault}
+use Rattle.xm_segment.specs.declared.config.SegmentConfig.{SegmentConfig}
+use Rattle.xm_segment.specs.declared.rows.Row.{Row}
+
+-- the commands of all journals
+abbrev pub commands_in : List Journal → ℕ
+commands_in journals = sum_by (λ (j : Journal). length j.commands) journals
+
+-- the first limit that the segment does not keep, or memory is wanting where it keeps them all
+abbrev pub IsOpenFault : SegmentConfig → OpenFault → Type 0
+IsOpenFault config (opening.OutOfMemory _) = segment_fault config ≡ None
+IsOpenFault config fault = segment_fault config ≡ Some fault
+
+-- the statement alone is asked for
+pub record AsksNothing (asked : AskedTexts) : Type 0 where
+  pub answers : asked.answers ≡ false
+  pub trades : asked.trades ≡ false
+  pub depth : asked.depth ≡ false
+
+-- nothing is told beside it
+pub record TellsNothing (told : Told) : Type 0 where
+  pub answers : told.answers ≡ None
+  pub trades : told.trades ≡ None
+  pub depth : told.depth ≡ None
+
+-- desks have taken these rows of an order file of these bytes in their order: their day is that of the rows, and so are the texts that are asked for
+pub record TookRows (asked : AskedTexts) (names : NameLists) (orders : List ℕ) (config : SegmentConfig) (rows : List Row) (d : OpenDay) : Type 0 where
+  pub sound : segment_fault config ≡ None
+  pub each : length d.desks.items ≡ length config.securities
+  pub day_is : day_of d.desks.items d.report.accepted d.report.refused ≡ day config rows
+  pub all : d.report.accepted + d.report.refused ≡ length rows
+  pub answers_are : d.told.answers ≡ where_asked asked.answers (answers_text names config orders rows)
+  pub trades_are : d.told.trades ≡ where_asked asked.trades (trades_text names config orders rows)
+  pub depth_is : d.told.depth ≡ where_asked asked.depth (feed_of names config rows)
+
+-- the desks have taken these rows, unless the segment can't be opened or memory is wanting, where nothing is asked for at one
+-- of them
+abbrev pub HasTaken : AskedTexts → NameLists → List ℕ → SegmentConfig → List Row → Result OpenDay DayFault → Type 0
+HasTaken asked names orders config rows (Ok d) = TookRows asked names orders config rows d
+HasTaken asked names orders config rows (Err (Open fault)) = IsOpenFault config fault
+HasTaken asked names orders config rows (Err (OutOfMemory _)) = (segment_fault config ≡ None) × (AsksNothing asked → LacksMemoryAt (opening_day config) rows)
+HasTaken asked names orders config rows (Err fault) = ⊥
+
+-- the same, where it isn't told at which row memory is wanting
+abbrev pub RowsTaken : AskedTexts → NameLists → List ℕ → SegmentConfig → List Row → Result OpenDay DayFault → Type 0
+RowsTaken asked names orders config rows (Ok d) = TookRows asked names orders config rows d
+RowsTaken asked names orders config rows (Err (Open fault)) = IsOpenFault config fault
+RowsTaken asked names orders config rows (Err (OutOfMemory _)) = segment_fault config ≡ None
+RowsTaken asked names orders config rows (Err fault) = ⊥
+
+-- the desks are those of a day that the rows may have, unless the segment can't be opened or memory is wanting
+abbrev pub DesksEnd : (SegmentConfig → List Row → Day → Type 0) → SegmentConfig → List Row → Result OpenDay DayFault → Type 0
+DesksEnd days config rows (Ok d) =
+    (segment_fault config ≡ None) × (length d.desks.items ≡ length config.securities) × days config rows (day_of d.desks.items d.report.accepted d.report.refused)
+DesksEnd days config rows (Err (Open fault)) = IsOpenFault config fault
+DesksEnd days config rows (Err (OutOfMemory _)) = segment_fault config ≡ None
+DesksEnd days config rows (Err fault) = ⊥
+
+-- what has taken the rows of an order file, if it has no fault
+abbrev pub RowsRun : {A : Type 0} → (SegmentConfig → List Row → A → Type 0) → SegmentConfig → NameLists → RowsLeft → Result A FileFault → Type 0
+RowsRun taken config names file (Ok day) = (rows : List Row) × (rows_from names config file [] ≡ Ok rows) × taken config rows day
+RowsRun taken config names file (Err fault) = OnFalse (is_from_outside fault.cause) (rows_from names config file [] ≡ Err fault) × OnTrue (is_from_outside fault.cause) (fault.line ≡ 0)

@@ -1,5 +1,0 @@
-use Rattle.xm_statement.proofs.CarriedBack.{carried-back}
-use Rattle.xm_statement.proofs.laws.carry_files_give_back_what_was_left.Goals as goal
-
-pub returns : goal.returns
-returns c = carried-back

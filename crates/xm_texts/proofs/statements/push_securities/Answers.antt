@@ -1,0 +1,20 @@
+use Rattle.std.proofs.Common.{◌<◌, List, ◌++◌, length, map, arith, ap, ◌∙◌}
+use Rattle.std.proofs.lemmas.List.{take_all}
+use Rattle.xm_rules.specs.Step.{Journal, replay}
+use Rattle.xm_texts.proofs.Lines.{each-more}
+use Rattle.xm_texts.specs.Statement.{securities_text, security_text}
+use Rattle.xm_texts.proofs.statements.push_securities.Goals as goal
+
+pub loop-index-preserved : goal.loop-index-preserved
+loop-index-preserved g c =
+    let desks = c.args.desks.now in
+    let i = c.loop-index.index in
+    let within : i < length desks = omega arith in
+    each-more (security_text c.args.names.now) c.args.text.now.items _ _ desks i c.index-desks-index.result within c.index-desks-index.is c.loop-index.invariant c.in_ok-push_security.ensures
+
+pub returns-clause-text : goal.returns-clause-text
+returns-clause-text g c =
+    let desks = c.args.desks.now in
+    let names = c.args.names.now in
+    c.loop-index.invariant
+    ∙ ap (λ (js : List Journal). c.args.text.now.items ++ securities_text names (map replay js)) (take_all c.loop-index.index desks (omega (arith, c.requires)))
