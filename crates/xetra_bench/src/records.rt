@@ -32,7 +32,7 @@ impl Record {
             Ok(reply) => self.add_reply(&reply),
             Err(refusal) => {
                 self.refused = self.refused.wrapping_add(1);
-                self.add(&[place_of(refusal)]);
+                self.add(&[refusal.place() as u64]);
             }
         }
         let quote = loaded.quote();
@@ -130,27 +130,6 @@ impl Record {
             self.add(&[member, reference, trigger, quantity]);
             self.stops = self.stops.wrapping_add(1);
         }
-    }
-}
-
-/// The place of a refusal among the checks.
-fn place_of(refusal: Refusal) -> u64 {
-    match refusal {
-        Refusal::UnknownSecurity => 0,
-        Refusal::UnknownMember => 1,
-        Refusal::DayEnded => 2,
-        Refusal::BadQuantity => 3,
-        Refusal::BadPrice => 4,
-        Refusal::BadValidity => 5,
-        Refusal::BadCombination => 6,
-        Refusal::WrongPhase => 7,
-        Refusal::DuplicateReference => 8,
-        Refusal::UnknownOrder => 9,
-        Refusal::NotChangeable => 10,
-        Refusal::TriggerReached => 11,
-        Refusal::JournalFull => 12,
-        Refusal::OutOfMemory(_) => 13,
-        Refusal::WouldExecute => 14,
     }
 }
 

@@ -16,8 +16,7 @@ use Rattle.xm_board.specs.declared.seats.Role.{Role}
 use Rattle.xm_board.specs.declared.seats.Role.TheVariants.{Pen, Watch, Spent}
 use Rattle.xm_board.specs.declared.seats.Stage.{Stage}
 use Rattle.xm_board.specs.declared.seats.Stage.TheVariants.{Idle, Reading, Writing}
-use Rattle.xm_board.specs.Journals.{opening_of, grown}
-use Rattle.xm_board.specs.Journals.{last_own_in, last_number_in, Begins, version_of, Own}
+use Rattle.xm_board.specs.Journals.{opening_of, grown, last_own_in, last_number_in, Begins, version_of, Own}
 use Rattle.xm_board.specs.Rule.{opening_pen, with_next_number, first_watch, shared_seen, shared_last, asking, taking, spent_of, Reads, KnowsAs, Knows, Laid, Kept, watcher, with_stage, with_seen, ReadsSequence, ReadsWord, ChecksSequence, BeginsWrite, WritesWord, EndsWrite, ComparesSeen}
 use Rattle.xm_board.proofs.Prefixes.{begins_self, begins_trans, begins-version, begins_whole, own_later, own_last}
 

@@ -6,8 +6,7 @@ use Rattle.std.proofs.lemmas.List.Elements.{All-contains, Contains-get_or}
 use Rattle.std.proofs.lemmas.List.Sums.{sum_by-cons}
 use Rattle.xm_slots.specs.Slots.{SlotsView, Updates, get, used}
 use Rattle.xm_book.specs.Levels.{IsLevelFound, IsLevelSet, at_level, level_for}
-use Rattle.xm_slots.specs.Listing.{is_other_key, keys_in}
-use Rattle.xm_slots.specs.Listing.{LiesAt}
+use Rattle.xm_slots.specs.Listing.{is_other_key, keys_in, LiesAt}
 use Rattle.xm_book.specs.Queued.{HasItsKind, HoldsLevel, IsLevelOf, AreOrdersQueued, is_of_level, orders_of_level, units_in}
 use Rattle.xm_slots.specs.declared.entry.Entry.{Entry}
 use Rattle.xm_slots.specs.declared.listing.Listed.{Listed}

@@ -6,9 +6,8 @@ use Rattle.std.proofs.lemmas.List.Elements.{All-head, All-map, All-tail}
 use Rattle.std.proofs.lemmas.List.Sums.{sum_by-cons}
 use Rattle.xm_book.specs.Levels.{IsLevelFound, at_level, level_for}
 use Rattle.std.specs.List.{All}
-use Rattle.xm_slots.specs.Listing.{keys_in, listed_entry, replaced_by}
+use Rattle.xm_slots.specs.Listing.{keys_in, listed_entry, replaced_by, LiesAt}
 use Rattle.xm_book.specs.Listing.{reduced_at}
-use Rattle.xm_slots.specs.Listing.{LiesAt}
 use Rattle.xm_book.specs.Queued.{HasItsKind, HoldsLevel, IsLevelOf, AreOrdersQueued, is_of_level, orders_of_level, units_in}
 use Rattle.xm_slots.specs.Slots.{SlotsView, Updates, get, used}
 use Rattle.xm_slots.specs.declared.entry.Entry.{Entry}

@@ -7,8 +7,7 @@ use Rattle.std.proofs.lemmas.Bool.{and_parts, and_from, false≢true, false_from
 use Rattle.std.proofs.lemmas.Bool.Decides.{nat_tests}
 use Rattle.std.proofs.lemmas.List.Elements.{All-contains, Contains-get_or}
 use Rattle.xm_book.specs.Fronts.{IsBestOf, IsFirst, IsFirstOf, has_kind, has_worse, is_earlier, is_in, is_worse}
-use Rattle.xm_slots.specs.Listing.{keys_in, listed_entry, rises}
-use Rattle.xm_slots.specs.Listing.{LiesAt}
+use Rattle.xm_slots.specs.Listing.{keys_in, listed_entry, rises, LiesAt}
 use Rattle.xm_book.specs.Queued.{HoldsLevel, IsLevelOf, AreOrdersQueued, is_of_level, orders_of_level, units_in}
 use Rattle.xm_slots.specs.Slots.{SlotsView, get}
 use Rattle.xm_slots.specs.declared.entry.Entry.{Entry}

@@ -5,8 +5,7 @@ use Rattle.std.proofs.lemmas.Bool.{and_from, and_parts, both_ways, false_from_ne
 use Rattle.std.proofs.lemmas.List.{append-nil, append_assoc, length-append, map-append}
 use Rattle.std.proofs.lemmas.List.Elements.{All-contains, Contains-append_cases, Contains-append_right, Contains-push, Contains-push_cases}
 use Rattle.xm_book.specs.Fronts.{IsFirst, IsFirstOf, has_kind_later, is_earlier, is_in}
-use Rattle.xm_slots.specs.Listing.{keys_in, listed_entry, rises}
-use Rattle.xm_slots.specs.Listing.{LiesAt}
+use Rattle.xm_slots.specs.Listing.{keys_in, listed_entry, rises, LiesAt}
 use Rattle.xm_book.specs.Queued.{HoldsLevel, IsLevelOf, AreOrdersQueued, is_of_level, orders_of_level}
 use Rattle.xm_slots.specs.Slots.{SlotsView, get}
 use Rattle.xm_slots.specs.declared.entry.Entry.{Entry}

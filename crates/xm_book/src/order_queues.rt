@@ -2,11 +2,10 @@
 ghost use Rattle.std.specs.Prelude.{◌≡◌, ◌+◌, ◌++◌, ◌*◌, ◌∷◌, [], ◌<◌, ◌≤◌, ◌^◌, ◌&&◌, Contains, IfOk, IfSome, IsSome, IsTrue, OnErr, OnOk, Some, filter, length, map, option_copied, sum_by, true};
 ghost use Rattle.std.specs.List.{list_all, list_any};
 ghost use Rattle.std.specs.Option.{option_map};
-ghost use Rattle.xm_slots.specs.Listing.{is_below, listed_item};
+ghost use Rattle.xm_slots.specs.Listing.{is_below, listed_item, is_other_key, keys_in, listed_entry, rises};
 ghost use Rattle.xm_book.specs.declared.places.TheConstants.{MAX_PLACES};
 ghost use Rattle.xm_ticks.specs.declared.numbers.TheConstants.{MAX_QUANTITY};
 ghost use Rattle.xm_book.specs.Fronts.{IsBestOf, IsFirstOf, IsKindOfFirst, better_of_two, earlier_of_two, goes_ahead, has_kind, has_kind_later, has_worse, is_any, is_earlier, is_in, is_on};
-ghost use Rattle.xm_slots.specs.Listing.{is_other_key, keys_in, listed_entry, rises};
 ghost use Rattle.xm_book.specs.Listing.{order_owner, reduced_at};
 ghost use Rattle.xm_book.specs.Places.{place_of, same_place};
 ghost use Rattle.xm_book.specs.Queues.{units_at};

@@ -10,21 +10,21 @@ use Rattle.xm_day.specs.declared.value.HandsOn.{HandsOn}
 use Rattle.xm_day.specs.declared.value.HandsOn.TheVariants.{WhatIsLeft}
 use Rattle.xm_day.specs.declared.taking.TakenDay.{TakenDay}
 use Rattle.xm_files.specs.Names.{NameLists}
-use Rattle.xm_replay.specs.Day.{Day, day_of}
-use Rattle.xm_replay.specs.Feeds.{Feed, feed_of}
-use Rattle.xm_replay.specs.RowAnswers.{answers_text, where_asked}
-use Rattle.xm_replay.specs.RowTrades.{trades_text}
+use Rattle.xm_config.specs.Day.{Day, day_of}
+use Rattle.xm_texts.specs.Feeds.{Feed, feed_of}
+use Rattle.xm_texts.specs.RowAnswers.{answers_text, where_asked}
+use Rattle.xm_texts.specs.RowTrades.{trades_text}
 use Rattle.xm_replay.specs.Taken.{DesksEnd, IsOpenFault, RowsTaken}
 use Rattle.xm_replay.specs.declared.desks.OpenDay.{OpenDay}
 use Rattle.xm_replay.specs.declared.faults.DayFault.{DayFault}
 use Rattle.xm_replay.specs.declared.faults.DayFault.TheVariants.{Segment, Carry, Orders, Open, OutOfMemory, WriteFailed}
-use Rattle.xm_replay.specs.declared.report.AskedTexts.{AskedTexts}
+use Rattle.xm_texts.specs.declared.asked.AskedTexts.{AskedTexts}
 use Rattle.xm_replay.specs.declared.report.DayReport.{DayReport}
 use Rattle.xm_rules.specs.State.{State}
 use Rattle.xm_rules.specs.Step.{Journal}
-use Rattle.xm_segment.specs.Opening.{segment_fault}
-use Rattle.xm_segment.specs.declared.config.SegmentConfig.{SegmentConfig}
-use Rattle.xm_segment.specs.declared.rows.Row.{Row}
+use Rattle.xm_config.specs.Opening.{segment_fault}
+use Rattle.xm_config.specs.declared.config.SegmentConfig.{SegmentConfig}
+use Rattle.xm_config.specs.declared.rows.Row.{Row}
 use Rattle.xm_texts.specs.Carry.{carry_text}
 use Rattle.xm_ticks.specs.Writing.{AppendsPrefix}
 use Rattle.xm_workers.specs.Workers.{IsShared}

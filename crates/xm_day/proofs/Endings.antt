@@ -7,11 +7,11 @@ use Rattle.xm_day.specs.Checks.{IsCheck, OpensTo}
 use Rattle.xm_replay.specs.declared.desks.OpenDay.{OpenDay}
 use Rattle.xm_files.specs.Orders.{orders_of}
 use Rattle.xm_files.specs.Names.{NameLists}
-use Rattle.xm_segment.specs.declared.config.SegmentConfig.{SegmentConfig}
+use Rattle.xm_config.specs.declared.config.SegmentConfig.{SegmentConfig}
 use Rattle.xm_replay.specs.declared.faults.DayFault.{DayFault}
-use Rattle.xm_replay.specs.declared.report.AskedTexts.{AskedTexts}
+use Rattle.xm_texts.specs.declared.asked.AskedTexts.{AskedTexts}
 use Rattle.xm_replay.specs.declared.faults.DayFault.TheVariants.{Segment, Carry, Orders, Open, OutOfMemory, WriteFailed}
-use Rattle.xm_segment.specs.declared.rows.Row.{Row}
+use Rattle.xm_config.specs.declared.rows.Row.{Row}
 
 -- the rows of known bytes are those of their file
 pub rows-of-file : (orders : Option (List ℕ)) (config : SegmentConfig) (names : NameLists) (bytes : List ℕ) (rows : List Row) → IfSome orders (λ known. bytes ≡ known) → orders_of names config bytes ≡ Ok rows → AreRowsOf orders config names rows

@@ -2,20 +2,20 @@
 use Rattle.std.specs.Prelude.{◌≡◌, ℕ, List, Option, None, Result, Ok, Err, IfSome}
 use Rattle.std.specs.Bool.{OnFalse, OnTrue}
 use Rattle.std.specs.Io.KnownBytes.{Appends}
-use Rattle.xm_replay.specs.Day.{Day, day}
+use Rattle.xm_config.specs.Day.{Day, day}
 use Rattle.xm_replay.specs.Taken.{IsOpenFault}
-use Rattle.xm_segment.specs.Opening.{segment_fault}
+use Rattle.xm_config.specs.Opening.{segment_fault}
 use Rattle.xm_files.specs.FileFaults.{is_from_outside}
 use Rattle.xm_files.specs.Names.{NameLists}
 use Rattle.xm_files.specs.Orders.{orders_of}
 use Rattle.xm_files.specs.Segment.{segment_of}
 use Rattle.xm_texts.specs.Statement.{statement}
-use Rattle.xm_segment.specs.declared.config.SegmentConfig.{SegmentConfig}
+use Rattle.xm_config.specs.declared.config.SegmentConfig.{SegmentConfig}
 use Rattle.xm_replay.specs.declared.report.DayReport.{DayReport}
 use Rattle.xm_replay.specs.declared.faults.DayFault.{DayFault}
 use Rattle.xm_replay.specs.declared.faults.DayFault.TheVariants.{Segment, Carry, Orders, Open, OutOfMemory, WriteFailed}
 use Rattle.xm_files.specs.declared.file_faults.FileFault.{FileFault}
-use Rattle.xm_segment.specs.declared.rows.Row.{Row}
+use Rattle.xm_config.specs.declared.rows.Row.{Row}
 use Rattle.xm_ticks.specs.Writing.{AppendsPrefix}
 
 -- the settings and the names are those of the segment file

@@ -4,7 +4,7 @@ use Rattle.std.specs.Prelude.{◌≡◌, ◌⊎◌, ℕ, List, Option, Result, O
 use Rattle.std.specs.Io.KnownBytes.{Appends}
 use Rattle.xm_day.specs.Answers.{DayOfRowsEnds, IsFileFault, IsSegmentOf, statement_of}
 use Rattle.xm_texts.specs.Carry.{carry_text}
-use Rattle.xm_replay.specs.Day.{Day}
+use Rattle.xm_config.specs.Day.{Day}
 use Rattle.xm_replay.specs.declared.faults.DayFault.{DayFault}
 use Rattle.xm_replay.specs.declared.faults.DayFault.TheVariants.{Segment, Carry}
 use Rattle.xm_replay.specs.declared.report.DayReport.{DayReport}
@@ -12,8 +12,8 @@ use Rattle.xm_files.specs.Carry.{carry_of}
 use Rattle.xm_files.specs.Names.{NameLists}
 use Rattle.xm_files.specs.Segment.{segment_of}
 use Rattle.xm_files.specs.declared.file_faults.FileFault.{FileFault}
-use Rattle.xm_segment.specs.declared.config.SegmentConfig.{SegmentConfig}
-use Rattle.xm_segment.specs.declared.rows.Row.{Row}
+use Rattle.xm_config.specs.declared.config.SegmentConfig.{SegmentConfig}
+use Rattle.xm_config.specs.declared.rows.Row.{Row}
 use Rattle.xm_ticks.specs.Writing.{AppendsPrefix}
 
 -- what the output of the statement and that of the carry file hold, before and after

@@ -8,8 +8,8 @@ use Rattle.xm_replay.specs.declared.faults.DayFault.{DayFault}
 use Rattle.xm_replay.specs.declared.faults.DayFault.TheVariants.{Segment, Open, OutOfMemory}
 use Rattle.xm_files.specs.Names.{NameLists}
 use Rattle.xm_files.specs.Segment.{segment_of}
-use Rattle.xm_segment.specs.Opening.{segment_fault}
-use Rattle.xm_segment.specs.declared.config.SegmentConfig.{SegmentConfig}
+use Rattle.xm_config.specs.Opening.{segment_fault}
+use Rattle.xm_config.specs.declared.config.SegmentConfig.{SegmentConfig}
 
 -- the line of a segment that opens: how many securities and how many members it has
 abbrev pub check_line : SegmentConfig → List ℕ

@@ -22,14 +22,14 @@ use Rattle.xm_rules.specs.declared.phases.Phase.TheVariants.{PreTrading, Call, C
 use Rattle.xm_rules.specs.declared.replies.Refusal.{Refusal}
 use Rattle.xm_rules.specs.declared.replies.Refusal.TheVariants as refused
 use Rattle.xm_rules.specs.declared.replies.Reply.{Reply}
-use Rattle.xm_segment.specs.Opening.{settings_of}
-use Rattle.xm_replay.specs.MarketDepth.{depth_header}
-use Rattle.xm_replay.specs.RowAnswers.{answers_header}
-use Rattle.xm_replay.specs.RowTrades.{trades_header}
+use Rattle.xm_config.specs.Opening.{settings_of}
+use Rattle.xm_texts.specs.MarketDepth.{depth_header}
+use Rattle.xm_texts.specs.RowAnswers.{answers_header}
+use Rattle.xm_texts.specs.RowTrades.{trades_header}
 use Rattle.xm_files.specs.Names.{NameLists}
-use Rattle.xm_segment.specs.declared.config.SecurityConfig.{SecurityConfig}
-use Rattle.xm_segment.specs.declared.config.SegmentConfig.{SegmentConfig}
-use Rattle.xm_segment.specs.declared.rows.Row.{Row}
+use Rattle.xm_config.specs.declared.config.SecurityConfig.{SecurityConfig}
+use Rattle.xm_config.specs.declared.config.SegmentConfig.{SegmentConfig}
+use Rattle.xm_config.specs.declared.rows.Row.{Row}
 
 abbrev pub example_names : NameLists
 example_names = record { members = codes "AAA" ∷ codes "BBB" ∷ []; securities = codes "XYZ" ∷ [] }

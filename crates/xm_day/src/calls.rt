@@ -10,7 +10,7 @@ ghost use Rattle.xm_texts.specs.Statement.{statement};
 ghost use Rattle.xm_rules.specs.Step.{replay};
 ghost use Rattle.xm_ticks.specs.Writing.{AppendsPrefix};
 ghost use Rattle.xm_workers.specs.Workers.{IsShared};
-ghost use Rattle.xm_segment.specs.declared.opening.TheConstants.{MAX_WORKERS};
+ghost use Rattle.xm_config.specs.declared.opening.TheConstants.{MAX_WORKERS};
 
 use crate::opening::{open_carried_files, open_files};
 use crate::statement_text::StatementText;
@@ -20,12 +20,13 @@ use std::alloc::{Allocator, Global};
 use std::io::{Read, Write};
 use std::sync::Wait;
 use std::thread::Threads;
+use xm_config::SegmentConfig;
 use xm_desk::Desk;
 use xm_files::SegmentNames;
 use xm_name_index::Storage;
-use xm_replay::{AskedTexts, DayFault, DayReport};
-use xm_segment::{Gate, SegmentConfig};
-use xm_texts::{carry_text, statement_text};
+use xm_replay::{DayFault, DayReport};
+use xm_segment::Gate;
+use xm_texts::{AskedTexts, carry_text, statement_text};
 use xm_ticks::write_whole;
 
 /// Writes the statement of the desks of a segment, which are in index order.

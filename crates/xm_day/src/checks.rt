@@ -2,17 +2,17 @@
 ghost use Rattle.std.specs.Prelude.{◌≡◌, IfErr, IfOk, None, OnOk};
 ghost use Rattle.xm_replay.specs.Taken.{IsOpenFault};
 ghost use Rattle.xm_day.specs.Checks.{IsCheck, check_line};
-ghost use Rattle.xm_segment.specs.Opening.{segment_fault};
+ghost use Rattle.xm_config.specs.Opening.{segment_fault};
 
 use crate::opening::open_files;
 use std::alloc::{Allocator, Global};
 use std::io::Read;
-use xm_desk::OpenFault;
+use xm_config::{OpenFault, SegmentConfig};
+use xm_desk::open_desks;
 use xm_memory::OutOfMemory;
 use xm_name_index::Storage;
 use xm_replay::DayFault;
-use xm_segment::{SegmentConfig, open_desks};
-use xm_texts::texts::{push_number, push_text};
+use xm_texts::fields::{push_number, push_text};
 
 /// Checks a segment file: reads it, sees that the segment opens, and gives its line: how many securities and members it has. The
 /// checks come in this order.

@@ -3,15 +3,15 @@
 
 ghost use Rattle.std.specs.Prelude.{◌≡◌, codes, map, negsuc, pos, false, true, Err, None, Ok, Some, [], ◌∷◌, ◌++◌};
 ghost use Rattle.xm_day.specs.Checks.{check_line};
-ghost use Rattle.xm_replay.specs.Day.{day, opening_day};
-ghost use Rattle.xm_segment.specs.Opening.{segment_fault};
+ghost use Rattle.xm_config.specs.Day.{day, opening_day};
+ghost use Rattle.xm_config.specs.Opening.{segment_fault};
 ghost use Rattle.xm_day.specs.Examples.{broad_security, cascade_answers, cascade_depth, cascade_rows, cascade_state, cascade_text, cascade_trades, crowded_state, every_phase, every_phase_word, every_refusal, every_refusal_word, every_restriction, every_restriction_word, every_trade_kind, every_trade_word, every_validity, every_validity_text, example_config, example_names, no_trades, open_row, penny_state, restricted_state, sized_config};
-ghost use Rattle.xm_replay.specs.MarketDepth.{depth_text, market_depth, same_depth, same_level, same_side_depth, told_change};
-ghost use Rattle.xm_replay.specs.RowAnswers.{answer_line, answers_header, answers_of, market_fields, priced_fields, quoted_field, refusal_word};
-ghost use Rattle.xm_replay.specs.RowTrades.{trade_lines, trades_by, trades_header, trades_of};
+ghost use Rattle.xm_texts.specs.MarketDepth.{depth_text, market_depth, same_depth, same_level, same_side_depth, told_change};
+ghost use Rattle.xm_texts.specs.RowAnswers.{answer_line, answers_header, answers_of, market_fields, priced_fields, quoted_field, refusal_word};
+ghost use Rattle.xm_texts.specs.RowTrades.{trade_lines, trades_by, trades_header, trades_of};
 ghost use Rattle.xm_texts.specs.Statement.{day_line, limit_text, member_line, phase_word, restriction_word, side_word, statement, stop_line, total_cash, trade_word, validity_text};
 ghost use Rattle.xm_workers.specs.Workers.{rows_of};
-ghost use Rattle.xm_desk.specs.declared.opening.OpenFault.TheVariants.{BadWidths, NoSecurity, TooMany};
+ghost use Rattle.xm_config.specs.declared.opening.OpenFault.TheVariants.{BadWidths, NoSecurity, TooMany};
 ghost use Rattle.xm_files.specs.Examples.{round_rows, row_of};
 ghost use Rattle.xm_rules.specs.Examples.{stop, trade};
 ghost use Rattle.xm_rules.specs.declared.commands.Command.TheVariants.{Cancel, CancelAll, StartClosing, StartOpening, Uncross};

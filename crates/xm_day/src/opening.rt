@@ -4,10 +4,10 @@ ghost use Rattle.xm_day.specs.Days.{OpeningRead};
 
 use std::alloc::Global;
 use std::io::Read;
+use xm_config::SegmentConfig;
 use xm_files::{SegmentNames, read_carry, read_segment};
 use xm_name_index::Storage;
 use xm_replay::DayFault;
-use xm_segment::SegmentConfig;
 
 /// Reads a segment file: the settings and the names.
 ///

@@ -3,16 +3,18 @@ ghost use Rattle.std.specs.Prelude.{◌≡◌, ◌≤◌, length};
 ghost use Rattle.xm_replay.specs.Taken.{HasTaken, RowsTaken};
 ghost use Rattle.xm_day.specs.Answers.{FileRun};
 ghost use Rattle.xm_day.specs.Days.{IsUntold, SharesRows};
-ghost use Rattle.xm_segment.specs.declared.opening.TheConstants.{MAX_WORKERS};
+ghost use Rattle.xm_config.specs.declared.opening.TheConstants.{MAX_WORKERS};
 
 use std::alloc::Global;
 use std::io::Read;
 use std::sync::Wait;
 use std::thread::Threads;
+use xm_config::SegmentConfig;
 use xm_files::{SegmentNames, read_orders};
 use xm_name_index::Storage;
-use xm_replay::{AskedTexts, DayFault, OpenDay, Told, run_rows};
-use xm_segment::{Gate, SegmentConfig};
+use xm_replay::{DayFault, OpenDay, run_rows};
+use xm_segment::Gate;
+use xm_texts::{AskedTexts, Told};
 use xm_threads::run_apart;
 use xm_workers::run_shared;
 

@@ -5,8 +5,8 @@ ghost use Rattle.xm_day.specs.Days.{IsStated, TakesFile, nothing_asked};
 ghost use Rattle.xm_texts.specs.Statement.{statement};
 ghost use Rattle.xm_workers.specs.Workers.{IsShared};
 ghost use Rattle.xm_rules.specs.Step.{replay};
-ghost use Rattle.xm_segment.specs.Opening.{segment_fault};
-ghost use Rattle.xm_segment.specs.declared.opening.TheConstants.{MAX_WORKERS};
+ghost use Rattle.xm_config.specs.Opening.{segment_fault};
+ghost use Rattle.xm_config.specs.declared.opening.TheConstants.{MAX_WORKERS};
 
 use crate::order_file::{share_orders, take_orders, take_orders_apart};
 use crate::statement_text::StatementText;
@@ -14,13 +14,14 @@ use std::alloc::Global;
 use std::io::Read;
 use std::sync::Wait;
 use std::thread::Threads;
+use xm_config::SegmentConfig;
 use xm_desk::Desk;
 use xm_files::SegmentNames;
 use xm_memory::OutOfMemory;
 use xm_name_index::Storage;
-use xm_replay::{AskedTexts, DayFault, DayReport, OpenDay};
-use xm_segment::{Gate, SegmentConfig};
-use xm_texts::{push_day, push_members, push_rows, statement_text};
+use xm_replay::{DayFault, DayReport, OpenDay};
+use xm_segment::Gate;
+use xm_texts::{AskedTexts, push_day, push_members, push_rows, statement_text};
 use xm_threads::security_texts;
 
 /// A day whose rows are taken, with the text of its statement.

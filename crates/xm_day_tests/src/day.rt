@@ -12,8 +12,8 @@ use crate::memory::want_of_memory;
 use std::alloc::Global;
 use std::io::{ErrorKind, Read, Write};
 use std::process::Abort;
+use xm_config::OpenFault;
 use xm_day::{DayFault, run_alone};
-use xm_desk::OpenFault;
 use xm_files::{FileCause, FileFault};
 use xm_name_index::Storage;
 

@@ -1,7 +1,7 @@
 //! Want of memory for tests, which a refused growth alone can tell.
 use std::process::Abort;
-use xm_memory::OutOfMemory;
 use xm_failing_alloc::Refusing;
+use xm_memory::OutOfMemory;
 
 /// What a growth answers that is refused.
 pub(crate) fn want_of_memory(rt: &(impl Abort + AllocGlobal)) -> OutOfMemory {

@@ -43,8 +43,8 @@ use std::process::Abort;
 use std::sync::Wait;
 use std::thread::Threads;
 use std::{fs, io};
+use xm_config::OpenFault;
 use xm_day::{AskedTexts, DayFault};
-use xm_desk::OpenFault;
 use xm_files::{FileCause, FileFault};
 use xm_name_index::Storage;
 use xm_program::{

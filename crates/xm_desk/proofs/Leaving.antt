@@ -2,7 +2,7 @@
 use Rattle.xm_stops.specs.Listing.{stop_owner, stop_reference}
 use Rattle.xm_slots.specs.Naming.{have_own_names}
 use Rattle.std.proofs.Common.{◌≡◌, ◌∙◌, ℕ, ◌+◌, Bool, true, false, ◌||◌, not, cond, List, [], ◌∷◌, ◌++◌, find, length, sum_by, Option, Some, None, refl, sym, ap, arith}
-use Rattle.std.specs.List.{list_any}
+use Rattle.std.specs.List.{list_any, slice_get}
 use Rattle.std.proofs.lemmas.Bool.{and_parts, eqb-true}
 use Rattle.std.proofs.lemmas.List.{length-append}
 use Rattle.std.proofs.lemmas.List.Sums.{sum_by-append, sum_by-cons}
@@ -16,7 +16,6 @@ use Rattle.xm_desk.specs.declared.unsettled.Ready.{Ready}
 use Rattle.xm_rules.specs.Orders.{is_stop_named, removed_stop}
 use Rattle.xm_rules.specs.declared.orders.Stop.{Stop}
 use Rattle.xm_stops.specs.HeldStops.{HeldStops, PendingStops}
-use Rattle.std.specs.List.{slice_get}
 use Rattle.std.specs.Prelude.{drop}
 
 -- a list with the stop, and without it

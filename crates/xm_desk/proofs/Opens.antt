@@ -3,10 +3,10 @@ use Rattle.std.proofs.Common.{◌≡◌, ◌+◌, ◌≤◌, Bool, true, false, 
 use Rattle.std.specs.Prelude.{nat_lt}
 use Rattle.std.proofs.lemmas.List.Elements.{All-filter, All-nil, All-weaker}
 use Rattle.xm_desk.specs.Made.{AreSized, HaveUnits, IsCounted}
-use Rattle.xm_desk.specs.Opening.{open_fault}
+use Rattle.xm_config.specs.Opening.{open_fault}
 use Rattle.xm_desk.specs.Settled.{came}
-use Rattle.xm_desk.specs.declared.opening.OpenFault.TheVariants.{BadCarried, BadWidths, TooMany}
-use Rattle.xm_desk.specs.declared.opening.TheConstants.{MAX_MEMBERS}
+use Rattle.xm_config.specs.declared.opening.OpenFault.TheVariants.{BadCarried, BadWidths, TooMany}
+use Rattle.xm_config.specs.declared.opening.TheConstants.{MAX_MEMBERS}
 use Rattle.xm_rules.proofs.CarriedEntries.{CanBeHeld, carriable-parts}
 use Rattle.xm_rules.proofs.Opening.{opening-few, opening-is, opening-settings, opening-uses}
 use Rattle.xm_rules.specs.Commands.{is_in_range}

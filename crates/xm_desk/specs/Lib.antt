@@ -4,7 +4,6 @@ pub mod Frame
 pub mod Growth
 pub mod Incoming
 pub mod Made
-pub mod Opening
 pub mod Settled
 pub mod Shown
 pub mod Tape

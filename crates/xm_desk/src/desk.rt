@@ -1,6 +1,6 @@
 //! The desk of one security.
 ghost use Rattle.std.specs.Prelude.{◌≡◌, ◌≢◌, ◌≤◌, ◌+◌, ◌++◌, ◌∷◌, [], All, IsTrue, None, Some, Err, IfOk, IfErr, OnErr, OnOk, length, pos, true};
-ghost use Rattle.xm_desk.specs.Opening.{open_fault};
+ghost use Rattle.xm_config.specs.Opening.{open_fault};
 ghost use Rattle.xm_desk.specs.Shown.{level_in, market_units, units_left};
 ghost use Rattle.xm_desk.specs.declared.tape.TheConstants.{MAX_TRADES};
 ghost use Rattle.xm_positions.specs.Positions.{cash_position, net_position};
@@ -12,10 +12,10 @@ ghost use Rattle.xm_rules.specs.Step.{is_lawful, new_trades, replay, reply};
 ghost use Rattle.xm_rules.specs.Sums.{AreWithinLimits, cash, has_traded, net, total_money, total_quantity};
 ghost use Rattle.xm_ticks.specs.declared.numbers.TheConstants.{MAX_QUANTITY};
 
-use crate::opening::{OpenFault, open_fault};
 use crate::unsettled::market::Market;
 use std::alloc::Allocator;
 use std::marker::Model;
+use xm_config::{OpenFault, open_fault};
 use xm_memory::OutOfMemory;
 use xm_name_index::Storage;
 use xm_positions::Positions;

@@ -3,12 +3,12 @@
 
 mod accepted;
 mod desk;
+mod desks;
 mod entries;
 mod open_entries;
-mod opening;
 mod tape;
 mod unsettled;
 
 pub use crate::desk::Desk;
-pub use crate::opening::{MAX_MEMBERS, OpenFault};
+pub use crate::desks::{desks_of, open_desks};
 pub use crate::tape::MAX_TRADES;

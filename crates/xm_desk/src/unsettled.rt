@@ -61,7 +61,7 @@ pub struct Unsettled<A: Allocator + Copy> {
 impl<A: Allocator + Copy> Model for Unsettled<A> {
     ghost use Rattle.std.specs.Prelude.{◌≡◌, ◌≤◌, None};
     ghost use Rattle.xm_desk.specs.Frame.{IsFramed};
-    ghost use Rattle.xm_desk.specs.Opening.{open_fault};
+    ghost use Rattle.xm_config.specs.Opening.{open_fault};
     ghost use Rattle.xm_desk.specs.Settled.{Unsettled, came};
     ghost use Rattle.xm_rules.specs.declared.carried.TheConstants.{MAX_CARRIED};
 

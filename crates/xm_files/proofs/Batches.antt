@@ -6,7 +6,7 @@ use Rattle.xm_files.specs.Batches.{RowsRead, earlier_rows, rows_after_batch, row
 use Rattle.xm_files.specs.declared.batch.Earlier.{Earlier, fold-Earlier, fold-roll-Earlier}
 use Rattle.xm_files.specs.declared.batch.Earlier.TheOpen as open'
 use Rattle.xm_files.specs.declared.batch.Earlier.TheVariants.{Nothing, Batch, rolls-Nothing, rolls-Batch}
-use Rattle.xm_segment.specs.declared.rows.Row.{Row}
+use Rattle.xm_config.specs.declared.rows.Row.{Row}
 
 pub earlier-nothing : earlier_rows Nothing ≡ []
 unfolding earlier_rows

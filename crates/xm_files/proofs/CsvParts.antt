@@ -8,8 +8,8 @@ use Rattle.xm_files.specs.Orders.{rows_after, with_record}
 use Rattle.xm_files.specs.Unread.{CsvLeft, csv_left, with_ahead}
 use Rattle.xm_files.specs.declared.file_faults.FileFault.{FileFault}
 use Rattle.xm_files.specs.declared.order_format.OrderFormat.{OrderFormat}
-use Rattle.xm_segment.specs.declared.config.SegmentConfig.{SegmentConfig}
-use Rattle.xm_segment.specs.declared.rows.Row.{Row}
+use Rattle.xm_config.specs.declared.config.SegmentConfig.{SegmentConfig}
+use Rattle.xm_config.specs.declared.rows.Row.{Row}
 
 -- the fields of the record that waits
 pub waiting : (ahead : Option (List (List ℕ))) → IsSome ahead → (fields : List (List ℕ)) × (ahead ≡ Some fields)

@@ -3,7 +3,7 @@ use Rattle.std.proofs.Common.{◌≡◌, ℕ, zero, suc, ◌<◌, List, [], ◌�
 use Rattle.std.specs.Prelude.{slice_set}
 use Rattle.xm_files.specs.Carry.{with_lists}
 use Rattle.xm_rules.specs.Entries.{Entries, none_left}
-use Rattle.xm_segment.specs.declared.config.SecurityConfig.{SecurityConfig}
+use Rattle.xm_config.specs.declared.config.SecurityConfig.{SecurityConfig}
 
 -- so many of them have their lists
 abbrev pub filled_to : ℕ → List SecurityConfig → List Entries → List SecurityConfig

@@ -14,8 +14,8 @@ use Rattle.xm_files.specs.declared.file_faults.FileCause.TheVariants.{BadHeader}
 use Rattle.xm_files.specs.declared.file_faults.FileFault.{FileFault}
 use Rattle.xm_files.specs.declared.order_format.OrderFormat.{OrderFormat}
 use Rattle.xm_files.specs.declared.order_format.OrderFormat.TheVariants.{First, Second}
-use Rattle.xm_segment.specs.declared.config.SegmentConfig.{SegmentConfig}
-use Rattle.xm_segment.specs.declared.rows.Row.{Row}
+use Rattle.xm_config.specs.declared.config.SegmentConfig.{SegmentConfig}
+use Rattle.xm_config.specs.declared.rows.Row.{Row}
 
 other-count : (fields : List (List ℕ)) → (length fields == 13) ≡ true → (length fields == 12) ≡ false
 other-count fields more = grind (arith, nat_tests)

@@ -11,8 +11,8 @@ use Rattle.xm_files.specs.Orders.{max_lines, max_rows, records_in, rows_after, w
 use Rattle.xm_files.specs.Plain.{ReadsLine}
 use Rattle.xm_files.specs.Rows.{columns_of, rows_of_record}
 use Rattle.xm_files.specs.declared.order_format.OrderFormat.{OrderFormat}
-use Rattle.xm_segment.specs.declared.config.SegmentConfig.{SegmentConfig}
-use Rattle.xm_segment.specs.declared.rows.Row.{Row}
+use Rattle.xm_config.specs.declared.config.SegmentConfig.{SegmentConfig}
+use Rattle.xm_config.specs.declared.rows.Row.{Row}
 
 -- the end of a text, by how many bytes it has
 pub as-last : (text : List ℕ) (at count : ℕ) → count ≡ length (drop at text) → 0 < count → drop at text ≡ last_bytes count text

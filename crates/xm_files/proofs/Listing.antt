@@ -14,7 +14,7 @@ use Rattle.xm_files.specs.declared.file_faults.FileCause.TheVariants.{BadHeader,
 use Rattle.xm_files.specs.declared.file_faults.FileFault.{FileFault}
 use Rattle.xm_files.specs.declared.order_format.OrderFormat.TheVariants.{Carry}
 use Rattle.xm_rules.specs.Entries.{Entries}
-use Rattle.xm_segment.specs.declared.config.SecurityConfig.{SecurityConfig}
+use Rattle.xm_config.specs.declared.config.SecurityConfig.{SecurityConfig}
 
 -- records that are none, or begin with no header
 pub none-carried : (file : List (List (List ℕ))) → file ≡ [] → NoCarryHeader file (fault_at 1 BadHeader)

@@ -8,7 +8,7 @@ use Rattle.std.specs.Prelude.{slice_get}
 use Rattle.xm_files.proofs.Timetables.{apart, first-round, members_first, members-of-member, phases_first, rounds-of-member, rounds-of-phase}
 use Rattle.xm_files.specs.Timetable.{ends_round, ends_with_phase, is_of_member, is_one_round, rounds_from, with_member, with_phase}
 use Rattle.xm_files.specs.declared.timetable.Round.{Round}
-use Rattle.xm_segment.specs.declared.rows.Row.{Row}
+use Rattle.xm_config.specs.declared.rows.Row.{Row}
 
 both : (a b : Bool) → (a && b) ≡ true → (a ≡ true) × (b ≡ true)
 both true b h = (refl, h)

@@ -17,8 +17,8 @@ use Rattle.xm_files.specs.declared.file_faults.FileFault.{FileFault}
 use Rattle.xm_files.specs.declared.order_format.OrderFormat.{OrderFormat}
 use Rattle.xm_files.specs.declared.part.Part.{Part}
 use Rattle.xm_files.specs.declared.part.Part.TheVariants.{Rows, Round}
-use Rattle.xm_segment.specs.declared.config.SegmentConfig.{SegmentConfig}
-use Rattle.xm_segment.specs.declared.rows.Row.{Row}
+use Rattle.xm_config.specs.declared.config.SegmentConfig.{SegmentConfig}
+use Rattle.xm_config.specs.declared.rows.Row.{Row}
 
 -- rows that were added to others
 abbrev Extends : List Row → List Row → Type 0

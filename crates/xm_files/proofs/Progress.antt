@@ -12,8 +12,8 @@ use Rattle.xm_files.specs.Rows.{columns_of, rows_of_record}
 use Rattle.xm_files.specs.declared.file_faults.FileCause.TheVariants.{Syntax}
 use Rattle.xm_files.specs.declared.file_faults.FileFault.{FileFault}
 use Rattle.xm_files.specs.declared.order_format.OrderFormat.{OrderFormat}
-use Rattle.xm_segment.specs.declared.config.SegmentConfig.{SegmentConfig}
-use Rattle.xm_segment.specs.declared.rows.Row.{Row}
+use Rattle.xm_config.specs.declared.config.SegmentConfig.{SegmentConfig}
+use Rattle.xm_config.specs.declared.rows.Row.{Row}
 
 -- what a record gives, if it has a field for each column, and if not
 pub row-record : (names : NameLists) (config : SegmentConfig) (format : OrderFormat) (line : ℕ) (rows : List Row) (fields : List (List ℕ)) → length fields ≡ length (columns_of format)

@@ -13,8 +13,8 @@ use Rattle.xm_rules.specs.Settling.{order_of_stop}
 use Rattle.xm_rules.specs.declared.carried.TheConstants.{MAX_CARRIED}
 use Rattle.xm_rules.specs.declared.orders.Order.{Order}
 use Rattle.xm_rules.specs.declared.orders.Stop.{Stop}
-use Rattle.xm_segment.specs.declared.config.SecurityConfig.{SecurityConfig}
-use Rattle.xm_segment.specs.declared.config.SegmentConfig.{SegmentConfig}
+use Rattle.xm_config.specs.declared.config.SecurityConfig.{SecurityConfig}
+use Rattle.xm_config.specs.declared.config.SegmentConfig.{SegmentConfig}
 use Rattle.csv.specs.Reading.{default_config, records}
 use Rattle.xm_files.proofs.CsvFields.{same-number}
 use Rattle.xm_files.proofs.LineRecords.{strip-unmarked}

@@ -22,9 +22,9 @@ use Rattle.xm_files.specs.declared.entries.RecordEntry.TheVariants.{One, Each}
 use Rattle.xm_files.specs.declared.entries.Word.{Word}
 use Rattle.xm_files.specs.declared.entries.Word.TheVariants as word
 use Rattle.xm_files.specs.declared.order_format.OrderFormat.{OrderFormat}
-use Rattle.xm_segment.specs.declared.config.SecurityConfig.{SecurityConfig}
-use Rattle.xm_segment.specs.declared.config.SegmentConfig.{SegmentConfig}
-use Rattle.xm_segment.specs.declared.rows.Row.{Row}
+use Rattle.xm_config.specs.declared.config.SecurityConfig.{SecurityConfig}
+use Rattle.xm_config.specs.declared.config.SegmentConfig.{SegmentConfig}
+use Rattle.xm_config.specs.declared.rows.Row.{Row}
 
 -- what holds of a value, if there is one
 mapped : {A B : Type 0} (P : B → Type 0) (o : Option A) (f : A → B) → ((x : A) → P (f x)) → IfSome (option_map f o) P

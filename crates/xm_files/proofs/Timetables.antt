@@ -5,7 +5,7 @@ use Rattle.std.proofs.lemmas.Bool.Decides.{nat_tests}
 use Rattle.std.specs.List.{position_or_len}
 use Rattle.xm_files.specs.Timetable.{is_of_member, rounds_from, rounds_of, with_member, with_phase}
 use Rattle.xm_files.specs.declared.timetable.Round.{Round}
-use Rattle.xm_segment.specs.declared.rows.Row.{Row}
+use Rattle.xm_config.specs.declared.rows.Row.{Row}
 
 -- how many members' rows come first, and how many phase rows
 abbrev pub members_first : List Row → ℕ

@@ -16,7 +16,7 @@ use Rattle.xm_rules.specs.declared.commands.Kind.TheVariants as kind
 use Rattle.xm_rules.specs.declared.orders.Order.{Order}
 use Rattle.xm_rules.specs.declared.orders.OrderKind.{OrderKind}
 use Rattle.xm_rules.specs.declared.orders.OrderKind.TheVariants.{Market, Limit}
-use Rattle.xm_segment.specs.declared.config.SecurityConfig.{SecurityConfig}
+use Rattle.xm_config.specs.declared.config.SecurityConfig.{SecurityConfig}
 use Rattle.xm_ticks.specs.Reading.{price_of}
 use Rattle.xm_files.proofs.Distinct.{place-of}
 use Rattle.xm_files.specs.Carry.{entry_left, entry_with_trigger, known_index, listed_in}

@@ -6,8 +6,8 @@ use Rattle.xm_files.specs.declared.batch.Earlier.{Earlier, Earlier-F, fold-Earli
 use Rattle.xm_files.specs.declared.batch.Earlier.TheOpen.{Nothing, Batch}
 use Rattle.xm_files.specs.declared.file_faults.FileFault.{FileFault}
 use Rattle.xm_files.specs.declared.order_format.OrderFormat.{OrderFormat}
-use Rattle.xm_segment.specs.declared.config.SegmentConfig.{SegmentConfig}
-use Rattle.xm_segment.specs.declared.rows.Row.{Row}
+use Rattle.xm_config.specs.declared.config.SegmentConfig.{SegmentConfig}
+use Rattle.xm_config.specs.declared.rows.Row.{Row}
 
 -- the rows of a batch, and those of the batches before it
 pub record RowsRead : Type 0 where

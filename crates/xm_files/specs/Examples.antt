@@ -15,9 +15,9 @@ use Rattle.xm_rules.specs.declared.orders.Side.TheVariants.{Sell}
 use Rattle.xm_rules.specs.declared.orders.Stop.{Stop}
 use Rattle.xm_rules.specs.declared.orders.Validity.TheVariants.{Day, TillCancelled, TillDate}
 use Rattle.xm_rules.specs.Entries.{Entries, none_left}
-use Rattle.xm_segment.specs.declared.config.SecurityConfig.{SecurityConfig}
-use Rattle.xm_segment.specs.declared.config.SegmentConfig.{SegmentConfig}
-use Rattle.xm_segment.specs.declared.rows.Row.{Row}
+use Rattle.xm_config.specs.declared.config.SecurityConfig.{SecurityConfig}
+use Rattle.xm_config.specs.declared.config.SegmentConfig.{SegmentConfig}
+use Rattle.xm_config.specs.declared.rows.Row.{Row}
 
 abbrev pub record_names : NameLists
 record_names = record { members = codes "AAA" ∷ codes "BBB" ∷ []; securities = codes "XYZ" ∷ codes "UVW" ∷ [] }

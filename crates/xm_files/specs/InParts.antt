@@ -5,8 +5,8 @@ use Rattle.xm_files.specs.Names.{NameLists}
 use Rattle.xm_files.specs.Orders.{max_lines, max_rows}
 use Rattle.xm_files.specs.declared.file_parts.FilePart.{FilePart}
 use Rattle.xm_files.specs.declared.order_format.OrderFormat.{OrderFormat}
-use Rattle.xm_segment.specs.declared.config.SegmentConfig.{SegmentConfig}
-use Rattle.xm_segment.specs.declared.rows.Row.{Row}
+use Rattle.xm_config.specs.declared.config.SegmentConfig.{SegmentConfig}
+use Rattle.xm_config.specs.declared.rows.Row.{Row}
 
 -- the last bytes of a text, so many
 abbrev pub last_bytes : ℕ → List ℕ → List ℕ

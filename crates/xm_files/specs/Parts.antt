@@ -6,8 +6,8 @@ use Rattle.xm_files.specs.Rows.{names_members_command}
 use Rattle.xm_files.specs.Timetable.{ends_with_phase, is_one_round, rounds_from}
 use Rattle.xm_files.specs.declared.part.Part.{Part}
 use Rattle.xm_files.specs.declared.part.Part.TheVariants.{Rows, Round}
-use Rattle.xm_segment.specs.declared.config.SegmentConfig.{SegmentConfig}
-use Rattle.xm_segment.specs.declared.rows.Row.{Row}
+use Rattle.xm_config.specs.declared.config.SegmentConfig.{SegmentConfig}
+use Rattle.xm_config.specs.declared.rows.Row.{Row}
 
 -- a part that isn't the last has as many rows as asked for, and a round has one at least
 abbrev pub IsFull : Part → List Row → Type 0

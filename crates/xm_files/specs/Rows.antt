@@ -22,8 +22,8 @@ use Rattle.xm_files.specs.Steps.{◌>>=◌}
 use Rattle.xm_files.specs.Names.{NameLists}
 use Rattle.xm_files.specs.declared.columns.Column.{Column}
 use Rattle.xm_files.specs.declared.columns.Column.TheVariants as column
-use Rattle.xm_segment.specs.declared.config.SecurityConfig.{SecurityConfig}
-use Rattle.xm_segment.specs.declared.config.SegmentConfig.{SegmentConfig}
+use Rattle.xm_config.specs.declared.config.SecurityConfig.{SecurityConfig}
+use Rattle.xm_config.specs.declared.config.SegmentConfig.{SegmentConfig}
 use Rattle.xm_files.specs.declared.entries.RecordEntry.{RecordEntry}
 use Rattle.xm_files.specs.declared.entries.RecordEntry.TheVariants.{One, Each}
 use Rattle.xm_files.specs.declared.entries.Word.{Word}
@@ -31,7 +31,7 @@ use Rattle.xm_files.specs.declared.entries.Word.TheVariants as word
 use Rattle.xm_files.specs.declared.fields.TheConstants.{MAX_TEXT}
 use Rattle.xm_files.specs.declared.order_format.OrderFormat.{OrderFormat}
 use Rattle.xm_files.specs.declared.order_format.OrderFormat.TheVariants.{First, Second, Carry}
-use Rattle.xm_segment.specs.declared.rows.Row.{Row}
+use Rattle.xm_config.specs.declared.rows.Row.{Row}
 
 -- the columns of the first format
 abbrev pub first_columns : List Column

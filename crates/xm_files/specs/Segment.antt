@@ -12,8 +12,8 @@ use Rattle.xm_ticks.specs.Reading.{price_of}
 use Rattle.xm_files.specs.Steps.{◌>>=◌}
 use Rattle.xm_files.specs.FileFaults.{fault_at, max_bytes, result_then}
 use Rattle.xm_files.specs.Names.{NameLists, is_among}
-use Rattle.xm_segment.specs.declared.config.SecurityConfig.{SecurityConfig}
-use Rattle.xm_segment.specs.declared.config.SegmentConfig.{SegmentConfig}
+use Rattle.xm_config.specs.declared.config.SecurityConfig.{SecurityConfig}
+use Rattle.xm_config.specs.declared.config.SegmentConfig.{SegmentConfig}
 use Rattle.xm_files.specs.declared.file_faults.FileCause.{FileCause}
 use Rattle.xm_files.specs.declared.file_faults.FileCause.TheVariants.{TooLong, Syntax, MissingKey, UnknownKey, BadValue, DuplicateName}
 use Rattle.xm_files.specs.declared.file_faults.FileFault.{FileFault}

@@ -4,7 +4,7 @@ use Rattle.std.specs.List.{filter, list_all}
 use Rattle.std.specs.Option.{option_map_or}
 use Rattle.xm_rules.specs.Commands.{member_of}
 use Rattle.xm_files.specs.declared.timetable.Round.{Round}
-use Rattle.xm_segment.specs.declared.rows.Row.{Row}
+use Rattle.xm_config.specs.declared.rows.Row.{Row}
 
 -- a member gives the row's command; one of the phases has none
 abbrev pub is_of_member : Row → Bool

@@ -9,8 +9,8 @@ use std::alloc::Global;
 use std::marker::Model;
 use std::mem;
 use std::snapshot::Snapshot;
+use xm_config::Row;
 use xm_memory::OutOfMemory;
-use xm_segment::Row;
 
 /// The batches before one. A snapshot has no bytes.
 #[derive(Drop)]

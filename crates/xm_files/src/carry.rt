@@ -9,7 +9,7 @@ ghost use Rattle.xm_files.specs.Orders.{records_in};
 ghost use Rattle.xm_files.specs.Rows.{texts_of};
 ghost use Rattle.xm_files.specs.Unread.{with_ahead};
 ghost use Rattle.xm_rules.specs.Entries.{Entries};
-ghost use Rattle.xm_segment.specs.declared.config.SecurityConfig.{SecurityConfig};
+ghost use Rattle.xm_config.specs.declared.config.SecurityConfig.{SecurityConfig};
 
 use crate::bytes::{MAX_BYTES, read_whole};
 use crate::csv_records::CsvRecords;
@@ -25,9 +25,9 @@ use crate::wide::begin_wide;
 use csv::ByteRecord;
 use std::alloc::Global;
 use std::io::Read;
+use xm_config::{Securities, SecurityConfig, SegmentConfig};
 use xm_memory::OutOfMemory;
 use xm_name_index::Storage;
-use xm_segment::{Securities, SecurityConfig, SegmentConfig};
 
 /// Reads a carry file: the settings of a segment, with the orders and stops of each security that the file lists in place of
 /// those that the settings had.

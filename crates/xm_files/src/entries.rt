@@ -8,8 +8,8 @@ use crate::fields::{MAX_TEXT, condition, is_word, price, restriction, side, vali
 use crate::names::SegmentNames;
 use crate::order_format::OrderFormat;
 use crate::records::Fields;
+use xm_config::{SecurityConfig, SegmentConfig};
 use xm_rules::{Command, Condition, Kind};
-use xm_segment::{SecurityConfig, SegmentConfig};
 use xm_ticks::TickSize;
 
 /// What a record says: a command on one security, or on each.

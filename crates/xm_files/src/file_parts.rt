@@ -15,8 +15,8 @@ use std::alloc::Global;
 use std::simd::prelude::*;
 use std::thread;
 use std::thread::Threads;
+use xm_config::SegmentConfig;
 use xm_memory::OutOfMemory;
-use xm_segment::SegmentConfig;
 
 /// How many bytes of a file are read at once by all threads together, where it has so many left.
 const AT_ONCE: usize = 2_097_152;

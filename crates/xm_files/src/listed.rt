@@ -8,8 +8,8 @@ use crate::entries::{member, order, security, tick};
 use crate::names::SegmentNames;
 use crate::order_format::OrderFormat;
 use crate::records::Fields;
+use xm_config::SecurityConfig;
 use xm_rules::{Command, Condition, Kind, Order, Restriction, Stop, Validity, is_in_range};
-use xm_segment::SecurityConfig;
 
 /// An order or a stop that an earlier day left.
 #[derive(Clone, Copy)]

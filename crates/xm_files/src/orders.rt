@@ -30,9 +30,9 @@ use std::alloc::Global;
 use std::io::Read;
 use std::marker::Model;
 use std::thread::Threads;
+use xm_config::{Row, SegmentConfig};
 use xm_memory::OutOfMemory;
 use xm_rules::Command;
-use xm_segment::{Row, SegmentConfig};
 
 /// The most rows that an order file may stand for.
 pub const MAX_ROWS: usize = 1_000_000;

@@ -16,9 +16,9 @@ use crate::tables::{
 use std::alloc::Global;
 use std::io::Read;
 use toml::Table;
+use xm_config::{Securities, SecurityConfig, SegmentConfig};
 use xm_memory::OutOfMemory;
 use xm_rules::{Carried, Widths};
-use xm_segment::{Securities, SecurityConfig, SegmentConfig};
 use xm_ticks::{JournalLimit, TickSize};
 
 /// Reads a segment file: the settings of the segment, and the names of its members and securities.

@@ -4,8 +4,8 @@ ghost use Rattle.std.specs.List.{list_all, position_or_len};
 ghost use Rattle.xm_files.specs.Timetable.{is_of_member, is_worked_by, rounds_of, share_of};
 
 use std::alloc::Allocator;
+use xm_config::Row;
 use xm_memory::OutOfMemory;
-use xm_segment::Row;
 
 /// A run of members' rows and the phase rows after it, by the indices of rows: those of members are
 /// `first..phase`, those of the phases `phase..end`.

@@ -4,11 +4,11 @@ use Rattle.std.proofs.Math.Seq.{take-length}
 use Rattle.std.specs.Io.KnownBytes.{Appends, Keeps}
 use Rattle.xm_day.proofs.Written.{appended}
 use Rattle.xm_day.specs.Answers.{InFileOrder}
-use Rattle.xm_replay.specs.Day.{Day}
+use Rattle.xm_config.specs.Day.{Day}
 use Rattle.xm_replay.specs.declared.faults.DayFault.{DayFault}
 use Rattle.xm_replay.specs.declared.faults.DayFault.TheVariants.{WriteFailed}
-use Rattle.xm_segment.specs.declared.config.SegmentConfig.{SegmentConfig}
-use Rattle.xm_segment.specs.declared.rows.Row.{Row}
+use Rattle.xm_config.specs.declared.config.SegmentConfig.{SegmentConfig}
+use Rattle.xm_config.specs.declared.rows.Row.{Row}
 use Rattle.xm_ticks.specs.Writing.{AppendsPrefix}
 use Rattle.xm_workers.specs.Workers.{IsShared}
 use Rattle.xm_program.specs.Days.{AppendsBeginning, EndsBy, Sending, SendingEnds}

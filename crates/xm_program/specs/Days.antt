@@ -8,16 +8,16 @@ use Rattle.xm_day.specs.Days.{DayFiles, IsDay, nothing_asked}
 use Rattle.xm_day.specs.declared.value.DayTexts.{DayTexts}
 use Rattle.xm_day.specs.declared.value.HandsOn.{HandsOn}
 use Rattle.xm_day.specs.declared.value.HandsOn.TheVariants.{Nothing, WhatIsLeft}
-use Rattle.xm_replay.specs.Day.{Day}
+use Rattle.xm_config.specs.Day.{Day}
 use Rattle.xm_workers.specs.Workers.{IsShared}
-use Rattle.xm_replay.specs.declared.report.AskedTexts.{AskedTexts}
+use Rattle.xm_texts.specs.declared.asked.AskedTexts.{AskedTexts}
 use Rattle.xm_replay.specs.declared.faults.DayFault.{DayFault}
 use Rattle.xm_replay.specs.declared.faults.DayFault.TheVariants.{WriteFailed}
 use Rattle.xm_program.specs.FaultLines.{told}
 use Rattle.xm_program.specs.declared.concurrency.Concurrency.{Concurrency}
 use Rattle.xm_program.specs.declared.concurrency.Concurrency.TheVariants.{Threads, Workers}
-use Rattle.xm_segment.specs.declared.config.SegmentConfig.{SegmentConfig}
-use Rattle.xm_segment.specs.declared.rows.Row.{Row}
+use Rattle.xm_config.specs.declared.config.SegmentConfig.{SegmentConfig}
+use Rattle.xm_config.specs.declared.rows.Row.{Row}
 
 -- how a day ends whose rows so many workers take, by how it ends where the rows have such days
 pub record EndsByWorkers (workers : ℕ) (Ends : (SegmentConfig → List Row → Day → Type 0) → Type 0) : Type 0 where

@@ -1,8 +1,8 @@
 -- The line that tells why a day has no statement.
 use Rattle.std.specs.Prelude.{ℕ, List, ◌++◌, codes}
 use Rattle.std.specs.Fmt.{decimal}
-use Rattle.xm_desk.specs.declared.opening.OpenFault.{OpenFault}
-use Rattle.xm_desk.specs.declared.opening.OpenFault.TheVariants as opening
+use Rattle.xm_config.specs.declared.opening.OpenFault.{OpenFault}
+use Rattle.xm_config.specs.declared.opening.OpenFault.TheVariants as opening
 use Rattle.xm_files.specs.declared.file_faults.FileCause.{FileCause}
 use Rattle.xm_files.specs.declared.file_faults.FileCause.TheVariants as file
 use Rattle.xm_files.specs.declared.file_faults.FileFault.{FileFault}

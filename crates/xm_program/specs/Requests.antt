@@ -16,8 +16,8 @@ use Rattle.clap.specs.declared.error.kind.ErrorKind.TheVariants as kind
 use Rattle.std_io.specs.declared.io.kind.ErrorKind.{ErrorKind as ReadKind}
 use Rattle.std_io.specs.declared.io.kind.ErrorKind.TheVariants as reading
 use Rattle.xm_replay.specs.declared.faults.DayFault.TheVariants.{OutOfMemory}
-use Rattle.xm_replay.specs.declared.report.AskedTexts.{AskedTexts}
-use Rattle.xm_segment.specs.Opening.{max_workers}
+use Rattle.xm_texts.specs.declared.asked.AskedTexts.{AskedTexts}
+use Rattle.xm_config.specs.Opening.{max_workers}
 use Rattle.xm_program.specs.declared.concurrency.Concurrency.{Concurrency}
 use Rattle.xm_program.specs.declared.concurrency.Concurrency.TheVariants.{Threads, Workers}
 use Rattle.xm_program.specs.declared.requests.Request.{Request}

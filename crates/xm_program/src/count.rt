@@ -1,9 +1,9 @@
 //! A number of workers or of threads.
 ghost use Rattle.std.specs.Prelude.{◌≡◌, ℕ, ◌≤◌, SomeIff};
-ghost use Rattle.xm_segment.specs.declared.opening.TheConstants.{MAX_WORKERS};
+ghost use Rattle.xm_config.specs.declared.opening.TheConstants.{MAX_WORKERS};
 
 use std::marker::Model;
-use xm_segment::MAX_WORKERS;
+use xm_config::MAX_WORKERS;
 
 /// A number of workers or of threads, 1 to `MAX_WORKERS`. A clause sees the number.
 #[derive(Clone, Copy, PartialEq, Eq, Debug)]

@@ -4,8 +4,8 @@ ghost use Rattle.xm_program.specs.FaultLines.{cause_name, fault_line, file_line,
 
 use arrayvec::ArrayVec;
 use itoa::Buffer;
+use xm_config::OpenFault;
 use xm_day::DayFault;
-use xm_desk::OpenFault;
 use xm_files::{FileCause, FileFault};
 use xm_memory::OutOfMemory;
 

@@ -24,6 +24,7 @@ use std::rt::{Env, Files};
 use std::sync::Wait;
 use std::thread::Threads;
 use std::{env, fs, io};
+use xm_config::SegmentConfig;
 use xm_day::{
     AskedTexts, DayFault, DayTexts, HandsOn, TakenDay, day_texts, open_carried_files, open_files,
     send_statement, take_on_threads, take_shared,
@@ -31,7 +32,7 @@ use xm_day::{
 use xm_files::SegmentNames;
 use xm_memory::OutOfMemory;
 use xm_name_index::{Seed, Storage};
-use xm_segment::{NoGate, SegmentConfig};
+use xm_segment::NoGate;
 use xm_ticks::write_whole;
 
 /// Does what the command line asks for, tells on standard error where it can't, and gives the status to end with.

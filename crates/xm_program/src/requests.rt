@@ -13,9 +13,9 @@ use clap::{Arg, ArgAction, ArgMatches, Command, Error, value_parser};
 use std::alloc::Global;
 use std::io;
 use strsim::osa_distance;
+use xm_config::MAX_WORKERS;
 use xm_day::{AskedTexts, DayFault};
 use xm_memory::OutOfMemory;
-use xm_segment::MAX_WORKERS;
 
 /// What `--version` prints behind the name; the script `xetra-day` reads it here.
 const VERSION: &str = "0.3.0";

@@ -1,6 +1,2 @@
-pub mod Days
-pub mod Feeding
 pub mod Places
-pub mod Tells
-pub mod Then
 mod Taking

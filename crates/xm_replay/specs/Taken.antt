@@ -1,25 +1,25 @@
 -- What desks have taken of the rows of an order file, and what they told of them.
-use Rattle.std.specs.Prelude.{◌≡◌, ℕ, ◌+◌, false, List, [], length, sum_by, None, Some, Result, Ok, Err}
+use Rattle.std.specs.Prelude.{◌≡◌, ℕ, ◌+◌, List, [], length, sum_by, Result, Ok, Err}
 use Rattle.std.specs.Bool.{OnFalse, OnTrue}
-use Rattle.xm_replay.specs.Day.{Day, LacksMemoryAt, day, day_of, opening_day}
-use Rattle.xm_replay.specs.Feeds.{feed_of}
-use Rattle.xm_replay.specs.RowAnswers.{answers_text, where_asked}
-use Rattle.xm_replay.specs.RowTrades.{trades_text}
+use Rattle.xm_config.specs.Day.{Day, LacksMemoryAt, day, day_of, opening_day}
+use Rattle.xm_texts.specs.Feeds.{feed_of}
+use Rattle.xm_texts.specs.RowAnswers.{answers_text, where_asked}
+use Rattle.xm_texts.specs.RowTrades.{trades_text}
 use Rattle.xm_replay.specs.declared.desks.OpenDay.{OpenDay}
 use Rattle.xm_replay.specs.declared.faults.DayFault.{DayFault}
 use Rattle.xm_replay.specs.declared.faults.DayFault.TheVariants.{Open, OutOfMemory}
-use Rattle.xm_replay.specs.declared.report.AskedTexts.{AskedTexts}
-use Rattle.xm_replay.specs.declared.told.Told.{Told}
-use Rattle.xm_desk.specs.declared.opening.OpenFault.{OpenFault}
-use Rattle.xm_desk.specs.declared.opening.OpenFault.TheVariants as opening
+use Rattle.xm_texts.specs.declared.asked.AskedTexts.{AskedTexts}
+use Rattle.xm_texts.specs.Asked.{AsksNothing}
+use Rattle.xm_config.specs.declared.opening.OpenFault.{OpenFault}
+use Rattle.xm_config.specs.declared.opening.OpenFault.TheVariants as opening
 use Rattle.xm_files.specs.Batches.{RowsLeft, rows_from}
 use Rattle.xm_files.specs.FileFaults.{is_from_outside}
 use Rattle.xm_files.specs.Names.{NameLists}
 use Rattle.xm_files.specs.declared.file_faults.FileFault.{FileFault}
 use Rattle.xm_rules.specs.Step.{Journal}
-use Rattle.xm_segment.specs.Opening.{segment_fault}
-use Rattle.xm_segment.specs.declared.config.SegmentConfig.{SegmentConfig}
-use Rattle.xm_segment.specs.declared.rows.Row.{Row}
+use Rattle.xm_config.specs.Opening.{segment_fault}
+use Rattle.xm_config.specs.declared.config.SegmentConfig.{SegmentConfig}
+use Rattle.xm_config.specs.declared.rows.Row.{Row}
 
 -- the commands of all journals
 abbrev pub commands_in : List Journal → ℕ
@@ -29,18 +29,6 @@ commands_in journals = sum_by (λ (j : Journal). length j.commands) journals
 abbrev pub IsOpenFault : SegmentConfig → OpenFault → Type 0
 IsOpenFault config (opening.OutOfMemory _) = segment_fault config ≡ None
 IsOpenFault config fault = segment_fault config ≡ Some fault
-
--- the statement alone is asked for
-pub record AsksNothing (asked : AskedTexts) : Type 0 where
-  pub answers : asked.answers ≡ false
-  pub trades : asked.trades ≡ false
-  pub depth : asked.depth ≡ false
-
--- nothing is told beside it
-pub record TellsNothing (told : Told) : Type 0 where
-  pub answers : told.answers ≡ None
-  pub trades : told.trades ≡ None
-  pub depth : told.depth ≡ None
 
 -- desks have taken these rows of an order file of these bytes in their order: their day is that of the rows, and so are the texts that are asked for
 pub record TookRows (asked : AskedTexts) (names : NameLists) (orders : List ℕ) (config : SegmentConfig) (rows : List Row) (d : OpenDay) : Type 0 where

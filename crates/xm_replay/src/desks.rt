@@ -1,27 +1,28 @@
 //! The rows that the desks of a segment take.
 ghost use Rattle.std.specs.Prelude.{ℕ, Bool, ◌≡◌, ◌≢◌, ◌+◌, ◌<◌, ◌^◌, ◌++◌, List, [], All, Err, IfErr, IfOk, OnErr, OnOk, Some, false, length, map, option_map, true};
-ghost use Rattle.xm_replay.specs.Taken.{HasTaken, TellsNothing};
-ghost use Rattle.xm_replay.specs.Day.{Accepts, LacksMemoryAt, after_row, after_rows, counted, day_of, row_answer};
-ghost use Rattle.xm_replay.specs.Feeds.{feed_after};
-ghost use Rattle.xm_replay.specs.RowAnswers.{answers_of, with_text};
-ghost use Rattle.xm_replay.specs.RowTrades.{trades_of};
-ghost use Rattle.xm_replay.specs.declared.report.AskedTexts.{AskedTexts};
+ghost use Rattle.xm_replay.specs.Taken.{HasTaken};
+ghost use Rattle.xm_texts.specs.Asked.{TellsNothing};
+ghost use Rattle.xm_config.specs.Day.{Accepts, LacksMemoryAt, after_row, after_rows, counted, day_of, row_answer};
+ghost use Rattle.xm_texts.specs.Feeds.{feed_after};
+ghost use Rattle.xm_texts.specs.RowAnswers.{answers_of, with_text};
+ghost use Rattle.xm_texts.specs.RowTrades.{trades_of};
+ghost use Rattle.xm_texts.specs.declared.asked.AskedTexts.{AskedTexts};
 ghost use Rattle.xm_files.specs.Names.{NameLists};
 ghost use Rattle.xm_files.specs.RecordTexts.{text_of_record};
 ghost use Rattle.xm_rules.specs.Step.{replay};
-ghost use Rattle.xm_segment.specs.declared.config.SegmentConfig.{SegmentConfig};
-ghost use Rattle.xm_segment.specs.declared.rows.Row.{Row};
+ghost use Rattle.xm_config.specs.declared.config.SegmentConfig.{SegmentConfig};
+ghost use Rattle.xm_config.specs.declared.rows.Row.{Row};
 
 use crate::faults::DayFault;
-use crate::report::{AskedTexts, DayReport};
-use crate::told::Told;
+use crate::report::DayReport;
 use std::alloc::{Allocator, Global};
-use xm_desk::Desk;
+use xm_config::{Row, SegmentConfig};
+use xm_desk::{Desk, open_desks};
 use xm_files::{RecordTexts, SegmentNames};
 use xm_memory::OutOfMemory;
 use xm_name_index::Storage;
 use xm_rules::{Refusal, Reply};
-use xm_segment::{Row, SegmentConfig, open_desks};
+use xm_texts::{AskedTexts, Told};
 
 /// The desks of a segment, how many rows they accepted and refused, and what is told of these rows.
 #[derive(Drop)]

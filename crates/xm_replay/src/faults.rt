@@ -3,7 +3,7 @@ ghost use Rattle.std.specs.Prelude.{◌≡◌};
 ghost use Rattle.xm_replay.specs.declared.faults.DayFault.TheVariants as day;
 
 use thiserror::Error;
-use xm_desk::OpenFault;
+use xm_config::OpenFault;
 use xm_files::FileFault;
 use xm_memory::OutOfMemory;
 

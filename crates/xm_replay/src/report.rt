@@ -1,6 +1,6 @@
 //! What a day counts.
-ghost use Rattle.std.specs.Prelude.{List, ◌≡◌, ◌+◌, ◌<◌, ◌^◌, false};
-ghost use Rattle.xm_replay.specs.Day.{counted};
+ghost use Rattle.std.specs.Prelude.{List, ◌≡◌, ◌+◌, ◌<◌, ◌^◌};
+ghost use Rattle.xm_config.specs.Day.{counted};
 ghost use Rattle.xm_rules.specs.State.{State};
 
 use xm_rules::{Refusal, Reply};
@@ -10,29 +10,6 @@ use xm_rules::{Refusal, Reply};
 pub struct DayReport {
     pub accepted: u64,
     pub refused: u64,
-}
-
-/// Which texts are asked for beside the statement of a day: the answers to its rows, their trades, and the levels behind them.
-#[derive(Clone, Copy, PartialEq, Eq, Debug)]
-pub struct AskedTexts {
-    pub answers: bool,
-    pub trades: bool,
-    pub depth: bool,
-}
-
-impl AskedTexts {
-    /// The statement alone.
-    pub fn nothing() -> AskedTexts
-        ensures answers { result.answers ≡ false }
-        ensures trades { result.trades ≡ false }
-        ensures depth { result.depth ≡ false }
-    {
-        AskedTexts {
-            answers: false,
-            trades: false,
-            depth: false,
-        }
-    }
 }
 
 impl DayReport {

@@ -6,11 +6,11 @@ ghost use Rattle.xm_files.specs.declared.bytes.TheConstants.{MAX_BYTES};
 
 use crate::desks::{OpenDay, open_day, take_more};
 use crate::faults::DayFault;
-use crate::report::AskedTexts;
 use std::alloc::Global;
+use xm_config::SegmentConfig;
 use xm_files::{Batch, FileFault, Part, RecordTexts, RowReader, SegmentNames};
 use xm_name_index::Storage;
-use xm_segment::SegmentConfig;
+use xm_texts::AskedTexts;
 
 /// How many rows are read before they are taken, so that they are still in a near cache.
 const BATCH: Part = Part::Rows(512);

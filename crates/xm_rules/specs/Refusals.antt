@@ -17,7 +17,7 @@ use Rattle.xm_rules.specs.declared.orders.Side.{Side}
 use Rattle.xm_rules.specs.declared.phases.Phase.{Phase}
 use Rattle.xm_rules.specs.declared.phases.Phase.TheVariants as phase
 use Rattle.xm_rules.specs.declared.replies.Refusal.{Refusal}
-use Rattle.xm_rules.specs.declared.replies.Refusal.TheVariants.{UnknownMember, DayEnded, BadQuantity, BadPrice, BadValidity, BadCombination, WrongPhase, DuplicateReference, UnknownOrder, NotChangeable, TriggerReached, JournalFull, WouldExecute}
+use Rattle.xm_rules.specs.declared.replies.Refusal.TheVariants.{UnknownSecurity, UnknownMember, DayEnded, BadQuantity, BadPrice, BadValidity, BadCombination, WrongPhase, DuplicateReference, UnknownOrder, NotChangeable, TriggerReached, JournalFull, OutOfMemory, WouldExecute}
 
 -- what is wrong, if it is, and the refusal for it
 pub record Check : Type 0 where
@@ -118,3 +118,21 @@ checks s command =
 
 unfoldable pub refusal_of : State → Command → Option Refusal
 refusal_of s command = first_failing (checks s command)
+
+-- the place of a refusal among all
+abbrev pub refusal_place : Refusal → ℕ
+refusal_place UnknownSecurity = 0
+refusal_place UnknownMember = 1
+refusal_place DayEnded = 2
+refusal_place BadQuantity = 3
+refusal_place BadPrice = 4
+refusal_place BadValidity = 5
+refusal_place BadCombination = 6
+refusal_place WrongPhase = 7
+refusal_place DuplicateReference = 8
+refusal_place UnknownOrder = 9
+refusal_place NotChangeable = 10
+refusal_place TriggerReached = 11
+refusal_place JournalFull = 12
+refusal_place (OutOfMemory _) = 13
+refusal_place WouldExecute = 14

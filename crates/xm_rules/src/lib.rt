@@ -15,6 +15,6 @@ pub use carried::{Carried, MAX_CARRIED};
 pub use commands::{Command, Condition, Kind, MAX_NUMBER, is_given_in_range, is_in_range};
 pub use orders::{Order, OrderKind, Restriction, Side, Stop, Trade, TradeKind, Validity};
 pub use phases::{Auction, CallStage, Phase};
-pub use replies::{Quote, Refusal, Reply, Totals};
+pub use replies::{Quote, REFUSALS, Refusal, Reply, Totals};
 pub use settings::{DeskSettings, PHASE_COMMANDS_MORE, Widths};
 pub use totals::{MAX_TRADED_MONEY, MAX_TRADED_QUANTITY, last_price, total_money, total_quantity};

@@ -5,6 +5,9 @@ use crate::phases::Phase;
 use xm_memory::OutOfMemory;
 use xm_ticks::Price;
 
+/// How many refusals there are.
+pub const REFUSALS: usize = 15;
+
 /// Why a command is refused, in the order of the checks, in which `WouldExecute` stands before `JournalFull`. A refusal changes
 /// nothing.
 #[derive(Clone, Copy, PartialEq, Eq, Hash, Debug)]
@@ -50,6 +53,36 @@ impl From<OutOfMemory> for Refusal {
 
     fn from(error: OutOfMemory) -> Refusal {
         Refusal::OutOfMemory(error)
+    }
+}
+
+impl Refusal {
+    ghost use Rattle.std.specs.Prelude.{◌≡◌, ◌<◌};
+    ghost use Rattle.xm_rules.specs.Refusals.{refusal_place};
+    ghost use Rattle.xm_rules.specs.declared.replies.TheConstants.{REFUSALS};
+
+    /// Its place among all, in the order of the variants.
+    pub fn place(&self) -> usize
+        ensures place { result ≡ refusal_place self.now }
+        ensures within { result < REFUSALS }
+    {
+        match self {
+            Refusal::UnknownSecurity => 0,
+            Refusal::UnknownMember => 1,
+            Refusal::DayEnded => 2,
+            Refusal::BadQuantity => 3,
+            Refusal::BadPrice => 4,
+            Refusal::BadValidity => 5,
+            Refusal::BadCombination => 6,
+            Refusal::WrongPhase => 7,
+            Refusal::DuplicateReference => 8,
+            Refusal::UnknownOrder => 9,
+            Refusal::NotChangeable => 10,
+            Refusal::TriggerReached => 11,
+            Refusal::JournalFull => 12,
+            Refusal::OutOfMemory(_) => 13,
+            Refusal::WouldExecute => 14,
+        }
     }
 }
 

@@ -11,9 +11,10 @@ use Rattle.xm_rules.specs.declared.settings.DeskSettings.{DeskSettings}
 use Rattle.xm_segment.proofs.Lanes.{accepted-raises, known-or, quantity-raises, refused-counts}
 use Rattle.xm_rules.specs.declared.totals.TheConstants.{MAX_TRADED_QUANTITY}
 use Rattle.xm_segment.specs.Ledgers.{FitLanes, accepted_in, quantity_in}
-use Rattle.xm_segment.specs.Reports.{HasRoomIn, no_report, refusal_place, report_from, with_answer_in}
+use Rattle.xm_segment.specs.Reports.{HasRoomIn, no_report, report_from, with_answer_in}
+use Rattle.xm_rules.specs.Refusals.{refusal_place}
 use Rattle.xm_segment.specs.Seats.{IsTaken, SeatView, WereAnswered, lacks_memory}
-use Rattle.xm_segment.specs.declared.rows.Row.{Row}
+use Rattle.xm_config.specs.declared.rows.Row.{Row}
 use Rattle.xm_segment.specs.declared.working.WorkerReport.{WorkerReport}
 
 -- each of these rows was answered, and none of them lacked memory

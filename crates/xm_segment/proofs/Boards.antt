@@ -19,10 +19,10 @@ use Rattle.xm_segment.proofs.Closing.{fresh-journals}
 use Rattle.xm_segment.proofs.Seating.{get-push, none-there}
 use Rattle.xm_segment.specs.Boards.{AreBoards, AreFresh, AreLeft, IsColumn, IsFresh, NamedView}
 use Rattle.xm_segment.specs.Names.{board_names}
-use Rattle.xm_segment.specs.Opening.{fresh_journal, journal_of, settings_of}
+use Rattle.xm_config.specs.Opening.{fresh_journal, journal_of, settings_of}
 use Rattle.xm_segment.specs.Watches.{RowView, fresh_row, fresh_watch}
-use Rattle.xm_segment.specs.declared.config.SecurityConfig.{SecurityConfig}
-use Rattle.xm_segment.specs.declared.config.SegmentConfig.{SegmentConfig}
+use Rattle.xm_config.specs.declared.config.SecurityConfig.{SecurityConfig}
+use Rattle.xm_config.specs.declared.config.SegmentConfig.{SegmentConfig}
 
 next : (k : ℕ) → suc k ≡ k + 1
 next k = omega arith

@@ -8,9 +8,9 @@ use Rattle.xm_rules.specs.declared.settings.DeskSettings.{DeskSettings}
 use Rattle.xm_rules.specs.declared.totals.TheConstants.{MAX_TRADED_MONEY, MAX_TRADED_QUANTITY}
 use Rattle.xm_segment.specs.Gathering.{AreGathered, EachGathered, IsClosed, IsGathered}
 use Rattle.xm_segment.specs.Ledgers.{AreNothing, Sums, accepted_in}
-use Rattle.xm_segment.specs.Opening.{fresh_journal, journal_of, settings_of}
-use Rattle.xm_segment.specs.declared.config.SecurityConfig.{SecurityConfig}
-use Rattle.xm_segment.specs.declared.config.SegmentConfig.{SegmentConfig}
+use Rattle.xm_config.specs.Opening.{fresh_journal, journal_of, settings_of}
+use Rattle.xm_config.specs.declared.config.SecurityConfig.{SecurityConfig}
+use Rattle.xm_config.specs.declared.config.SegmentConfig.{SegmentConfig}
 use Rattle.xm_ticks.specs.declared.numbers.TheConstants.{MAX_TICK_SIZE}
 
 next : (k : ℕ) → suc k ≡ k + 1

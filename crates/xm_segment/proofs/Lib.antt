@@ -6,6 +6,5 @@ pub mod Crosses
 pub mod Lanes
 mod Publishing
 mod Seating
-mod Sound
 mod Telling
 mod Watches

@@ -4,7 +4,6 @@ pub mod Gathering
 pub mod Ledgers
 pub mod Lends
 pub mod Names
-pub mod Opening
 pub mod Reports
 pub mod Room
 pub mod Seats

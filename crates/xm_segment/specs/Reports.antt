@@ -1,27 +1,10 @@
 -- What a worker's report counts.
 use Rattle.std.specs.Prelude.{ℕ, ◌+◌, ◌<◌, ◌^◌, List, [], ◌∷◌, slice_index, slice_set, Option, None, Some, Result, Ok, Err}
 use Rattle.xm_rules.specs.declared.replies.Refusal.{Refusal}
-use Rattle.xm_rules.specs.declared.replies.Refusal.TheVariants.{UnknownSecurity, UnknownMember, DayEnded, BadQuantity, BadPrice, BadValidity, BadCombination, WrongPhase, DuplicateReference, UnknownOrder, NotChangeable, TriggerReached, JournalFull, OutOfMemory, WouldExecute}
+use Rattle.xm_rules.specs.Refusals.{refusal_place}
+use Rattle.xm_rules.specs.declared.replies.Refusal.TheVariants.{OutOfMemory}
 use Rattle.xm_rules.specs.declared.replies.Reply.{Reply}
 use Rattle.xm_segment.specs.declared.working.WorkerReport.{WorkerReport}
-
--- the place of a refusal in a report
-abbrev pub refusal_place : Refusal → ℕ
-refusal_place UnknownSecurity = 0
-refusal_place UnknownMember = 1
-refusal_place DayEnded = 2
-refusal_place BadQuantity = 3
-refusal_place BadPrice = 4
-refusal_place BadValidity = 5
-refusal_place BadCombination = 6
-refusal_place WrongPhase = 7
-refusal_place DuplicateReference = 8
-refusal_place UnknownOrder = 9
-refusal_place NotChangeable = 10
-refusal_place TriggerReached = 11
-refusal_place JournalFull = 12
-refusal_place (OutOfMemory _) = 13
-refusal_place WouldExecute = 14
 
 abbrev pub no_report : WorkerReport
 no_report = record { accepted = 0; refused = 0 ∷ 0 ∷ 0 ∷ 0 ∷ 0 ∷ 0 ∷ 0 ∷ 0 ∷ 0 ∷ 0 ∷ 0 ∷ 0 ∷ 0 ∷ 0 ∷ 0 ∷ []; quantity = 0; wanting = None }

@@ -9,7 +9,7 @@ use Rattle.xm_rules.specs.declared.settings.DeskSettings.{DeskSettings}
 use Rattle.xm_segment.specs.Answers.{IsAnsweredOn, IsShownOn}
 use Rattle.xm_segment.specs.Ledgers.{Sums, nothing_counted, with_answer_on}
 use Rattle.xm_segment.specs.Watches.{RowView, fresh_row}
-use Rattle.xm_segment.specs.declared.rows.Row.{Row}
+use Rattle.xm_config.specs.declared.rows.Row.{Row}
 
 -- the worker's number, of each of eight lanes what its accepted commands counted there, and its row of watches
 pub record SeatView : Type 0 where

@@ -8,17 +8,17 @@ ghost use Rattle.xm_segment.specs.Seats.{SeatView};
 ghost use Rattle.xm_segment.specs.Unlocked.{ArePartsIn, FillLanes, journals_in, told_by, with_desk};
 ghost use Rattle.xm_segment.specs.Watches.{RowView};
 ghost use Rattle.xm_segment.specs.declared.gathered.GatherFault.TheVariants as GatherFault;
-ghost use Rattle.xm_segment.specs.declared.opening.TheConstants.{MAX_SECURITIES};
+ghost use Rattle.xm_config.specs.declared.opening.TheConstants.{MAX_SECURITIES};
 
 use crate::gathered::{GatherFault, Gathered};
 use crate::ledgers::Shares;
 use crate::naming::Naming;
-use crate::opening::MAX_SECURITIES;
 use crate::seat::{Seat, WatchRow};
 use crate::segment::Segment;
 use crate::share_row::ShareRow;
 use crate::unlocked::{UnlockedLane, UnlockedLanes};
 use std::alloc::Global;
+use xm_config::MAX_SECURITIES;
 use xm_memory::OutOfMemory;
 
 impl<S: Naming> Segment<S> {

@@ -3,7 +3,7 @@ ghost use Rattle.std.specs.Prelude.{◌≡◌, ◌+◌, ◌≤◌, [], IfOk, len
 ghost use Rattle.std.specs.Vec.{vec_capacity};
 ghost use Rattle.xm_segment.specs.Boards.{AreBoards, AreColumnsFrom, AreFreshFrom, AreLeft, IsColumn, IsFresh};
 ghost use Rattle.xm_segment.specs.Watches.{fresh_row, fresh_watch};
-ghost use Rattle.xm_segment.specs.declared.opening.TheConstants.{MAX_SECURITIES};
+ghost use Rattle.xm_config.specs.declared.opening.TheConstants.{MAX_SECURITIES};
 
 use crate::locked::{QuoteBoard, QuoteWatch};
 use crate::naming::{Naming, Quotes};

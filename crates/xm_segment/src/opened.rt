@@ -5,25 +5,24 @@ ghost use Rattle.xm_rules.specs.Step.{Journal};
 ghost use Rattle.xm_segment.specs.Boards.{AreColumnsFrom, AreFreshFrom, AreLeft, IsColumn, IsFresh};
 ghost use Rattle.xm_segment.specs.Ledgers.{no_sums, nothing_counted};
 ghost use Rattle.xm_segment.specs.Names.{NamesSegment};
-ghost use Rattle.xm_segment.specs.Opening.{fresh_journal, opening_fault, settings_of};
+ghost use Rattle.xm_config.specs.Opening.{fresh_journal, opening_fault, settings_of};
 ghost use Rattle.xm_segment.specs.Seats.{AreRows, AreSeats};
-ghost use Rattle.xm_segment.specs.declared.opening.TheConstants.{MAX_SECURITIES};
+ghost use Rattle.xm_config.specs.declared.opening.TheConstants.{MAX_SECURITIES};
 
 use crate::blanks::{Blanks, BookRow};
-use crate::config::SegmentConfig;
 use crate::lane::{Lane, OpenLane};
 use crate::ledgers::Books;
 use crate::locked::{Locked, QuoteWatch};
 use crate::named::{Columns, NamedBoard, NamedBoards, named_boards, rows_of};
 use crate::naming::Naming;
-use crate::opening::desks_of;
 use crate::seat::{Seat, WatchRow};
 use crate::segment::{Lanes, OwnShares, Segment};
 use crate::share_row::ShareRow;
 use std::alloc::Global;
 use std::marker::Model;
 use std::sync::Mutex;
-use xm_desk::{Desk, OpenFault};
+use xm_config::{OpenFault, SegmentConfig};
+use xm_desk::{Desk, desks_of};
 use xm_memory::OutOfMemory;
 use xm_name_index::Storage;
 
@@ -53,8 +52,8 @@ impl Drop for Opened {
 impl Model for Opened {
     ghost use Rattle.std.specs.Prelude.{◌≡◌, ◌+◌, ◌≤◌, length, map};
     ghost use Rattle.xm_segment.specs.Names.{HaveParts, UnnamedSegment};
-    ghost use Rattle.xm_segment.specs.Opening.{fresh_journal};
-    ghost use Rattle.xm_segment.specs.declared.opening.TheConstants.{MAX_SECURITIES, MAX_WORKERS};
+    ghost use Rattle.xm_config.specs.Opening.{fresh_journal};
+    ghost use Rattle.xm_config.specs.declared.opening.TheConstants.{MAX_SECURITIES, MAX_WORKERS};
 
     ghost Value = { UnnamedSegment };
 

@@ -3,7 +3,7 @@ ghost use Rattle.std.specs.Prelude.{◌≡◌, ◌≤◌, All, length};
 ghost use Rattle.std.specs.Borrow.{sem};
 ghost use Rattle.xm_segment.specs.Ledgers.{AreWithinDay, FitLanes, nothing_counted};
 ghost use Rattle.xm_segment.specs.Watches.{AreWatches, HasOwn};
-ghost use Rattle.xm_segment.specs.declared.opening.TheConstants.{MAX_SECURITIES};
+ghost use Rattle.xm_config.specs.declared.opening.TheConstants.{MAX_SECURITIES};
 
 use crate::locked::QuoteWatch;
 use crate::naming::Naming;
@@ -103,7 +103,7 @@ impl<S: Naming> Model for Seat<S> {
     ghost use Rattle.std.specs.Prelude.{◌≡◌, length};
     ghost use Rattle.xm_segment.specs.Ledgers.{AreWithinDay, FitLanes};
     ghost use Rattle.xm_segment.specs.Seats.{SeatView};
-    ghost use Rattle.xm_segment.specs.declared.opening.TheConstants.{MAX_SECURITIES};
+    ghost use Rattle.xm_config.specs.declared.opening.TheConstants.{MAX_SECURITIES};
 
     ghost Value = { SeatView };
 

@@ -3,7 +3,7 @@ ghost use Rattle.std.specs.Prelude.{◌≡◌, ◌≤◌, length, slice_get};
 ghost use Rattle.xm_segment.specs.Answers.{IsAnsweredOn};
 ghost use Rattle.xm_segment.specs.Ledgers.{AreWithinDay, nothing_counted, with_answer_on};
 ghost use Rattle.xm_segment.specs.Seats.{IsRead, IsTaken};
-ghost use Rattle.xm_segment.specs.declared.opening.TheConstants.{MAX_SECURITIES};
+ghost use Rattle.xm_config.specs.declared.opening.TheConstants.{MAX_SECURITIES};
 
 use crate::gate::{Gate, NoGate};
 use crate::lane::Lane;
@@ -47,7 +47,7 @@ impl<S: Naming> Drop for Segment<S> {
 
 impl<S: Naming> Model for Segment<S> {
     ghost use Rattle.std.specs.Prelude.{◌≡◌, ◌≤◌, length};
-    ghost use Rattle.xm_segment.specs.declared.opening.TheConstants.{MAX_SECURITIES};
+    ghost use Rattle.xm_config.specs.declared.opening.TheConstants.{MAX_SECURITIES};
 
     ghost Value = { Unit {0} };
 

@@ -4,25 +4,22 @@ ghost use Rattle.xm_rules.specs.declared.replies.Refusal.{Refusal};
 ghost use Rattle.xm_rules.specs.declared.replies.Reply.{Reply};
 ghost use Rattle.xm_rules.specs.declared.totals.TheConstants.{MAX_TRADED_QUANTITY};
 ghost use Rattle.xm_segment.specs.Ledgers.{FitLanes, accepted_in, quantity_in};
-ghost use Rattle.xm_segment.specs.Reports.{HasRoomIn, no_report, refusal_place, report_of, wanting_in, with_answer_in};
+ghost use Rattle.xm_segment.specs.Reports.{HasRoomIn, no_report, report_of, wanting_in, with_answer_in};
 ghost use Rattle.xm_segment.specs.Seats.{IsTaken, WereAnswered, lacks_memory};
-ghost use Rattle.xm_segment.specs.declared.opening.TheConstants.{MAX_SECURITIES};
-ghost use Rattle.xm_segment.specs.declared.working.TheConstants.{MAX_ROWS, REFUSALS};
+ghost use Rattle.xm_config.specs.declared.opening.TheConstants.{MAX_SECURITIES};
+ghost use Rattle.xm_segment.specs.declared.working.TheConstants.{MAX_ROWS};
 
 use crate::gate::Gate;
 use crate::naming::Naming;
-use crate::rows::Row;
 use crate::seat::Seat;
 use crate::segment::Segment;
 use std::sync::Wait;
+use xm_config::Row;
 use xm_memory::OutOfMemory;
-use xm_rules::{Refusal, Reply};
+use xm_rules::{REFUSALS, Refusal, Reply};
 
 /// The most rows that a worker takes at once.
 pub const MAX_ROWS: usize = 1_000_000;
-
-/// How many refusals there are.
-pub const REFUSALS: usize = 15;
 
 /// What a worker's rows came to.
 #[derive(Clone, Copy, PartialEq, Eq, Debug)]
@@ -62,34 +59,10 @@ impl WorkerReport {
                 self.quantity += reply.quantity;
             }
             Err(refusal) => {
-                self.refused[place_of(refusal)] += 1;
+                self.refused[refusal.place()] += 1;
                 self.wanting = wanting_in(refusal);
             }
         }
-    }
-}
-
-/// The place of a refusal among all.
-fn place_of(refusal: &Refusal) -> usize
-    ensures place { result ≡ refusal_place refusal.now }
-    ensures within { result < REFUSALS }
-{
-    match refusal {
-        Refusal::UnknownSecurity => 0,
-        Refusal::UnknownMember => 1,
-        Refusal::DayEnded => 2,
-        Refusal::BadQuantity => 3,
-        Refusal::BadPrice => 4,
-        Refusal::BadValidity => 5,
-        Refusal::BadCombination => 6,
-        Refusal::WrongPhase => 7,
-        Refusal::DuplicateReference => 8,
-        Refusal::UnknownOrder => 9,
-        Refusal::NotChangeable => 10,
-        Refusal::TriggerReached => 11,
-        Refusal::JournalFull => 12,
-        Refusal::OutOfMemory(_) => 13,
-        Refusal::WouldExecute => 14,
     }
 }
 

@@ -1,6 +1,6 @@
 -- The reached stops are taken one after another, and then stand behind the pending ones in order of entry.
 use Rattle.xm_slots.proofs.Naming.{items-kept, keeps}
-use Rattle.xm_slots.proofs.Leaving.{distinct-kept, others-pass}
+use Rattle.xm_slots.proofs.Leaving.{distinct-kept, others-pass, filters, one-less, key-once}
 use Rattle.std.proofs.Common.{◌≡◌, ℕ, suc, ◌+◌, ◌-◌, ◌<◌, ◌≤◌, Bool, true, false, not, ◌==◌, if◌then◌else◌, List, [], ◌∷◌, ◌++◌, length, map, filter, take, drop, Contains, refl, sym, ap, ◌∙◌, subst, ◌⊎◌, inl, inr, arith}
 use Rattle.std.specs.List.Sorted.{IsPermutation}
 use Rattle.std.proofs.lemmas.Bool.{eqb-true}
@@ -20,7 +20,6 @@ use Rattle.xm_slots.specs.declared.listing.Listed.{Listed}
 use Rattle.xm_slots.proofs.Rising.{IsRising, sorted-same}
 use Rattle.xm_slots.proofs.InTime.{times-rise}
 use Rattle.xm_slots.proofs.Keeping.{rises-kept}
-use Rattle.xm_slots.proofs.Leaving.{filters, one-less, key-once}
 use Rattle.xm_slots.proofs.Tests.{length-kept}
 use Rattle.xm_slots.proofs.Members.{Contains-filter, Contains-map, Contains-none, IsMade, IsMade-map, Passes-filter}
 

@@ -1,9 +1,9 @@
 //! A ladder's limits, as levels come and go.
 use std::alloc::Allocator;
 use std::process::Abort;
+use xm_failing_alloc::Refusing;
 use xm_ladders::{Ladder, Ladders, Level};
 use xm_queues::Ends;
-use xm_failing_alloc::Refusing;
 use xm_rules::{OrderKind, Restriction, Side};
 use xm_ticks::Price;
 

@@ -1,9 +1,9 @@
 //! Names by member and reference.
 use std::alloc::Allocator;
 use std::process::Abort;
+use xm_failing_alloc::Refusing;
 use xm_memory::OutOfMemory;
 use xm_name_index::{Names, Storage};
-use xm_failing_alloc::Refusing;
 
 /// How many names there are, of three members in turn, each with its reference as its key.
 const NAMES: u32 = 240;

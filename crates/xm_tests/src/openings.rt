@@ -3,9 +3,9 @@ use crate::board::{Seen, read, settings};
 use std::alloc::Allocator;
 use std::marker::Model;
 use std::process::Abort;
+use xm_failing_alloc::{Counted, Refusing, Tried, refuse_all};
 use xm_memory::OutOfMemory;
 use xm_positions::Positions;
-use xm_failing_alloc::{Counted, Refusing, Tried, refuse_all};
 
 #[derive(Clone, Copy)]
 enum Call {

@@ -1,8 +1,8 @@
 //! The set of prices and the map from prices at the ends of words, of pages and of all, and between.
 use std::alloc::Allocator;
 use std::process::Abort;
-use xm_price_maps::{PRICES, PriceMap, PriceSet};
 use xm_failing_alloc::Refusing;
+use xm_price_maps::{PRICES, PriceMap, PriceSet};
 
 /// Prices in rising order, the lowest and the highest among them.
 const EDGES: [u32; 12] = [

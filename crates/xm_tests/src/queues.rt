@@ -5,9 +5,9 @@ ghost use Rattle.xm_queues.specs.Queue.{IsQueue};
 use std::alloc::{Allocator, Global};
 use std::marker::Model;
 use std::process::Abort;
+use xm_failing_alloc::Refusing;
 use xm_memory::OutOfMemory;
 use xm_queues::{Ends, Queues};
-use xm_failing_alloc::Refusing;
 
 /// How many keys a queue has.
 const KEYS: usize = 100;

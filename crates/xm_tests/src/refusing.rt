@@ -5,8 +5,8 @@ use std::process::Abort;
 use std::sync::{Mutex, Wait};
 use std::test::Fail;
 use std::thread::join;
-use xm_memory::OutOfMemory;
 use xm_failing_alloc::{Refusing, Requests, Tried, Wrong, refuse_all, refuse_each};
+use xm_memory::OutOfMemory;
 
 /// Pushes twenty numbers, one again where it was refused, and answers which.
 fn refused_push(rt: &impl Abort, alloc: &Refusing<Global>) -> Option<u64> {

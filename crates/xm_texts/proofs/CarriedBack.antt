@@ -17,8 +17,8 @@ use Rattle.xm_rules.specs.Step.{Journal, is_lawful, replay}
 use Rattle.xm_rules.specs.declared.orders.Order.{Order}
 use Rattle.xm_rules.specs.declared.orders.Stop.{Stop}
 use Rattle.xm_rules.specs.declared.settings.DeskSettings.{DeskSettings}
-use Rattle.xm_segment.specs.declared.config.SecurityConfig.{SecurityConfig}
-use Rattle.xm_segment.specs.declared.config.SegmentConfig.{SegmentConfig}
+use Rattle.xm_config.specs.declared.config.SecurityConfig.{SecurityConfig}
+use Rattle.xm_config.specs.declared.config.SegmentConfig.{SegmentConfig}
 use Rattle.xm_files.proofs.ReadBack.{AllCanBeListed, CanBeListed, IsOrderRead, IsStopRead, carry-read, records_of}
 use Rattle.xm_files.proofs.WrittenFields.{EntryTexts, fields_in}
 use Rattle.xm_files.proofs.WrittenLines.{is_plain_record, lines_of, record_line}

@@ -18,7 +18,7 @@ use Rattle.xm_rules.specs.declared.orders.Side.{Side}
 use Rattle.xm_rules.specs.declared.orders.Side.TheVariants.{Buy, Sell}
 use Rattle.xm_rules.specs.declared.orders.Validity.{Validity}
 use Rattle.xm_rules.specs.declared.orders.Validity.TheVariants.{Day, TillDate, TillCancelled}
-use Rattle.xm_segment.specs.declared.config.SecurityConfig.{SecurityConfig}
+use Rattle.xm_config.specs.declared.config.SecurityConfig.{SecurityConfig}
 use Rattle.xm_ticks.specs.Reading.{price_of}
 use Rattle.xm_ticks.specs.Writing.{price_text}
 use Rattle.xm_ticks.specs.declared.numbers.TheConstants.{MAX_TICK_SIZE}

@@ -4,3 +4,6 @@ mod Leaving
 mod LeftInRange
 mod CarryTexts
 mod CarriedBack
+pub mod Feeding
+pub mod Tells
+pub mod Then

@@ -1,2 +1,7 @@
+pub mod Asked
 pub mod Carry
+pub mod Feeds
+pub mod MarketDepth
+pub mod RowAnswers
+pub mod RowTrades
 pub mod Statement

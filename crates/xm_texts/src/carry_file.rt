@@ -8,10 +8,10 @@ ghost use Rattle.xm_rules.specs.Step.{replay};
 ghost use Rattle.xm_rules.specs.declared.orders.Order.{Order};
 ghost use Rattle.xm_rules.specs.declared.orders.Stop.{Stop};
 
-use crate::remaining::{push_ticks, push_validity};
-use crate::texts::{
+use crate::fields::{
     member_name, push_comma, push_line_feed, push_number, push_text, security_name,
 };
+use crate::remaining::{push_ticks, push_validity};
 use crate::words::{kind_word, restriction_word, side_word};
 use std::alloc::Allocator;
 use xm_desk::Desk;

@@ -3,7 +3,7 @@ ghost use Rattle.std.specs.Prelude.{◌≡◌, List, Ok, map};
 ghost use Rattle.xm_files.specs.Carry.{carry_of, with_lists};
 ghost use Rattle.xm_files.specs.Names.{NameLists};
 ghost use Rattle.xm_rules.specs.Step.{Journal, replay};
-ghost use Rattle.xm_segment.specs.declared.config.SegmentConfig.{SegmentConfig};
+ghost use Rattle.xm_config.specs.declared.config.SegmentConfig.{SegmentConfig};
 ghost use Rattle.xm_texts.specs.Carry.{CanBeRead, carry_text, carried_forward};
 
 /// What a day leaves is what the next day reads: the carry file of lawful journals gives each security the orders and stops of its

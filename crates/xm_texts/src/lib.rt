@@ -1,15 +1,30 @@
-//! What a day leaves as texts: its statement, and the carry file of the next day.
+//! The texts of a day: its statement, the carry file of the next day, and what is told of its rows: the answers, the trades, and the
+//! levels behind them.
 #![tactic(auto)]
 
+mod answers;
+mod asked;
 mod carry_file;
+mod depth;
+pub mod fields;
 pub mod laws;
+mod lines;
+mod quoted;
 mod remaining;
 mod statements;
 mod sums;
-pub mod texts;
+mod told;
 mod traded;
-pub mod words;
+mod trades;
+mod words;
 
+pub use crate::answers::{begun_answers, push_known, push_unknown};
+pub use crate::asked::AskedTexts;
 pub use crate::carry_file::carry_text;
+pub use crate::depth::{Depths, MarketDepth, begun_levels, push_change};
+pub use crate::lines::Lines;
+pub use crate::quoted::push_field;
 pub use crate::statements::{push_day, push_rows, push_security, room_for_trades, statement_text};
+pub use crate::told::Told;
 pub use crate::traded::push_members;
+pub use crate::trades::{begun_trades, push_trade, trades_by};

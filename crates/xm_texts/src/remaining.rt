@@ -4,7 +4,7 @@ ghost use Rattle.std.specs.List.{flat_map};
 ghost use Rattle.xm_texts.specs.Statement.{date_text, limit_text, order_line, stop_line, validity_text};
 ghost use Rattle.xm_ticks.specs.Writing.{price_text};
 
-use crate::texts::{push_money, push_number, push_party, push_price, push_space, push_text};
+use crate::fields::{push_money, push_number, push_party, push_price, push_space, push_text};
 use crate::words::{restriction_word, side_word};
 use itoa::Buffer;
 use std::alloc::Allocator;

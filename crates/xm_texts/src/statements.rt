@@ -3,8 +3,8 @@ ghost use Rattle.std.specs.Prelude.{◌≡◌, ◌++◌, ◌<◌, ◌^◌, [], I
 ghost use Rattle.xm_texts.specs.Statement.{day_line, heading_text, name_at, references_line, rows_line, securities_text, security_line, security_text, statement};
 ghost use Rattle.xm_rules.specs.Step.{replay};
 
+use crate::fields::{push_number, push_price, push_space, push_text, security_name};
 use crate::remaining::{push_date, push_orders, push_stops};
-use crate::texts::{push_number, push_price, push_space, push_text, security_name};
 use crate::traded::{push_members, push_nets, push_total, push_trades};
 use crate::words::phase_word;
 use std::alloc::Allocator;

@@ -5,10 +5,10 @@ ghost use Rattle.xm_texts.specs.Statement.{cash_line, member_indices, member_lin
 ghost use Rattle.xm_rules.specs.Step.{replay};
 ghost use Rattle.xm_rules.specs.Sums.{total_money, total_quantity};
 
-use crate::sums::{cash_in, total_cash};
-use crate::texts::{
+use crate::fields::{
     member_name, push_money, push_number, push_party, push_price, push_space, push_text, written,
 };
+use crate::sums::{cash_in, total_cash};
 use crate::words::trade_word;
 use std::alloc::Allocator;
 use std::io::Write;

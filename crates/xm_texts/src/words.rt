@@ -1,9 +1,10 @@
-//! The words of the statement and of the carry file.
+//! The words of the texts.
 ghost use Rattle.std.specs.Prelude.{◌≡◌};
 ghost use Rattle.xm_texts.specs.Carry.{kind_word};
+ghost use Rattle.xm_texts.specs.RowAnswers.{refusal_word};
 ghost use Rattle.xm_texts.specs.Statement.{phase_word, restriction_word, side_word, trade_word};
 
-use xm_rules::{Auction, CallStage, OrderKind, Phase, Restriction, Side, TradeKind};
+use xm_rules::{Auction, CallStage, OrderKind, Phase, Refusal, Restriction, Side, TradeKind};
 
 /// The word of a phase.
 pub fn phase_word(phase: Phase) -> &'static str
@@ -75,5 +76,28 @@ pub fn restriction_word(restriction: Restriction) -> &'static str
         Restriction::OpeningOnly => "opening",
         Restriction::AuctionsOnly => "auctions",
         Restriction::ClosingOnly => "closing",
+    }
+}
+
+/// The word of a refusal.
+pub(crate) fn refusal_word(refusal: Refusal) -> &'static str
+    ensures { result.now ≡ refusal_word refusal }
+{
+    match refusal {
+        Refusal::UnknownSecurity => "unknown-security",
+        Refusal::UnknownMember => "unknown-member",
+        Refusal::DayEnded => "day-ended",
+        Refusal::BadQuantity => "bad-quantity",
+        Refusal::BadPrice => "bad-price",
+        Refusal::BadValidity => "bad-validity",
+        Refusal::BadCombination => "bad-combination",
+        Refusal::WrongPhase => "wrong-phase",
+        Refusal::DuplicateReference => "duplicate-reference",
+        Refusal::UnknownOrder => "unknown-order",
+        Refusal::NotChangeable => "not-changeable",
+        Refusal::TriggerReached => "trigger-reached",
+        Refusal::JournalFull => "journal-full",
+        Refusal::OutOfMemory(_) => "out-of-memory",
+        Refusal::WouldExecute => "would-execute",
     }
 }

@@ -6,22 +6,22 @@ use Rattle.std.proofs.lemmas.List.{get_or_default, get_or-set_other, get_or-set_
 use Rattle.std.proofs.lemmas.List.Sums.{fold-append, fold_more, sum_by-cons, sum_by-set}
 use Rattle.std.proofs.lemmas.Option.{get_or_from_slice_get, slice_get-get_or, slice_get-map, slice_get_past}
 use Rattle.xm_replay.proofs.Places.{set-there, within-length}
-use Rattle.xm_replay.proofs.Days.{day-opened, on_accepted, on_refused, on_unknown, with_command}
-use Rattle.xm_replay.proofs.Feeding.{get-set, set-same}
-use Rattle.xm_replay.specs.Day.{Day as TheDay, after_rows, day, day_of}
+use Rattle.xm_config.proofs.Days.{day-opened, on_accepted, on_refused, on_unknown, with_command}
+use Rattle.xm_texts.proofs.Feeding.{get-set, set-same}
+use Rattle.xm_config.specs.Day.{Day as TheDay, after_rows, day, day_of}
 use Rattle.xm_threads.specs.Lanes.{AreOpened, AreTaken, LaneView, TookOwnRows, fresh_lane, if_accepted, journal_after, lane_after, lane_row, lane_rows, own_row, own_rows}
 use Rattle.xm_replay.specs.Taken.{commands_in}
 use Rattle.xm_replay.specs.declared.faults.DayFault.{DayFault}
 use Rattle.xm_replay.specs.declared.faults.DayFault.TheVariants.{OutOfMemory}
-use Rattle.xm_replay.specs.declared.report.AskedTexts.{AskedTexts}
+use Rattle.xm_texts.specs.declared.asked.AskedTexts.{AskedTexts}
 use Rattle.xm_files.specs.Names.{NameLists}
 use Rattle.xm_rules.specs.Refusals.{refusal_of}
 use Rattle.xm_rules.specs.Step.{Journal, replay}
 use Rattle.xm_rules.specs.declared.replies.Refusal.{Refusal}
-use Rattle.xm_segment.specs.Opening.{journal_of, segment_fault}
-use Rattle.xm_segment.specs.declared.config.SecurityConfig.{SecurityConfig}
-use Rattle.xm_segment.specs.declared.config.SegmentConfig.{SegmentConfig}
-use Rattle.xm_segment.specs.declared.rows.Row.{Row}
+use Rattle.xm_config.specs.Opening.{journal_of, segment_fault}
+use Rattle.xm_config.specs.declared.config.SecurityConfig.{SecurityConfig}
+use Rattle.xm_config.specs.declared.config.SegmentConfig.{SegmentConfig}
+use Rattle.xm_config.specs.declared.rows.Row.{Row}
 
 -- ---- all journals behind rows
 

@@ -5,27 +5,27 @@ use Rattle.std.proofs.lemmas.List.{append-nil, length-map, length-set}
 use Rattle.std.proofs.lemmas.List.Sums.{fold-append}
 use Rattle.std.specs.Bool.{OnTrue}
 use Rattle.xm_threads.proofs.Apart.{all_rows, counts-of, fresh-at, length-rows, rows-at, taken-more}
-use Rattle.xm_replay.proofs.Days.{day-opened}
+use Rattle.xm_config.proofs.Days.{day-opened}
 use Rattle.xm_threads.proofs.Telling.{keeps-asked, popped-same, set-popped, texts-are, told-added}
-use Rattle.xm_replay.proofs.Tells.{told_of_rows-append}
-use Rattle.xm_replay.specs.Day.{Day as TheDay, after_rows, answer_on, day, day_of, opening_day, told_of_rows}
-use Rattle.xm_replay.specs.Feeds.{feed_of}
+use Rattle.xm_texts.proofs.Tells.{told_of_rows-append}
+use Rattle.xm_config.specs.Day.{Day as TheDay, after_rows, answer_on, day, day_of, opening_day, told_of_rows}
+use Rattle.xm_texts.specs.Feeds.{feed_of}
 use Rattle.xm_threads.specs.KeptRows.{KeptRow, behind_first}
 use Rattle.xm_threads.specs.Lanes.{AreTaken, AreTold, IsAdded, LaneView, LanesAndTexts, MergedView, TextsView, TookMore, TookOwnRows, asks_any, fresh_lane, if_asked, journal_after, kept_row, lane_after, lane_rows, own_kept, own_row, own_rows, tells_any, texts_where, told_by_lane, told_row}
-use Rattle.xm_replay.specs.MarketDepth.{change_lines, depth_header, depth_text, market_depth, told_change, told_depth}
-use Rattle.xm_replay.specs.declared.depth.MarketDepth.{MarketDepth}
-use Rattle.xm_replay.specs.RowAnswers.{answers_header, answers_text, told_of, where_asked}
-use Rattle.xm_replay.specs.RowTrades.{told_trades, trades_header, trades_text}
-use Rattle.xm_replay.specs.declared.report.AskedTexts.{AskedTexts}
+use Rattle.xm_texts.specs.MarketDepth.{change_lines, depth_header, depth_text, market_depth, told_change, told_depth}
+use Rattle.xm_texts.specs.declared.depth.MarketDepth.{MarketDepth}
+use Rattle.xm_texts.specs.RowAnswers.{answers_header, answers_text, told_of, where_asked}
+use Rattle.xm_texts.specs.RowTrades.{told_trades, trades_header, trades_text}
+use Rattle.xm_texts.specs.declared.asked.AskedTexts.{AskedTexts}
 use Rattle.xm_files.specs.Names.{NameLists}
 use Rattle.xm_files.specs.RecordTexts.{text_of_record}
 use Rattle.xm_rules.specs.State.{State}
 use Rattle.xm_rules.specs.Step.{Journal, replay}
 use Rattle.xm_rules.specs.declared.replies.Refusal.{Refusal}
 use Rattle.xm_rules.specs.declared.replies.Reply.{Reply}
-use Rattle.xm_segment.specs.Opening.{journal_of}
-use Rattle.xm_segment.specs.declared.config.SegmentConfig.{SegmentConfig}
-use Rattle.xm_segment.specs.declared.rows.Row.{Row}
+use Rattle.xm_config.specs.Opening.{journal_of}
+use Rattle.xm_config.specs.declared.config.SegmentConfig.{SegmentConfig}
+use Rattle.xm_config.specs.declared.rows.Row.{Row}
 
 -- ---- a row of its own
 

@@ -6,21 +6,21 @@ use Rattle.std.proofs.lemmas.List.{append-nil, get_or-set_other, get_or-set_same
 use Rattle.std.proofs.lemmas.Option.{get_or_from_slice_get, slice_get-get_or, slice_get-map, slice_get_past}
 use Rattle.xm_threads.proofs.Apart.{all_row, at-row, length-row, one-row, own-row, past-end, row-at}
 use Rattle.xm_replay.proofs.Places.{within-length}
-use Rattle.xm_replay.proofs.Tells.{with_text-asked}
-use Rattle.xm_replay.specs.Day.{Day as TheDay, after_row, answer_on, day_of, told_behind, told_of_rows}
+use Rattle.xm_texts.proofs.Tells.{with_text-asked}
+use Rattle.xm_config.specs.Day.{Day as TheDay, after_row, answer_on, day_of, told_behind, told_of_rows}
 use Rattle.xm_threads.specs.KeptRows.{KeptRow, behind_first}
 use Rattle.xm_threads.specs.Lanes.{LaneView, LanesAndTexts, TextsView, asks_any, fresh_lane, if_asked, journal_after, lane_after, lane_row, lane_rows, own_kept, own_row, own_rows, tells_any, texts_where, told_by_lane, told_row, with_first}
-use Rattle.xm_replay.specs.MarketDepth.{depths_of, told_change, told_depth}
-use Rattle.xm_replay.specs.RowAnswers.{answer_line, answers_of, record_line, told_of, unknown_fields, where_asked, with_text}
-use Rattle.xm_replay.specs.RowTrades.{told_trades, trade_lines, trades_of}
-use Rattle.xm_replay.specs.declared.report.AskedTexts.{AskedTexts}
+use Rattle.xm_texts.specs.MarketDepth.{depths_of, told_change, told_depth}
+use Rattle.xm_texts.specs.RowAnswers.{answer_line, answers_of, record_line, told_of, unknown_fields, where_asked, with_text}
+use Rattle.xm_texts.specs.RowTrades.{told_trades, trade_lines, trades_of}
+use Rattle.xm_texts.specs.declared.asked.AskedTexts.{AskedTexts}
 use Rattle.xm_files.specs.Names.{NameLists}
 use Rattle.xm_rules.specs.State.{State}
 use Rattle.xm_rules.specs.Step.{Journal, replay}
 use Rattle.xm_rules.specs.declared.replies.Refusal.{Refusal}
 use Rattle.xm_rules.specs.declared.replies.Refusal.TheVariants.{UnknownSecurity}
 use Rattle.xm_rules.specs.declared.replies.Reply.{Reply}
-use Rattle.xm_segment.specs.declared.rows.Row.{Row}
+use Rattle.xm_config.specs.declared.rows.Row.{Row}
 
 -- ---- what a security keeps of rows
 

@@ -3,14 +3,14 @@ use Rattle.std.specs.Prelude.{◌≡◌, ◌≢◌, ℕ, ◌+◌, ◌<◌, ◌�
 use Rattle.std.specs.Bool.{OnTrue}
 use Rattle.std.specs.List.{flat_map}
 use Rattle.xm_replay.specs.Taken.{IsOpenFault}
-use Rattle.xm_replay.specs.Day.{answer_on}
+use Rattle.xm_config.specs.Day.{answer_on}
 use Rattle.xm_threads.specs.KeptRows.{KeptRow, behind_first}
-use Rattle.xm_replay.specs.MarketDepth.{depth_text, told_change}
-use Rattle.xm_replay.specs.RowAnswers.{answers_text, record_line, security_fields, unknown_fields, where_asked, with_text}
-use Rattle.xm_replay.specs.RowTrades.{row_trades, trades_text}
+use Rattle.xm_texts.specs.MarketDepth.{depth_text, told_change}
+use Rattle.xm_texts.specs.RowAnswers.{answers_text, record_line, security_fields, unknown_fields, where_asked, with_text}
+use Rattle.xm_texts.specs.RowTrades.{row_trades, trades_text}
 use Rattle.xm_replay.specs.declared.faults.DayFault.{DayFault}
 use Rattle.xm_replay.specs.declared.faults.DayFault.TheVariants.{Open, OutOfMemory}
-use Rattle.xm_replay.specs.declared.report.AskedTexts.{AskedTexts}
+use Rattle.xm_texts.specs.declared.asked.AskedTexts.{AskedTexts}
 use Rattle.xm_files.specs.Batches.{RowsLeft, RowsRead, rows_from, rows_so_far}
 use Rattle.xm_files.specs.FileFaults.{is_from_outside}
 use Rattle.xm_files.specs.Names.{NameLists}
@@ -25,9 +25,9 @@ use Rattle.xm_rules.specs.declared.commands.Command.{Command}
 use Rattle.xm_rules.specs.declared.replies.Refusal.{Refusal}
 use Rattle.xm_rules.specs.declared.replies.Refusal.TheVariants.{UnknownSecurity}
 use Rattle.xm_rules.specs.declared.replies.Reply.{Reply}
-use Rattle.xm_segment.specs.Opening.{journal_of, segment_fault}
-use Rattle.xm_segment.specs.declared.config.SegmentConfig.{SegmentConfig}
-use Rattle.xm_segment.specs.declared.rows.Row.{Row}
+use Rattle.xm_config.specs.Opening.{journal_of, segment_fault}
+use Rattle.xm_config.specs.declared.config.SegmentConfig.{SegmentConfig}
+use Rattle.xm_config.specs.declared.rows.Row.{Row}
 
 -- a security that takes its rows: what is asked for of them, its journal, what it keeps of its rows that weren't told yet, and whether memory
 -- was wanting for a row

@@ -3,7 +3,7 @@ ghost use Rattle.std.specs.Prelude.{◌≡◌, ◌≤◌, ◌<◌, [], None, len
 ghost use Rattle.std.specs.Thread.{IsSync};
 ghost use Rattle.xm_replay.specs.Taken.{RowsRun, RowsTaken};
 ghost use Rattle.xm_threads.specs.Lanes.{AreOpened, AreTold, AreTakenSoFar, IsReadBehind, TookMore};
-ghost use Rattle.xm_replay.specs.declared.report.AskedTexts.{AskedTexts};
+ghost use Rattle.xm_texts.specs.declared.asked.AskedTexts.{AskedTexts};
 ghost use Rattle.xm_files.specs.Batches.{rows_so_far, text_left};
 ghost use Rattle.xm_files.specs.declared.bytes.TheConstants.{MAX_BYTES};
 
@@ -12,10 +12,11 @@ use crate::merged::Merged;
 use std::alloc::Global;
 use std::thread::Threads;
 use std::{mem, thread};
+use xm_config::SegmentConfig;
 use xm_files::{Batch, FileFault, FileParts, RecordTexts, RowReader, SegmentNames};
 use xm_name_index::Storage;
-use xm_replay::{AskedTexts, DayFault, OpenDay};
-use xm_segment::SegmentConfig;
+use xm_replay::{DayFault, OpenDay};
+use xm_texts::AskedTexts;
 
 /// Reads the rows of an order file of these bytes, and has the securities of a segment take them on so many threads, each its
 /// own, and tell the texts that are asked for. The fault of the file is answered, if it has one, and else what came of its rows.

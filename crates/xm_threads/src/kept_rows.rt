@@ -1,21 +1,21 @@
 //! What is kept of rows until it is told.
 ghost use Rattle.std.specs.Prelude.{◌≡◌, ◌≤◌, ◌++◌, ◌∷◌, [], OnOk, Some, length, map};
 ghost use Rattle.xm_threads.specs.Lanes.{if_asked};
-ghost use Rattle.xm_replay.specs.MarketDepth.{change_lines};
-ghost use Rattle.xm_replay.specs.RowAnswers.{security_fields};
-ghost use Rattle.xm_replay.specs.RowTrades.{row_trades, trade_fields};
+ghost use Rattle.xm_texts.specs.MarketDepth.{change_lines};
+ghost use Rattle.xm_texts.specs.RowAnswers.{security_fields};
+ghost use Rattle.xm_texts.specs.RowTrades.{row_trades, trade_fields};
 ghost use Rattle.xm_rules.specs.Step.{replay};
 
 use crate::kept_lines::{KeptLines, Span};
 use crate::row_texts::RowTexts;
 use std::alloc::Global;
 use std::marker::Model;
+use xm_config::Row;
 use xm_desk::Desk;
 use xm_files::{RecordTexts, SegmentNames};
 use xm_memory::OutOfMemory;
-use xm_replay::{AskedTexts, MarketDepth, push_change, push_known, push_trade, trades_by};
 use xm_rules::{Refusal, Reply, Trade};
-use xm_segment::Row;
+use xm_texts::{AskedTexts, MarketDepth, push_change, push_known, push_trade, trades_by};
 
 /// Rows one after another. A clause sees those that aren't told yet.
 #[derive(Drop)]
@@ -48,7 +48,7 @@ impl KeptRows {
     ghost use Rattle.std.specs.Prelude.{◌≡◌, ◌++◌, ◌∷◌, [], OnOk};
     ghost use Rattle.xm_threads.specs.KeptRows.{behind_first};
     ghost use Rattle.xm_threads.specs.Lanes.{kept_row, with_first};
-    ghost use Rattle.xm_replay.specs.MarketDepth.{change_lines};
+    ghost use Rattle.xm_texts.specs.MarketDepth.{change_lines};
     ghost use Rattle.xm_files.specs.RecordTexts.{text_of_record};
     ghost use Rattle.xm_rules.specs.Step.{replay};
 

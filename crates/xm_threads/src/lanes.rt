@@ -2,15 +2,15 @@
 ghost use Rattle.std.specs.Prelude.{◌≡◌, ◌≤◌, ◌<◌, ◌+◌, ℕ, List, All, None, IfOk, OnErr, OnOk, Some, false, length, map, slice_index_or};
 ghost use Rattle.std.specs.Bool.{OnTrue};
 ghost use Rattle.xm_replay.specs.Taken.{RowsTaken, commands_in};
-ghost use Rattle.xm_replay.specs.Day.{answer_on};
+ghost use Rattle.xm_config.specs.Day.{answer_on};
 ghost use Rattle.xm_threads.specs.Lanes.{AreOpened, AreTold, AreTakenSoFar, LaneView, TookMore, TookOwnRows, asks_any, fresh_lane, journal_after, lane_row};
-ghost use Rattle.xm_replay.specs.MarketDepth.{market_depth};
-ghost use Rattle.xm_replay.specs.declared.report.AskedTexts.{AskedTexts};
+ghost use Rattle.xm_texts.specs.MarketDepth.{market_depth};
+ghost use Rattle.xm_texts.specs.declared.asked.AskedTexts.{AskedTexts};
 ghost use Rattle.xm_files.specs.Batches.{rows_so_far};
 ghost use Rattle.xm_files.specs.Names.{NameLists};
 ghost use Rattle.xm_files.specs.declared.orders.TheConstants.{MAX_ROWS};
 ghost use Rattle.xm_rules.specs.Step.{replay};
-ghost use Rattle.xm_segment.specs.Opening.{segment_fault};
+ghost use Rattle.xm_config.specs.Opening.{segment_fault};
 
 use crate::kept_rows::KeptRows;
 use crate::merged::Merged;
@@ -19,13 +19,14 @@ use std::alloc::Global;
 use std::marker::Model;
 use std::thread;
 use std::thread::Threads;
-use xm_desk::Desk;
+use xm_config::{Row, SegmentConfig};
+use xm_desk::{Desk, open_desks};
 use xm_files::{Batch, MAX_ROWS, RecordTexts, SegmentNames};
 use xm_memory::OutOfMemory;
 use xm_name_index::Storage;
-use xm_replay::{AskedTexts, DayFault, DayReport, MarketDepth, OpenDay, by_rule};
+use xm_replay::{DayFault, DayReport, OpenDay, by_rule};
 use xm_rules::{Refusal, Reply};
-use xm_segment::{Row, SegmentConfig, open_desks};
+use xm_texts::{AskedTexts, MarketDepth};
 
 /// The desk of a security, what is asked for of its rows, what it keeps of those that aren't told yet, and the want of memory that it met.
 /// From then on it takes no row.
@@ -43,7 +44,7 @@ impl Model for Lane {
     ghost use Rattle.std.specs.Prelude.{◌≡◌, is_some};
     ghost use Rattle.std.specs.Bool.{OnTrue};
     ghost use Rattle.xm_threads.specs.Lanes.{LaneView};
-    ghost use Rattle.xm_replay.specs.MarketDepth.{market_depth};
+    ghost use Rattle.xm_texts.specs.MarketDepth.{market_depth};
     ghost use Rattle.xm_rules.specs.Step.{replay};
 
     ghost Value = { LaneView };

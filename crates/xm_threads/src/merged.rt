@@ -7,11 +7,11 @@ use crate::lanes::Lane;
 use crate::row_texts::RowTexts;
 use std::alloc::Global;
 use std::marker::Model;
+use xm_config::Row;
 use xm_desk::Desk;
 use xm_files::RecordTexts;
 use xm_memory::OutOfMemory;
-use xm_replay::{AskedTexts, Told};
-use xm_segment::Row;
+use xm_texts::{AskedTexts, Told};
 
 /// The texts so far that are told of the rows of a segment, and the want of memory that they met. From then on nothing is added to
 /// them.
@@ -33,9 +33,9 @@ impl Model for Merged {
 impl Merged {
     ghost use Rattle.std.specs.Prelude.{◌≡◌, IfOk, OnOk, List, ℕ, false, map, option_map};
     ghost use Rattle.xm_threads.specs.Lanes.{IsAdded, texts_where};
-    ghost use Rattle.xm_replay.specs.MarketDepth.{depth_header, market_depth};
-    ghost use Rattle.xm_replay.specs.RowAnswers.{answers_header};
-    ghost use Rattle.xm_replay.specs.RowTrades.{trades_header};
+    ghost use Rattle.xm_texts.specs.MarketDepth.{depth_header, market_depth};
+    ghost use Rattle.xm_texts.specs.RowAnswers.{answers_header};
+    ghost use Rattle.xm_texts.specs.RowTrades.{trades_header};
     ghost use Rattle.xm_rules.specs.Step.{replay};
 
     /// What is told of no row: the headers of the texts that are asked for.

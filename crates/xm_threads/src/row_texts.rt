@@ -1,21 +1,21 @@
 //! The texts that are told of the rows of a segment.
 ghost use Rattle.std.specs.Prelude.{◌≡◌, ◌≤◌, ◌++◌, OnOk, length, slice_range};
 ghost use Rattle.std.specs.List.{flat_map};
-ghost use Rattle.xm_replay.specs.RowAnswers.{record_line};
+ghost use Rattle.xm_texts.specs.RowAnswers.{record_line};
 
 use crate::kept_lines::KeptLines;
 use std::alloc::Global;
 use std::marker::Model;
+use xm_config::Row;
 use xm_desk::Desk;
 use xm_files::RecordTexts;
 use xm_memory::OutOfMemory;
-use xm_replay::{
+use xm_rules::Refusal;
+use xm_texts::fields::{push_comma, push_line_feed, push_number};
+use xm_texts::{
     AskedTexts, Depths, Lines, Told, begun_answers, begun_levels, begun_trades, push_field,
     push_unknown,
 };
-use xm_rules::Refusal;
-use xm_segment::Row;
-use xm_texts::texts::{push_comma, push_line_feed, push_number};
 
 /// The texts so far, as far as they are asked for.
 #[derive(Drop)]
@@ -38,9 +38,9 @@ impl RowTexts {
     ghost use Rattle.std.specs.Prelude.{◌≡◌, ◌≤◌, List, ℕ, IfOk, OnOk, false, length, map, option_map, slice_range};
     ghost use Rattle.std.specs.List.{flat_map};
     ghost use Rattle.xm_threads.specs.Lanes.{tells_any, texts_where, unknown_row, with_kept};
-    ghost use Rattle.xm_replay.specs.MarketDepth.{depth_header, market_depth};
-    ghost use Rattle.xm_replay.specs.RowAnswers.{answers_header, record_line, with_text};
-    ghost use Rattle.xm_replay.specs.RowTrades.{trades_header};
+    ghost use Rattle.xm_texts.specs.MarketDepth.{depth_header, market_depth};
+    ghost use Rattle.xm_texts.specs.RowAnswers.{answers_header, record_line, with_text};
+    ghost use Rattle.xm_texts.specs.RowTrades.{trades_header};
     ghost use Rattle.xm_files.specs.RecordTexts.{text_of_record};
     ghost use Rattle.xm_rules.specs.Step.{replay};
 

@@ -21,8 +21,8 @@ use Rattle.xm_rules.specs.declared.replies.Reply.{Reply}
 use Rattle.xm_rules.specs.declared.settings.DeskSettings.{DeskSettings}
 use Rattle.xm_segment.specs.Reports.{no_report, report_from, report_of, with_answer_in}
 use Rattle.xm_segment.specs.Seats.{IsTaken, SeatView, WereAnswered, lacks_memory}
-use Rattle.xm_segment.specs.declared.config.SegmentConfig.{SegmentConfig}
-use Rattle.xm_segment.specs.declared.rows.Row.{Row}
+use Rattle.xm_config.specs.declared.config.SegmentConfig.{SegmentConfig}
+use Rattle.xm_config.specs.declared.rows.Row.{Row}
 use Rattle.xm_replay.proofs.Places.{same-at, set-here, set-there, some-at, within-length}
 use Rattle.xm_segment.specs.declared.working.WorkerReport.{WorkerReport}
 

@@ -9,7 +9,7 @@ use Rattle.std.proofs.lemmas.List.Elements.{All-head, All-tail, filter-append, f
 use Rattle.xm_workers.specs.Workers.{is_taken_by, rows_of}
 use Rattle.xm_files.specs.Timetable.{is_of_member, is_one_round, is_worked_by, share_of}
 use Rattle.xm_rules.specs.Commands.{member_of}
-use Rattle.xm_segment.specs.declared.rows.Row.{Row}
+use Rattle.xm_config.specs.declared.rows.Row.{Row}
 
 abbrev pub is_phase : Row → Bool
 is_phase row = not (is_of_member row)

@@ -7,7 +7,7 @@ use Rattle.std.specs.Option.{option_map_or}
 use Rattle.xm_workers.specs.Workers.{shared_out}
 use Rattle.xm_files.specs.Timetable.{is_of_member, is_worked_by, share_of}
 use Rattle.xm_rules.specs.Commands.{member_of}
-use Rattle.xm_segment.specs.declared.rows.Row.{Row}
+use Rattle.xm_config.specs.declared.rows.Row.{Row}
 
 -- one, where a number is the worker's
 abbrev one_if : Bool → ℕ

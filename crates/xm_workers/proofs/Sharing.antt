@@ -12,16 +12,16 @@ use Rattle.xm_replay.specs.declared.desks.OpenDay.{OpenDay}
 use Rattle.xm_replay.specs.declared.faults.DayFault.{DayFault}
 use Rattle.xm_replay.specs.declared.faults.DayFault.TheVariants.{OutOfMemory}
 use Rattle.xm_replay.specs.declared.report.DayReport.{DayReport}
-use Rattle.xm_desk.specs.declared.opening.OpenFault.{OpenFault}
-use Rattle.xm_desk.specs.declared.opening.OpenFault.TheVariants.{BadCarried, BadWidths, NoSecurity, TooMany, OutOfMemory as NoMemory}
+use Rattle.xm_config.specs.declared.opening.OpenFault.{OpenFault}
+use Rattle.xm_config.specs.declared.opening.OpenFault.TheVariants.{BadCarried, BadWidths, NoSecurity, TooMany, OutOfMemory as NoMemory}
 use Rattle.xm_board.specs.Journals.{unnumbered}
 use Rattle.xm_rules.specs.Step.{Journal, replay}
 use Rattle.xm_rules.specs.declared.settings.DeskSettings.{DeskSettings}
 use Rattle.xm_segment.specs.Gathering.{IsOneHistory}
 use Rattle.xm_segment.specs.Names.{UnnamedSegment}
-use Rattle.xm_segment.specs.Opening.{max_workers, opening_fault, segment_fault, settings_of}
-use Rattle.xm_segment.specs.declared.config.SegmentConfig.{SegmentConfig}
-use Rattle.xm_segment.specs.declared.rows.Row.{Row}
+use Rattle.xm_config.specs.Opening.{max_workers, opening_fault, segment_fault, settings_of}
+use Rattle.xm_config.specs.declared.config.SegmentConfig.{SegmentConfig}
+use Rattle.xm_config.specs.declared.rows.Row.{Row}
 
 -- a segment for no more workers than it takes opens where its desks do
 pub opening-is : (config : SegmentConfig) (workers : ℕ) → workers ≤ max_workers → opening_fault config workers 0 ≡ segment_fault config

@@ -18,7 +18,7 @@ use Rattle.xm_segment.specs.Answers.{IsAnswer, IsAnsweredOn, WasAnswered, with_a
 use Rattle.xm_segment.specs.Gathering.{AreParts, IsPart}
 use Rattle.xm_segment.specs.Seats.{SeatView, fresh_seat}
 use Rattle.xm_segment.specs.Watches.{fresh_row, fresh_watch}
-use Rattle.xm_segment.specs.declared.rows.Row.{Row}
+use Rattle.xm_config.specs.declared.rows.Row.{Row}
 
 -- ---- one answer, and the watch of one security
 

@@ -5,7 +5,7 @@ use Rattle.xm_rules.specs.declared.replies.Reply.{Reply}
 use Rattle.xm_rules.specs.declared.settings.DeskSettings.{DeskSettings}
 use Rattle.xm_segment.specs.Reports.{no_report, report_from, report_of, with_answer_in}
 use Rattle.xm_segment.specs.Seats.{SeatView, WereAnswered, lacks_memory}
-use Rattle.xm_segment.specs.declared.rows.Row.{Row}
+use Rattle.xm_config.specs.declared.rows.Row.{Row}
 use Rattle.xm_segment.specs.declared.working.WorkerReport.{WorkerReport}
 
 report_from-accepted : (r : WorkerReport) (answers : List (Result Reply Refusal)) → (report_from r answers).accepted ≤ r.accepted + length answers

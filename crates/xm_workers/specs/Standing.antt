@@ -4,7 +4,7 @@ use Rattle.xm_workers.specs.Workers.{HasWorked, WorkerView, taken_in}
 use Rattle.xm_workers.specs.declared.standing.Standing.{Standing}
 use Rattle.xm_workers.specs.declared.standing.Standing.TheVariants.{Idle, Working}
 use Rattle.xm_rules.specs.declared.settings.DeskSettings.{DeskSettings}
-use Rattle.xm_segment.specs.declared.rows.Row.{Row}
+use Rattle.xm_config.specs.declared.rows.Row.{Row}
 
 -- a worker takes these rows: it has none, or promises it
 abbrev pub WillTake : {S : Type 0} → List Row → WorkerView → Standing S → Type 0

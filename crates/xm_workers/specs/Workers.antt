@@ -5,11 +5,11 @@ use Rattle.std.specs.Option.{option_map_or}
 use Rattle.xm_board.specs.Journals.{Begins, entry_of, grown, opening_of, unnumbered}
 use Rattle.xm_board.specs.declared.journal.NumberedJournal.{NumberedJournal}
 use Rattle.xm_replay.specs.Taken.{IsOpenFault, commands_in}
-use Rattle.xm_replay.specs.Day.{Day}
+use Rattle.xm_config.specs.Day.{Day}
 use Rattle.xm_replay.specs.declared.faults.DayFault.{DayFault}
 use Rattle.xm_replay.specs.declared.faults.DayFault.TheVariants.{Open, OutOfMemory}
 use Rattle.xm_replay.specs.declared.report.DayReport.{DayReport}
-use Rattle.xm_desk.specs.declared.opening.OpenFault.{OpenFault}
+use Rattle.xm_config.specs.declared.opening.OpenFault.{OpenFault}
 use Rattle.xm_files.specs.Timetable.{share_of}
 use Rattle.xm_rules.specs.Commands.{member_of}
 use Rattle.xm_rules.specs.Step.{Journal, is_lawful, replay}
@@ -19,12 +19,12 @@ use Rattle.xm_rules.specs.declared.replies.Refusal.TheVariants.{UnknownSecurity}
 use Rattle.xm_rules.specs.declared.replies.Reply.{Reply}
 use Rattle.xm_rules.specs.declared.settings.DeskSettings.{DeskSettings}
 use Rattle.xm_segment.specs.Answers.{IsAnswer}
-use Rattle.xm_segment.specs.Opening.{segment_fault, settings_of}
+use Rattle.xm_config.specs.Opening.{segment_fault, settings_of}
 use Rattle.xm_segment.specs.Ledgers.{accepted_in}
 use Rattle.xm_segment.specs.Names.{UnnamedSegment}
 use Rattle.xm_segment.specs.Seats.{SeatView, WereAnswered, fresh_seat, lacks_memory}
-use Rattle.xm_segment.specs.declared.config.SegmentConfig.{SegmentConfig}
-use Rattle.xm_segment.specs.declared.rows.Row.{Row}
+use Rattle.xm_config.specs.declared.config.SegmentConfig.{SegmentConfig}
+use Rattle.xm_config.specs.declared.rows.Row.{Row}
 
 -- there is a journal for each of some settings, which is lawful and was opened with them
 abbrev pub AreJournals : List DeskSettings → List Journal → Type 0

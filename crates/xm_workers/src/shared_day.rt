@@ -9,10 +9,10 @@ ghost use Rattle.xm_files.specs.declared.bytes.TheConstants.{MAX_BYTES};
 ghost use Rattle.xm_segment.specs.Gathering.{AreGathered, IsOneHistory, all_sums};
 ghost use Rattle.xm_segment.specs.Names.{NamesSegment};
 ghost use Rattle.xm_segment.specs.Seats.{AreSeats};
-ghost use Rattle.xm_segment.specs.declared.config.SegmentConfig.{SegmentConfig};
+ghost use Rattle.xm_config.specs.declared.config.SegmentConfig.{SegmentConfig};
 ghost use Rattle.xm_segment.specs.declared.gathered.GatherFault.TheVariants as GatherFault;
-ghost use Rattle.xm_segment.specs.declared.opening.TheConstants.{MAX_WORKERS};
-ghost use Rattle.xm_segment.specs.declared.rows.Row.{Row};
+ghost use Rattle.xm_config.specs.declared.opening.TheConstants.{MAX_WORKERS};
+ghost use Rattle.xm_config.specs.declared.rows.Row.{Row};
 
 use crate::shares::take_members;
 use crate::worker::Worker;
@@ -20,12 +20,14 @@ use std::alloc::Global;
 use std::marker::{Brand, Model};
 use std::sync::Wait;
 use std::thread::Threads;
-use xm_desk::{Desk, OpenFault};
+use xm_config::{OpenFault, Row, SegmentConfig};
+use xm_desk::Desk;
 use xm_files::{Batch, FileFault, Part, RowReader, SegmentNames, first_phase};
 use xm_memory::OutOfMemory;
 use xm_name_index::Storage;
-use xm_replay::{DayFault, DayReport, OpenDay, Told};
-use xm_segment::{Gate, GatherFault, Naming, Opened, Row, Seat, Segment, SegmentConfig};
+use xm_replay::{DayFault, DayReport, OpenDay};
+use xm_segment::{Gate, GatherFault, Naming, Opened, Seat, Segment};
+use xm_texts::Told;
 
 /// Reads the rows of an order file of these bytes, round by round, and has so many workers take them, on a segment whose type is
 /// picked here. The fault of the file is answered, if it has one, and else what came of its rows.
@@ -155,7 +157,7 @@ impl<S: Naming> Model for SharedDay<S> {
     ghost use Rattle.std.specs.Prelude.{◌≡◌, ◌≤◌, List, length};
     ghost use Rattle.xm_workers.specs.Workers.{WorkerView, taken_by};
     ghost use Rattle.xm_files.specs.Orders.{max_rows};
-    ghost use Rattle.xm_segment.specs.declared.opening.TheConstants.{MAX_WORKERS};
+    ghost use Rattle.xm_config.specs.declared.opening.TheConstants.{MAX_WORKERS};
 
     ghost Value = { List WorkerView };
 

@@ -5,15 +5,16 @@ ghost use Rattle.xm_workers.specs.Standing.{TookAll, WillTakeAll, will_be_taken}
 ghost use Rattle.xm_workers.specs.Workers.{HaveWorked, taken_by};
 ghost use Rattle.xm_files.specs.Orders.{max_rows};
 ghost use Rattle.xm_files.specs.Timetable.{is_of_member, share_of};
-ghost use Rattle.xm_segment.specs.declared.opening.TheConstants.{MAX_WORKERS};
+ghost use Rattle.xm_config.specs.declared.opening.TheConstants.{MAX_WORKERS};
 
 use crate::standing::Standing;
 use crate::worker::Worker;
 use std::sync::Wait;
 use std::thread::{self, Scope, Threads};
+use xm_config::Row;
 use xm_files::{share, sole_worker};
 use xm_memory::OutOfMemory;
-use xm_segment::{Gate, Naming, Row, Segment};
+use xm_segment::{Gate, Naming, Segment};
 
 /// Has the members' rows of a round taken by workers, each by that of its member. A share that stands alone is taken on the
 /// calling thread, and of several each that has rows in a thread of its own.

@@ -3,8 +3,9 @@ use crate::worker::Worker;
 use std::snapshot::Snapshot;
 use std::sync::Wait;
 use std::thread::{Promise, PromisedHandle, Scope, Threads};
+use xm_config::Row;
 use xm_memory::OutOfMemory;
-use xm_segment::{Gate, Naming, Row, Segment};
+use xm_segment::{Gate, Naming, Segment};
 
 /// What a worker promises that takes its share in a thread of its own: from what it is, that it will have taken the share, if
 /// memory suffices. A snapshot has no bytes.

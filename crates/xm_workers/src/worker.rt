@@ -7,9 +7,10 @@ ghost use Rattle.xm_segment.specs.Ledgers.{accepted_in};
 use std::alloc::Global;
 use std::marker::Model;
 use std::sync::Wait;
+use xm_config::Row;
 use xm_memory::OutOfMemory;
 use xm_replay::DayReport;
-use xm_segment::{Gate, Naming, Row, Seat, Segment};
+use xm_segment::{Gate, Naming, Seat, Segment};
 
 /// A worker's seat, and how many of its rows were accepted and refused so far. The ledgers that the seat has a share of count
 /// the accepted ones.

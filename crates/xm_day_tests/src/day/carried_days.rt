@@ -9,11 +9,11 @@ use std::io::{ErrorKind, Read, Write};
 use std::process::Abort;
 use std::sync::Wait;
 use std::thread::Threads;
+use xm_config::{MAX_WORKERS, OpenFault};
 use xm_day::{DayFault, carry_alone, carry_day};
-use xm_desk::OpenFault;
 use xm_files::{FileCause, FileFault};
 use xm_name_index::Storage;
-use xm_segment::{MAX_WORKERS, NoGate};
+use xm_segment::NoGate;
 
 /// A carry file without an entry.
 const NONE: &str = carried!("");

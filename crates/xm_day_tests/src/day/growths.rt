@@ -5,12 +5,12 @@ use super::workers::ORDERS_STATEMENT;
 use crate::files::fixtures::{CASCADE, ORDERS, SEGMENT};
 use std::alloc::Global;
 use std::process::Abort;
+use xm_config::{Row, SegmentConfig};
 use xm_day::{DayFault, DayReport, carry, statement};
 use xm_desk::Desk;
+use xm_failing_alloc::Refusing;
 use xm_files::{SegmentNames, read_rows, read_segment};
 use xm_name_index::Storage;
-use xm_failing_alloc::Refusing;
-use xm_segment::{Row, SegmentConfig};
 
 /// Gives rows to a desk, and counts them.
 fn take(desk: &mut Desk<Global>, rows: &[Row]) -> DayReport {

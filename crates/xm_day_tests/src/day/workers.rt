@@ -6,11 +6,11 @@ use std::process::Abort;
 use std::sync::Wait;
 use std::sync::atomic::{AtomicU64, Ordering};
 use std::thread::{self, Threads};
+use xm_config::{MAX_WORKERS, OpenFault};
 use xm_day::{DayFault, run_day};
-use xm_desk::OpenFault;
 use xm_files::{FileCause, FileFault};
 use xm_name_index::Storage;
-use xm_segment::{Gate, MAX_WORKERS, NoGate};
+use xm_segment::{Gate, NoGate};
 
 /// How often a worker looks for another one before its test fails.
 const TURNS: u64 = 100_000_000;

@@ -4,13 +4,13 @@ use super::fixtures::{Filler, NO_SECURITY, OneByteReader, SECOND, SEGMENT};
 use std::alloc::Global;
 use std::io::{ErrorKind, Read};
 use std::process::Abort;
+use xm_config::SegmentConfig;
 use xm_files::FileCause::{
     BadField, BadHeader, DuplicateName, ReadFailed, Syntax, TooLong, TooManyRows,
 };
 use xm_files::{FileCause, FileFault, MAX_BYTES, read_carry, read_segment};
 use xm_name_index::Storage;
 use xm_rules::{MAX_CARRIED, Order, OrderKind, Restriction, Side, Stop, Validity};
-use xm_segment::SegmentConfig;
 use xm_ticks::Price;
 
 /// A carry file without an entry.

@@ -5,11 +5,11 @@ use super::{order_files, segment_files};
 use std::alloc::Global;
 use std::io::{Read, Write};
 use std::process::Abort;
+use xm_config::Row;
 use xm_day::{DayFault, run_alone};
 use xm_files::FileCause::{self, BadField, BadHeader, DuplicateName, MissingKey, Syntax, TooLong};
 use xm_files::MAX_BYTES;
 use xm_name_index::Storage;
-use xm_segment::Row;
 
 /// Files of one byte over and over: the byte, how often, and the faults that are told of it, as an order file and as a segment
 /// file.

@@ -6,9 +6,9 @@ use std::alloc::Global;
 use std::io::{ErrorKind, Read};
 use std::process::Abort;
 use std::test::Fail;
+use xm_config::Row;
 use xm_files::{FileCause, FileFault, MAX_ROWS, read_rows, read_segment};
 use xm_rules::{Command, Condition, Kind, Restriction, Side, Validity};
-use xm_segment::Row;
 
 /// The rows of an order file for the members and the securities of a segment file, or the fault of either. A clause sees nothing
 /// of it.

@@ -5,10 +5,10 @@ use super::order_files::rows_of;
 use std::alloc::Global;
 use std::process::Abort;
 use std::test::Fail;
+use xm_config::Row;
 use xm_files::{
     Batch, FileCause, FileFault, Part, Round, RowReader, read_orders, read_segment, rounds,
 };
-use xm_segment::Row;
 
 /// What comes after `CASCADE`: one round more, and the members' rows of another.
 const MORE: &str = "cancel,AAA,1,XYZ,,,,,,,,

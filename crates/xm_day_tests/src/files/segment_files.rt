@@ -3,8 +3,8 @@ use super::fixtures::{NO_SECURITY, OneByteReader, SECOND, SEGMENT, replaced};
 use std::alloc::Global;
 use std::io::{ErrorKind, Read};
 use std::process::Abort;
+use xm_config::{Securities, SecurityConfig, SegmentConfig};
 use xm_files::{FileCause, FileFault, SegmentNames, read_segment};
-use xm_segment::{Securities, SecurityConfig, SegmentConfig};
 
 /// Reads a segment file. A clause sees nothing of it.
 fn read(

@@ -5,9 +5,9 @@ use super::fixtures::{CASCADE, SEGMENT};
 use super::order_files::rows_of;
 use std::process::Abort;
 use std::test::Fail;
-use xm_files::{Round, rounds, share};
+use xm_config::Row;
 use xm_failing_alloc::Refusing;
-use xm_segment::Row;
+use xm_files::{Round, rounds, share};
 
 /// The rounds of `CASCADE`: two phase rows, and then seven rows of members and three phase rows.
 const ROUNDS: [Round; 2] = [

@@ -1,6 +1,6 @@
 //! A security before the day.
 ghost use Rattle.std.specs.Prelude.{◌≡◌, [], IfOk, None};
-ghost use Rattle.xm_desk.specs.Opening.{open_fault};
+ghost use Rattle.xm_config.specs.Opening.{open_fault};
 ghost use Rattle.xm_desk.specs.declared.unsettled.Ready.TheVariants.{Nothing};
 ghost use Rattle.xm_rules.specs.Opening.{opening};
 

@@ -3,7 +3,7 @@ use super::day::Day;
 use super::settings;
 use std::alloc::Global;
 use std::process::Abort;
-use xm_desk::OpenFault;
+use xm_config::OpenFault;
 use xm_name_index::Storage;
 use xm_rules::{
     Carried, Command, Condition, DeskSettings, Kind, Order, OrderKind, Phase, Restriction, Side,

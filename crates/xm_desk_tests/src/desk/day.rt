@@ -2,7 +2,8 @@ use super::settings;
 use std::alloc::Allocator;
 use std::marker::Model;
 use std::process::Abort;
-use xm_desk::{Desk, OpenFault};
+use xm_config::OpenFault;
+use xm_desk::Desk;
 use xm_memory::OutOfMemory;
 use xm_name_index::Storage;
 use xm_rules::{

@@ -6,15 +6,15 @@ use super::settings;
 use std::alloc::Allocator;
 use std::marker::Model;
 use std::process::Abort;
-use xm_desk::OpenFault;
+use xm_config::{OpenFault, Securities, SecurityConfig, SegmentConfig};
+use xm_desk::open_desks;
+use xm_failing_alloc::{Counted, Refusing, Tried, refuse_all};
 use xm_memory::OutOfMemory;
 use xm_name_index::Storage;
-use xm_failing_alloc::{Counted, Refusing, Tried, refuse_all};
 use xm_rules::{
     Carried, Command, Condition, DeskSettings, Kind, Order, Refusal, Restriction, Side, Stop,
     Validity,
 };
-use xm_segment::{Securities, SecurityConfig, SegmentConfig, open_desks};
 
 /// A day of all kinds of commands.
 const DAY: [Command; 17] = [

@@ -1,7 +1,7 @@
 use super::day::Day;
 use super::settings;
 use std::process::Abort;
-use xm_desk::OpenFault;
+use xm_config::OpenFault;
 use xm_failing_alloc::Refusing;
 use xm_rules::{DeskSettings, Widths};
 

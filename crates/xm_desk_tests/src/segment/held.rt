@@ -7,8 +7,9 @@ use std::process::Abort;
 use std::sync::Wait;
 use std::sync::atomic::{AtomicU64, Ordering};
 use std::thread::{self, Threads};
+use xm_config::Row;
 use xm_rules::{Command, Quote};
-use xm_segment::{Gate, Naming, Opened, Row, Seat, Segment, WatchRow};
+use xm_segment::{Gate, Naming, Opened, Seat, Segment, WatchRow};
 
 /// How often a thread looks for the other one before its test fails.
 const TURNS: u64 = 100_000_000;

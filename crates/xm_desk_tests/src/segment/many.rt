@@ -7,8 +7,9 @@ use std::marker::Brand;
 use std::process::Abort;
 use std::sync::Wait;
 use std::thread::{self, Threads};
+use xm_config::Row;
 use xm_rules::{Command, Condition, Kind, Restriction, Side, Validity};
-use xm_segment::{MAX_ROWS, Naming, NoGate, Opened, Row, Seat, Segment, WorkerReport};
+use xm_segment::{MAX_ROWS, Naming, NoGate, Opened, Seat, Segment, WorkerReport};
 
 /// The most workers of a segment.
 const WORKERS: usize = 64;

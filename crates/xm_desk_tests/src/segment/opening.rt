@@ -1,6 +1,6 @@
 //! Which segments open.
 use super::running::{Size, opening_fault};
-use xm_desk::OpenFault;
+use xm_config::OpenFault;
 
 /// One security with lawful widths, as many workers and watchers as there may be.
 const FULL: Size = Size {

@@ -5,14 +5,12 @@ use std::alloc::Global;
 use std::marker::{Brand, Model};
 use std::process::Abort;
 use std::sync::Wait;
-use xm_desk::{Desk, OpenFault};
+use xm_config::{OpenFault, Securities, SecurityConfig, SegmentConfig};
+use xm_desk::Desk;
 use xm_memory::OutOfMemory;
 use xm_name_index::Storage;
 use xm_rules::{Carried, Command, Phase, Quote, Refusal, Reply, Widths};
-use xm_segment::{
-    GatherFault, Gathered, Naming, Opened, Seat, Securities, SecurityConfig, Segment,
-    SegmentConfig, WatchRow,
-};
+use xm_segment::{GatherFault, Gathered, Naming, Opened, Seat, Segment, WatchRow};
 use xm_ticks::{JournalLimit, Price, TickSize};
 
 /// The version, the number of trades with their units and money, and the phase of a reply.

@@ -5,8 +5,8 @@ use std::alloc::Allocator;
 use std::marker::Model;
 use std::process::Abort;
 use xm_book::Trades;
-use xm_memory::OutOfMemory;
 use xm_failing_alloc::{Counted, Refusing, Tried, refuse_all};
+use xm_memory::OutOfMemory;
 use xm_rules::{Order, OrderKind, Restriction, Side};
 
 #[derive(Clone, Copy)]

@@ -2,8 +2,8 @@
 use std::alloc::Allocator;
 use std::process::Abort;
 use xm_book::Trades;
-use xm_memory::OutOfMemory;
 use xm_failing_alloc::Refusing;
+use xm_memory::OutOfMemory;
 use xm_rules::{Auction, CallStage, Trade, TradeKind};
 use xm_ticks::Price;
 

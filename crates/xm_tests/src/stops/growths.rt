@@ -4,8 +4,8 @@ use super::{price, stop};
 use std::alloc::Allocator;
 use std::marker::Model;
 use std::process::Abort;
-use xm_memory::OutOfMemory;
 use xm_failing_alloc::{Counted, Refusing, Tried, refuse_all};
+use xm_memory::OutOfMemory;
 use xm_rules::{Side, Stop};
 
 #[derive(Clone, Copy)]

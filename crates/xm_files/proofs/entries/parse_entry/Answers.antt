@@ -3,7 +3,7 @@ use Rattle.xm_files.specs.Rows.{enter_entry, entry_with, field, has_short_text, 
 use Rattle.xm_files.specs.declared.columns.Column.TheVariants as column
 use Rattle.xm_files.specs.declared.entries.Word.{Word}
 use Rattle.xm_files.specs.declared.entries.Word.TheVariants as word
-use Rattle.xm_segment.specs.declared.config.SecurityConfig.{SecurityConfig}
+use Rattle.xm_config.specs.declared.config.SecurityConfig.{SecurityConfig}
 use Rattle.xm_files.proofs.entries.parse_entry.Goals as goal
 
 pub returns-in-Enter : goal.returns-in-Enter

@@ -3,7 +3,7 @@ use Rattle.std.proofs.lemmas.List.FromFn.{length-map-range_with_len, map-range_w
 use Rattle.std.specs.List.{range_with_len}
 use Rattle.xm_files.proofs.Batches.{joined-length}
 use Rattle.xm_files.specs.Batches.{RowsRead, rows_so_far}
-use Rattle.xm_segment.specs.declared.rows.Row.{Row}
+use Rattle.xm_config.specs.declared.rows.Row.{Row}
 use Rattle.xm_files.proofs.orders.add_each.Goals as goal
 
 pub push-requires : goal.push-requires

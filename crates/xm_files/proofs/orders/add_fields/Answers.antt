@@ -8,7 +8,7 @@ use Rattle.xm_files.specs.Rows.{columns_of, rows_of_record}
 use Rattle.xm_files.specs.declared.file_faults.FileCause.TheVariants.{OutOfMemory}
 use Rattle.xm_files.specs.declared.file_faults.FileFault.{FileFault}
 use Rattle.xm_files.specs.declared.order_format.OrderFormat.{OrderFormat}
-use Rattle.xm_segment.specs.declared.rows.Row.{Row}
+use Rattle.xm_config.specs.declared.rows.Row.{Row}
 use Rattle.xm_files.proofs.orders.add_fields.Goals as goal
 
 pub returns-in-Some-clause-ok : goal.returns-in-Some-clause-ok

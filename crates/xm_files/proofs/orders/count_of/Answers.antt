@@ -1,8 +1,7 @@
-use Rattle.std.proofs.Common.{sym}
+use Rattle.std.proofs.Common.{sym, ℕ}
 use Rattle.std.proofs.lemmas.List.FromFn.{length-map-range_with_len}
 use Rattle.xm_files.proofs.orders.count_of.Goals as goal
-use Rattle.xm_segment.specs.declared.rows.Row.{Row}
-use Rattle.std.proofs.Common.{ℕ}
+use Rattle.xm_config.specs.declared.rows.Row.{Row}
 
 pub returns-in-Each : goal.returns-in-Each
 returns-in-Each c = λ line.

@@ -6,7 +6,7 @@ use Rattle.xm_files.specs.Batches.{RowsLeft, rows_from, rows_so_far, text_left}
 use Rattle.xm_files.specs.FileFaults.{is_from_outside}
 use Rattle.xm_files.specs.Orders.{orders_of}
 use Rattle.xm_files.specs.declared.file_faults.FileFault.{FileFault}
-use Rattle.xm_segment.specs.declared.rows.Row.{Row}
+use Rattle.xm_config.specs.declared.rows.Row.{Row}
 use Rattle.xm_files.proofs.orders.read_rows.Goals as goal
 
 pub returns-in_err-read-clause-fault : goal.returns-in_err-read-clause-fault

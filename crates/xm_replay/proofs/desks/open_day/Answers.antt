@@ -1,13 +1,13 @@
 use Rattle.std.proofs.Common.{[], refl, length, map, ap, sym, ◌∙◌}
 use Rattle.std.proofs.lemmas.List.{append-nil, length-map}
-use Rattle.xm_replay.proofs.Days.{day-opened}
+use Rattle.xm_config.proofs.Days.{day-opened}
 use Rattle.xm_replay.proofs.Taking.{if_memory}
-use Rattle.xm_replay.proofs.Feeding.{feed-begun}
-use Rattle.xm_replay.specs.Day.{Day}
-use Rattle.xm_replay.specs.RowAnswers.{answers_header, where_asked}
-use Rattle.xm_replay.specs.RowTrades.{trades_header}
+use Rattle.xm_texts.proofs.Feeding.{feed-begun}
+use Rattle.xm_config.specs.Day.{Day}
+use Rattle.xm_texts.specs.RowAnswers.{answers_header, where_asked}
+use Rattle.xm_texts.specs.RowTrades.{trades_header}
 use Rattle.xm_rules.specs.Step.{replay}
-use Rattle.xm_segment.specs.Opening.{journal_of}
+use Rattle.xm_config.specs.Opening.{journal_of}
 use Rattle.xm_replay.proofs.desks.open_day.Goals as goal
 
 pub returns : goal.returns

@@ -1,15 +1,15 @@
 use Rattle.std.proofs.Common.{Bool, List, ◌++◌, length, ap, sym, subst, ◌∙◌, arith}
 use Rattle.std.proofs.lemmas.List.{length-append}
 use Rattle.xm_rules.specs.Step.{Journal}
-use Rattle.xm_replay.proofs.Days.{after_rows-append, lacks-later, lent_back}
+use Rattle.xm_config.proofs.Days.{after_rows-append, lacks-later, lent_back}
 use Rattle.xm_replay.proofs.Taking.{if_memory}
-use Rattle.xm_replay.proofs.Feeding.{feed-joined}
-use Rattle.xm_replay.proofs.Tells.{told-joined}
+use Rattle.xm_texts.proofs.Feeding.{feed-joined}
+use Rattle.xm_texts.proofs.Tells.{told-joined}
 use Rattle.xm_replay.specs.Taken.{HasTaken}
-use Rattle.xm_replay.specs.Day.{Day, LacksMemoryAt, after_rows, day_of, opening_day}
-use Rattle.xm_replay.specs.Feeds.{feed_of}
-use Rattle.xm_replay.specs.RowAnswers.{answers_header, answers_text, told_of, where_asked}
-use Rattle.xm_replay.specs.RowTrades.{told_trades, trades_header, trades_text}
+use Rattle.xm_config.specs.Day.{Day, LacksMemoryAt, after_rows, day_of, opening_day}
+use Rattle.xm_texts.specs.Feeds.{feed_of}
+use Rattle.xm_texts.specs.RowAnswers.{answers_header, answers_text, told_of, where_asked}
+use Rattle.xm_texts.specs.RowTrades.{told_trades, trades_header, trades_text}
 use Rattle.xm_files.specs.RecordTexts.{text_of_record}
 use Rattle.xm_replay.proofs.desks.take_more.Goals as goal
 

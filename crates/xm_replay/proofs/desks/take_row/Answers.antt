@@ -3,9 +3,9 @@ use Rattle.std.proofs.lemmas.List.{set-get_or}
 use Rattle.std.proofs.lemmas.Option.{slice_get_read}
 use Rattle.xm_rules.specs.Refusals.{refusal_of}
 use Rattle.xm_rules.specs.Step.{Journal, replay, reply}
-use Rattle.xm_replay.proofs.Days.{accepts-known, answers-accepted, answers-refused, answers-unknown, on_accepted, on_refused, on_unknown, with_command}
+use Rattle.xm_config.proofs.Days.{accepts-known, answers-accepted, answers-refused, answers-unknown, on_accepted, on_refused, on_unknown, with_command}
 use Rattle.xm_files.proofs.PassedErrors.{on_err}
-use Rattle.xm_replay.specs.Day.{day_of}
+use Rattle.xm_config.specs.Day.{day_of}
 use Rattle.xm_replay.proofs.desks.take_row.Goals as goal
 
 pub returns-then-index-desks-clause-answer : goal.returns-then-index-desks-clause-answer

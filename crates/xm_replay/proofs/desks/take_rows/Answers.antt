@@ -1,19 +1,19 @@
 use Rattle.std.proofs.Common.{◌∙◌, ◌<◌, ℕ, List, Option, Result, length, map, option_map, refl, ap, sym, arith}
 use Rattle.std.proofs.lemmas.List.{take_all}
-use Rattle.xm_replay.proofs.Days.{rows-lack, rows-step}
-use Rattle.xm_replay.proofs.Feeding.{fed-more, fed-nothing}
-use Rattle.xm_replay.proofs.Tells.{told-more, with_text-nil}
+use Rattle.xm_config.proofs.Days.{rows-lack, rows-step}
+use Rattle.xm_texts.proofs.Feeding.{fed-more, fed-nothing}
+use Rattle.xm_texts.proofs.Tells.{told-more, with_text-nil}
 use Rattle.xm_rules.specs.State.{State}
 use Rattle.xm_rules.specs.Step.{replay}
 use Rattle.xm_rules.specs.declared.replies.Refusal.{Refusal}
 use Rattle.xm_rules.specs.declared.replies.Reply.{Reply}
 use Rattle.xm_files.proofs.PassedErrors.{on_err}
-use Rattle.xm_replay.specs.Day.{after_rows, day_of}
-use Rattle.xm_replay.specs.Feeds.{feed_after}
-use Rattle.xm_replay.specs.RowAnswers.{answer_line, answers_of, with_text}
-use Rattle.xm_replay.specs.RowTrades.{trade_lines, trades_of}
+use Rattle.xm_config.specs.Day.{after_rows, day_of}
+use Rattle.xm_texts.specs.Feeds.{feed_after}
+use Rattle.xm_texts.specs.RowAnswers.{answer_line, answers_of, with_text}
+use Rattle.xm_texts.specs.RowTrades.{trade_lines, trades_of}
 use Rattle.xm_files.specs.RecordTexts.{text_of_record}
-use Rattle.xm_segment.specs.declared.rows.Row.{Row}
+use Rattle.xm_config.specs.declared.rows.Row.{Row}
 use Rattle.xm_replay.proofs.desks.take_rows.Goals as goal
 
 pub loop-row-init : goal.loop-row-init

@@ -1,8 +1,8 @@
 use Rattle.std.proofs.Common.{◌≡◌, ◌+◌, option_map, take}
-use Rattle.xm_replay.specs.Day.{after_rows, day_of}
-use Rattle.xm_replay.specs.Feeds.{feed_after}
-use Rattle.xm_replay.specs.RowAnswers.{answers_of, with_text}
-use Rattle.xm_replay.specs.RowTrades.{trades_of}
+use Rattle.xm_config.specs.Day.{after_rows, day_of}
+use Rattle.xm_texts.specs.Feeds.{feed_after}
+use Rattle.xm_texts.specs.RowAnswers.{answers_of, with_text}
+use Rattle.xm_texts.specs.RowTrades.{trades_of}
 use Rattle.xm_files.specs.RecordTexts.{text_of_record}
 use Rattle.xm_replay.proofs.desks.take_rows.Given as goal
 

@@ -1,11 +1,10 @@
 use Rattle.std.proofs.Common.{◌≡◌, ℕ, true, refl, subst, arith}
 use Rattle.std.specs.List.{list_all}
-use Rattle.xm_slots.specs.Listing.{is_below, is_other_key}
+use Rattle.xm_slots.specs.Listing.{is_below, is_other_key, is_done, stays}
 use Rattle.xm_stops.specs.Reasons.{is_leaving}
 use Rattle.xm_stops.specs.declared.taking.Reason.TheVariants.{Expired}
 use Rattle.xm_stops.proofs.Draining.{drained-more, none-drained, some-room}
 use Rattle.xm_slots.proofs.Expiring.{all-kept, all-more, left-more, none-done, none-leaves}
-use Rattle.xm_slots.specs.Listing.{is_done, stays}
 use Rattle.xm_stops.proofs.taking.drain_expired.Goals as goal
 use Rattle.xm_stops.proofs.taking.drain_expired.Goals.{then-has_expired, else-has_expired}
 

@@ -2,10 +2,9 @@ use Rattle.std.proofs.Common.{◌≡◌, true}
 use Rattle.std.specs.List.{list_all}
 use Rattle.xm_stops.specs.Drained.{IsDrained}
 use Rattle.xm_stops.specs.Indexed.{AreStopsIndexed}
-use Rattle.xm_slots.specs.Listing.{is_below}
+use Rattle.xm_slots.specs.Listing.{is_below, is_done, stays}
 use Rattle.xm_stops.specs.Reasons.{is_leaving}
 use Rattle.xm_stops.specs.declared.taking.Reason.TheVariants.{Expired}
-use Rattle.xm_slots.specs.Listing.{is_done, stays}
 use Rattle.xm_stops.proofs.taking.drain_expired.Given as goal
 
 abbrev pub invariant-loop-key : goal.invariant-loop-key

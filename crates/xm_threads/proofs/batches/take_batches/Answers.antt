@@ -1,7 +1,7 @@
 use Rattle.std.proofs.Common.{◌≡◌, false, ℕ, List, Ok, refl, ap, rules, subst, sym, ◌∙◌}
 use Rattle.xm_threads.specs.Lanes.{AreTakenSoFar, AreTold, TookMore}
 use Rattle.xm_files.specs.Batches.{RowsRead, rows_from, rows_so_far}
-use Rattle.xm_segment.specs.declared.rows.Row.{Row}
+use Rattle.xm_config.specs.declared.rows.Row.{Row}
 use Rattle.xm_threads.proofs.batches.take_batches.Goals as goal
 
 pub batches-preserved : goal.batches-preserved

@@ -1,6 +1,6 @@
 use Rattle.std.proofs.Common.{◌≡◌, ◌-◌, suc, false, [], Ok, if◌then◌else◌, length}
 use Rattle.xm_threads.specs.Lanes.{AreTakenSoFar, AreTold}
-use Rattle.xm_replay.specs.declared.report.AskedTexts.{AskedTexts}
+use Rattle.xm_texts.specs.declared.asked.AskedTexts.{AskedTexts}
 use Rattle.xm_files.specs.Batches.{rows_from, rows_so_far}
 use Rattle.xm_files.specs.Orders.{max_lines}
 use Rattle.xm_threads.proofs.batches.take_batches.Given as goal

@@ -1,11 +1,11 @@
 use Rattle.std.proofs.Common.{List, length, ap, subst, sym, ◌∙◌}
 use Rattle.xm_threads.proofs.Apart.{fresh-taken}
-use Rattle.xm_replay.proofs.Days.{lent_back}
+use Rattle.xm_config.proofs.Days.{lent_back}
 use Rattle.xm_threads.proofs.Merging.{fresh-told}
 use Rattle.xm_replay.specs.Taken.{RowsTaken}
 use Rattle.xm_threads.specs.Lanes.{AreOpened, AreTold, LaneView}
 use Rattle.xm_files.specs.Batches.{rows_so_far}
-use Rattle.xm_segment.specs.declared.rows.Row.{Row}
+use Rattle.xm_config.specs.declared.rows.Row.{Row}
 use Rattle.xm_threads.proofs.batches.take_file.Goals as goal
 
 pub returns-in-Ok-take_batches : goal.returns-in-Ok-take_batches

@@ -1,5 +1,5 @@
 use Rattle.std.proofs.Common.{◌≡◌, ◌≤◌, ◌++◌, length, map, take}
-use Rattle.xm_replay.specs.RowTrades.{trade_fields}
+use Rattle.xm_texts.specs.RowTrades.{trade_fields}
 use Rattle.xm_rules.specs.Step.{replay}
 use Rattle.xm_threads.proofs.kept_rows.push_trades.Given as goal
 

@@ -1,5 +1,5 @@
 use Rattle.std.proofs.Common.{rules, ◌≡◌, None, Ok, ap, sym, ◌∙◌}
-use Rattle.xm_replay.proofs.Days.{accepts-so, with_command}
+use Rattle.xm_config.proofs.Days.{accepts-so, with_command}
 use Rattle.xm_rules.specs.Refusals.{refusal_of}
 use Rattle.xm_rules.specs.Step.{replay, reply}
 use Rattle.xm_threads.proofs.lanes.answered.Goals as goal

@@ -2,7 +2,7 @@ use Rattle.std.proofs.Common.{◌≡◌, ℕ, List, ◌-◌, length, map, ap, ar
 use Rattle.std.proofs.lemmas.List.{length-map}
 use Rattle.xm_threads.proofs.Apart.{day-apart, few-accepted}
 use Rattle.xm_threads.proofs.Merging.{feed-behind}
-use Rattle.xm_replay.specs.Day.{Day, day_of}
+use Rattle.xm_config.specs.Day.{Day, day_of}
 use Rattle.xm_threads.specs.Lanes.{LaneView, TextsView}
 use Rattle.xm_replay.specs.Taken.{commands_in}
 use Rattle.xm_files.specs.Batches.{rows_so_far}

@@ -1,7 +1,7 @@
 use Rattle.std.proofs.Common.{List, subst}
 use Rattle.xm_threads.proofs.Merging.{took-more}
 use Rattle.xm_threads.specs.Lanes.{TookMore}
-use Rattle.xm_segment.specs.declared.rows.Row.{Row}
+use Rattle.xm_config.specs.declared.rows.Row.{Row}
 use Rattle.xm_threads.proofs.lanes.take_apart.Goals as goal
 
 pub returns-clause-more : goal.returns-clause-more

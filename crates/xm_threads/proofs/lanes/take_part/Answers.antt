@@ -2,7 +2,7 @@ use Rattle.std.proofs.Common.{◌<◌, List, length, subst, arith}
 use Rattle.std.proofs.lemmas.List.{take_all}
 use Rattle.xm_threads.proofs.Apart.{rows-taken-more}
 use Rattle.xm_threads.specs.Lanes.{TookOwnRows}
-use Rattle.xm_segment.specs.declared.rows.Row.{Row}
+use Rattle.xm_config.specs.declared.rows.Row.{Row}
 use Rattle.xm_threads.proofs.lanes.take_part.Goals as goal
 
 pub loop-row-preserved : goal.loop-row-preserved

@@ -2,7 +2,7 @@ use Rattle.std.proofs.Common.{◌<◌, ◌≤◌, ◌++◌, [], ℕ, List, get_o
 use Rattle.std.specs.List.{flat_map}
 use Rattle.std.proofs.lemmas.List.{flat_map_more}
 use Rattle.xm_threads.proofs.Kept.{range-more}
-use Rattle.xm_replay.specs.RowAnswers.{record_line}
+use Rattle.xm_texts.specs.RowAnswers.{record_line}
 use Rattle.xm_threads.proofs.row_texts.push_lines.Goals as goal
 
 pub loop-index-preserved : goal.loop-index-preserved

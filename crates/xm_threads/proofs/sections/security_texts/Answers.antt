@@ -1,7 +1,7 @@
 use Rattle.std.proofs.Common.{◌≡◌, All, List, false, length, map, ap, arith, subst, ◌∙◌}
 use Rattle.std.specs.List.{flat_map}
-use Rattle.xm_replay.proofs.Days.{lent_back}
-use Rattle.xm_replay.proofs.Then.{if_ok-both}
+use Rattle.xm_config.proofs.Days.{lent_back}
+use Rattle.xm_texts.proofs.Then.{if_ok-both}
 use Rattle.xm_threads.proofs.Sectioned.{all-lines, map-each, same-journals}
 use Rattle.xm_threads.specs.Sections.{SectionView, SectionsTold, blank_sections, told_section}
 use Rattle.xm_files.specs.Names.{NameLists}

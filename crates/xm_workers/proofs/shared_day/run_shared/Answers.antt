@@ -2,7 +2,7 @@ use Rattle.std.proofs.Common.{◌≡◌, ℕ, Result, Ok, Err, refl, sym}
 use Rattle.std.specs.Prelude.{IfOk}
 use Rattle.xm_workers.proofs.Sharing.{opened-is}
 use Rattle.xm_workers.proofs.shared_day.run_shared.Invariants.{opened_in}
-use Rattle.xm_desk.specs.declared.opening.OpenFault.{OpenFault}
+use Rattle.xm_config.specs.declared.opening.OpenFault.{OpenFault}
 use Rattle.xm_segment.specs.Names.{NamesSegment, UnnamedSegment, board_names, ledger_names}
 use Rattle.xm_workers.proofs.shared_day.run_shared.Goals as goal
 

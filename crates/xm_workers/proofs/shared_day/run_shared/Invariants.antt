@@ -1,5 +1,5 @@
 use Rattle.std.proofs.Common.{Result, Ok, Err, []}
-use Rattle.xm_desk.specs.declared.opening.OpenFault.{OpenFault}
+use Rattle.xm_config.specs.declared.opening.OpenFault.{OpenFault}
 use Rattle.xm_segment.specs.Names.{UnnamedSegment, board_names, ledger_names}
 use Rattle.xm_workers.proofs.shared_day.run_shared.Given as goal
 

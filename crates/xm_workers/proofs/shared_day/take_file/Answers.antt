@@ -2,7 +2,7 @@ use Rattle.std.proofs.Common.{◌≡◌, ◌++◌, false, Bool, List, Ok, Result
 use Rattle.xm_workers.specs.Workers.{HasShared}
 use Rattle.xm_files.specs.Batches.{rows_so_far}
 use Rattle.xm_files.specs.declared.file_faults.FileFault.{FileFault}
-use Rattle.xm_segment.specs.declared.rows.Row.{Row}
+use Rattle.xm_config.specs.declared.rows.Row.{Row}
 use Rattle.xm_workers.proofs.shared_day.take_file.Goals as goal
 
 pub returns-then-not-more : goal.returns-then-not-more

@@ -7,7 +7,7 @@ use Rattle.std.specs.Prelude.{slice_get, Some}
 use Rattle.xm_workers.specs.Standing.{WillTakeAll, will_be_taken, will_take}
 use Rattle.xm_workers.specs.Workers.{WorkerView, shared_out, taken_by, taken_in}
 use Rattle.xm_files.specs.Timetable.{share_of}
-use Rattle.xm_segment.specs.declared.rows.Row.{Row}
+use Rattle.xm_config.specs.declared.rows.Row.{Row}
 use Rattle.xm_workers.proofs.shares.start_shares.Goals as goal
 
 pub loop-worker-init : goal.loop-worker-init

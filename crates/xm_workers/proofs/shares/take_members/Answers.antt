@@ -5,7 +5,7 @@ use Rattle.xm_workers.proofs.Chains.{one-works}
 use Rattle.xm_workers.proofs.RoundRows.{sole-share}
 use Rattle.xm_workers.specs.Workers.{HasWorked}
 use Rattle.xm_files.specs.Timetable.{share_of}
-use Rattle.xm_segment.specs.declared.rows.Row.{Row}
+use Rattle.xm_config.specs.declared.rows.Row.{Row}
 use Rattle.xm_workers.proofs.shares.take_members.Goals as goal
 
 pub returns-in-Some-clause-worked : goal.returns-in-Some-clause-worked

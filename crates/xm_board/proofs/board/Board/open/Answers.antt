@@ -1,8 +1,7 @@
 use Rattle.std.proofs.Common.{rules, ◌≡◌, ℕ, [], ◌∷◌, length, ◌∙◌, ap, sym, subst, ⊎_elim, length-append, ◌+◌}
 use Rattle.std.specs.Prelude.{slice_get}
 use Rattle.xm_board.specs.Rule.{with_next_number}
-use Rattle.xm_board.specs.Journals.{opening_of}
-use Rattle.xm_board.specs.Journals.{known_by}
+use Rattle.xm_board.specs.Journals.{opening_of, known_by}
 use Rattle.xm_board.proofs.Prefixes.{get_push}
 use Rattle.xm_board.specs.Opened.{Unnamed}
 use Rattle.xm_board.specs.Published.{IsPublished}

@@ -1,8 +1,7 @@
 use Rattle.std.proofs.Common.{◌≡◌, ℕ, [], length, Some}
 use Rattle.std.specs.Prelude.{slice_get, vec_len, vec_capacity}
 use Rattle.xm_board.specs.Rule.{numbered}
-use Rattle.xm_board.specs.Journals.{opening_of}
-use Rattle.xm_board.specs.Journals.{known_by}
+use Rattle.xm_board.specs.Journals.{opening_of, known_by}
 use Rattle.xm_board.specs.declared.watch.Known.{Known}
 use Rattle.xm_board.proofs.board.Board.open.Given as goal
 

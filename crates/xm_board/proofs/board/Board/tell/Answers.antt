@@ -1,7 +1,6 @@
 use Rattle.std.proofs.Common.{rules, ◌≡◌, ◌<◌, ℕ, ◌++◌, true, ◌∙◌, ap, sym, subst}
-use Rattle.xm_board.specs.Journals.{quote_of}
+use Rattle.xm_board.specs.Journals.{quote_of, Own, version_of, last_number_in}
 use Rattle.xm_board.specs.Published.{IsPublished, words_of}
-use Rattle.xm_board.specs.Journals.{Own, version_of, last_number_in}
 use Rattle.xm_board.specs.Rule.{taking, shared_as}
 use Rattle.xm_board.specs.declared.journal.NumberedJournal.{NumberedJournal}
 use Rattle.xm_board.specs.declared.watch.Known.{Known}

@@ -1,7 +1,6 @@
 use Rattle.std.proofs.Common.{rules, ◌≡◌, ◌*◌, ◌∙◌, ap, sym, subst}
-use Rattle.xm_board.specs.Journals.{quote_of}
+use Rattle.xm_board.specs.Journals.{quote_of, version_of, Own, Begins}
 use Rattle.xm_board.specs.Published.{IsPublished, words_of}
-use Rattle.xm_board.specs.Journals.{version_of, Own, Begins}
 use Rattle.xm_board.specs.Rule.{with_stage, with_seen}
 use Rattle.xm_board.specs.declared.seats.View.{View}
 use Rattle.xm_board.specs.declared.seats.Stage.TheVariants.{Reading}

@@ -2,7 +2,7 @@ use Rattle.std.proofs.Common.{◌≡◌, ℕ, ◌++◌, List, length, sym, ap, s
 use Rattle.xm_files.proofs.InParts.{parts-join}
 use Rattle.xm_files.specs.Batches.{RowsRead}
 use Rattle.xm_files.specs.InParts.{PartGives, LinesGive, last_bytes}
-use Rattle.xm_segment.specs.declared.rows.Row.{Row}
+use Rattle.xm_config.specs.declared.rows.Row.{Row}
 use Rattle.xm_files.proofs.file_parts.FileParts.read.Goals as goal
 
 pub add_rows-requires : goal.add_rows-requires

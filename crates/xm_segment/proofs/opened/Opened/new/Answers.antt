@@ -1,13 +1,12 @@
-use Rattle.std.proofs.Common.{rules, ◌≡◌, ◌∙◌, List, ap, arith, length, map, sym}
+use Rattle.std.proofs.Common.{rules, ◌≡◌, ◌∙◌, List, ap, arith, length, map, sym, None}
 use Rattle.std.specs.Prelude.{slice_get}
 use Rattle.xm_rules.specs.Step.{Journal}
-use Rattle.std.proofs.Common.{None}
 use Rattle.std.proofs.lemmas.List.{length-map}
 use Rattle.xm_board.specs.Opened.{Unnamed}
 use Rattle.xm_rules.specs.declared.settings.DeskSettings.{DeskSettings}
 use Rattle.xm_segment.proofs.Boards.{all-fresh, beside}
-use Rattle.xm_segment.proofs.Sound.{sound-few}
-use Rattle.xm_segment.specs.Opening.{opening_fault, settings_of}
+use Rattle.xm_config.proofs.Sound.{sound-few}
+use Rattle.xm_config.specs.Opening.{opening_fault, settings_of}
 use Rattle.xm_segment.proofs.opened.Opened.new.Goals as goal
 
 pub boards_of-requires : goal.boards_of-requires

@@ -3,9 +3,9 @@ use Rattle.std.proofs.lemmas.List.{length-append}
 use Rattle.xm_threads.proofs.Kept.{parts-more, parts-push, three-pushed}
 use Rattle.xm_threads.specs.KeptRows.{IsPartOf, KeptRow, part_at, row_of_lines}
 use Rattle.xm_threads.specs.Lanes.{if_asked}
-use Rattle.xm_replay.specs.MarketDepth.{change_lines}
-use Rattle.xm_replay.specs.RowAnswers.{security_fields}
-use Rattle.xm_replay.specs.RowTrades.{row_trades}
+use Rattle.xm_texts.specs.MarketDepth.{change_lines}
+use Rattle.xm_texts.specs.RowAnswers.{security_fields}
+use Rattle.xm_texts.specs.RowTrades.{row_trades}
 use Rattle.xm_rules.specs.Step.{replay}
 use Rattle.xm_threads.specs.declared.kept_lines.Span.{Span}
 use Rattle.xm_threads.proofs.kept_rows.KeptRows.push.Goals as goal

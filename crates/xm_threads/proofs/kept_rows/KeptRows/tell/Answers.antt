@@ -4,7 +4,7 @@ use Rattle.std.proofs.lemmas.List.{drop_more}
 use Rattle.xm_threads.proofs.Kept.{row-lines}
 use Rattle.xm_threads.specs.KeptRows.{IsPartOf, KeptRow, part_at, row_of_lines}
 use Rattle.xm_threads.specs.Lanes.{TextsView, with_first, with_kept}
-use Rattle.xm_replay.specs.RowAnswers.{record_line, with_text}
+use Rattle.xm_texts.specs.RowAnswers.{record_line, with_text}
 use Rattle.xm_files.specs.RecordTexts.{text_of_record}
 use Rattle.xm_threads.specs.declared.kept_lines.Span.{Span}
 use Rattle.xm_threads.proofs.kept_rows.KeptRows.tell.Goals as goal

@@ -1,5 +1,5 @@
 use Rattle.std.proofs.Common.{rules, ◌≡◌, ◌++◌, ◌∷◌, [], Bool, true, is_some, ap, sym, ◌∙◌}
-use Rattle.xm_replay.proofs.Then.{ok-then}
+use Rattle.xm_texts.proofs.Then.{ok-then}
 use Rattle.xm_threads.proofs.Merging.{kept-own, lane-answered}
 use Rattle.xm_threads.specs.KeptRows.{KeptRow}
 use Rattle.xm_threads.specs.Lanes.{LaneView, asks_any, if_asked, lane_after, own_kept}

@@ -7,7 +7,7 @@ use Rattle.xm_workers.proofs.Chains.{round-work, set-taken}
 use Rattle.xm_workers.proofs.RoundRows.{is_phase, phases-after}
 use Rattle.xm_workers.specs.Workers.{HaveWorked, WorkerView, rows_of, taken_by}
 use Rattle.xm_files.specs.Timetable.{is_of_member}
-use Rattle.xm_segment.specs.declared.rows.Row.{Row}
+use Rattle.xm_config.specs.declared.rows.Row.{Row}
 use Rattle.xm_workers.proofs.shared_day.SharedDay.take_round.Goals as goal
 
 pub returns-clause-worked : goal.returns-clause-worked

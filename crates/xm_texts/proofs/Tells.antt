@@ -1,0 +1,90 @@
+-- What a day tells of its rows.
+use Rattle.std.proofs.Common.{◌≡◌, ℕ, ◌+◌, ◌<◌, Bool, true, false, List, [], ◌∷◌, ◌++◌, append_assoc, length, map, slice_get, get_or, take, Option, Some, None, Result, Ok, Err, refl, ap, sym, ◌∙◌}
+use Rattle.std.proofs.lemmas.List.{append-nil, take_more}
+use Rattle.xm_config.specs.Day.{Day as TheDay, after_row, after_rows, counted, day_of, opening_day, row_answer, told_behind, told_of_rows}
+use Rattle.xm_texts.specs.RowAnswers.{where_asked, with_text}
+use Rattle.xm_files.specs.RecordTexts.{text_of_record}
+use Rattle.xm_rules.specs.State.{State}
+use Rattle.xm_rules.specs.Step.{Journal, replay}
+use Rattle.xm_rules.specs.declared.replies.Refusal.{Refusal}
+use Rattle.xm_rules.specs.declared.replies.Reply.{Reply}
+use Rattle.xm_config.specs.declared.config.SegmentConfig.{SegmentConfig}
+use Rattle.xm_config.specs.declared.rows.Row.{Row}
+
+-- what is told of some rows, and of more
+pub told_of_rows-append : (told : TheDay → Row → List ℕ) (d : TheDay) (rows more : List Row) → told_of_rows told d (rows ++ more) ≡ told_of_rows told d rows ++ told_of_rows told (after_rows d rows) more
+told_of_rows-append told d [] more = refl
+told_of_rows-append told d (row ∷ rows) more =
+    ap (λ (text : List ℕ). told d row ++ text) (told_of_rows-append told (after_row d row) rows more)
+    ∙ sym (append_assoc (told d row) (told_of_rows told (after_row d row) rows) (told_of_rows told (after_rows (after_row d row) rows) more))
+
+joined-parts : (t a b c d e f : List ℕ) → (((((t ++ a) ++ b) ++ c) ++ d) ++ e) ++ f ≡ t ++ (((((a ++ b) ++ c) ++ d) ++ e) ++ f)
+joined-parts t a b c d e f = simp append_assoc
+
+-- a text that goes on with one piece
+abbrev with_piece : List ℕ → List ℕ → List ℕ
+with_piece piece text = text ++ piece
+
+-- and with six
+pub line-parts : (t first second third fourth fifth sixth a b c d e f : List ℕ)
+    → first ≡ t ++ a → second ≡ first ++ b → third ≡ second ++ c → fourth ≡ third ++ d → fifth ≡ fourth ++ e → sixth ≡ fifth ++ f → sixth ≡ t ++ (((((a ++ b) ++ c) ++ d) ++ e) ++ f)
+line-parts t first second third fourth fifth sixth a b c d e f has_a has_b has_c has_d has_e has_f =
+    has_f
+    ∙ ap (with_piece f) (has_e ∙ ap (with_piece e) (has_d ∙ ap (with_piece d) (has_c ∙ ap (with_piece c) (has_b ∙ ap (with_piece b) has_a))))
+    ∙ joined-parts t a b c d e f
+
+-- a text that goes on with one piece, and with one more
+pub with_text-append : (text more : List ℕ) (o : Option (List ℕ)) → with_text more (with_text text o) ≡ with_text (text ++ more) o
+with_text-append text more None = refl
+with_text-append text more (Some begun) = ap Some (append_assoc begun text more)
+
+pub with_text-nil : (o : Option (List ℕ)) → o ≡ with_text [] o
+with_text-nil None = refl
+with_text-nil (Some begun) = ap Some (sym (append-nil begun))
+
+pub with_text-asked : (asked : Bool) (text more : List ℕ) → with_text more (where_asked asked text) ≡ where_asked asked (text ++ more)
+with_text-asked false text more = refl
+with_text-asked true text more = refl
+
+counted-states : (d : TheDay) (answer : Result Reply Refusal) → (counted d answer).states ≡ d.states
+counted-states d (Ok reply) = refl
+counted-states d (Err refusal) = refl
+
+-- the state of the security of a row that desks took
+pub state-behind : (old new : List Journal) (a r : ℕ) (row : Row) (answer : Result Reply Refusal) → after_row (day_of old a r) row ≡ counted (day_of new a r) answer
+    → slice_get (after_row (day_of old a r) row).states row.security ≡ slice_get (map replay new) row.security
+state-behind old new a r row answer after = ap (λ (states : List State). slice_get states row.security) (ap (λ (d : TheDay). d.states) after ∙ counted-states (day_of new a r) answer)
+
+-- what is told of the rows so far, and of one more, which desks took and answered so
+pub told-more : (tells : Row → List ℕ → Result Reply Refusal → Option State → List ℕ) (bytes orders : List ℕ) (begun : TheDay) (old new : List Journal) (a r : ℕ) (answer : Result Reply Refusal) (rows : List Row) (i : ℕ) (row : Row) (first before after : Option (List ℕ))
+    → i < length rows → bytes ≡ orders → day_of old a r ≡ after_rows begun (take i rows) → answer ≡ row_answer (map replay old) (get_or rows i row) → after_row (day_of old a r) (get_or rows i row) ≡ counted (day_of new a r) answer
+    → before ≡ with_text (told_of_rows (told_behind tells (text_of_record orders)) begun (take i rows)) first
+    → after ≡ with_text (tells (get_or rows i row) (text_of_record bytes (get_or rows i row).line) answer (slice_get (map replay new) (get_or rows i row).security)) before
+    → after ≡ with_text (told_of_rows (told_behind tells (text_of_record orders)) begun (take (i + 1) rows)) first
+told-more tells bytes orders begun old new a r answer rows i row first before after within same is answers took so_far step =
+    let so = take i rows in
+    let next = get_or rows i row in
+    let told = told_behind tells (text_of_record orders) in
+    let line = tells next (text_of_record orders next.line) answer (slice_get (map replay new) next.security) in
+    let behind : told (day_of old a r) next ≡ line =
+    ap (λ (x : Result Reply Refusal). tells next (text_of_record orders next.line) x (slice_get (after_row (day_of old a r) next).states next.security)) (sym answers)
+    ∙ ap (tells next (text_of_record orders next.line) answer) (state-behind old new a r next answer took) in
+    let one : told_of_rows told (after_rows begun so) (next ∷ []) ≡ line = append-nil (told (after_rows begun so) next) ∙ ap (λ (d : TheDay). told d next) (sym is) ∙ behind in
+    step
+    ∙ ap (λ (text : List ℕ). with_text (tells next (text_of_record text next.line) answer (slice_get (map replay new) next.security)) before) same
+    ∙ ap (with_text line) so_far
+    ∙ with_text-append (told_of_rows told begun so) line first
+    ∙ ap (λ (text : List ℕ). with_text text first) (ap (λ (text : List ℕ). told_of_rows told begun so ++ text) (sym one) ∙ sym (told_of_rows-append told begun so (next ∷ [])) ∙ ap (told_of_rows told begun) (sym (take_more rows i row within)))
+
+-- of the rows of a segment so far, behind a header, and of more
+pub told-joined : (asked : Bool) (told : TheDay → Row → List ℕ) (header : List ℕ) (config : SegmentConfig) (taken rows : List Row) (at : TheDay) (before after : Option (List ℕ))
+    → before ≡ where_asked asked (header ++ told_of_rows told (opening_day config) taken) → at ≡ after_rows (opening_day config) taken → after ≡ with_text (told_of_rows told at rows) before
+    → after ≡ where_asked asked (header ++ told_of_rows told (opening_day config) (taken ++ rows))
+told-joined asked told header config taken rows at before after so_far is step =
+    let begun = opening_day config in
+    step
+    ∙ ap (with_text (told_of_rows told at rows)) so_far
+    ∙ with_text-asked asked (header ++ told_of_rows told begun taken) (told_of_rows told at rows)
+    ∙ ap (where_asked asked) (ap (λ (d : TheDay). (header ++ told_of_rows told begun taken) ++ told_of_rows told d rows) is
+    ∙ append_assoc header (told_of_rows told begun taken) (told_of_rows told (after_rows begun taken) rows)
+    ∙ ap (λ (text : List ℕ). header ++ text) (sym (told_of_rows-append told begun taken rows)))
