@@ -1,4 +1,7 @@
 //! The end of a call: its price, and the allotment of its volume.
+//!
+//! `price` asks `covered` for the best price at which a side covers the other, for both sides; `depth` is the curve of a side.
+//! `allotment` has the best buy order trade with the best sell order until the volume is reached.
 #![tactic(auto)]
 
 mod allotment;

@@ -1,4 +1,13 @@
 //! The quote of one security, which one pen writes and watches read without a lock.
+//!
+//! A board has eight words that all threads share: a sequence and the seven words of the quote (`words`). The sequence is twice the
+//! version that is published, and one more while the pen writes:
+//!
+//!     the pen   42 -> 43   word 1 .. word 7   43 -> 44
+//!     a watch        44 ?   word 1 .. word 7   44 ?        the same twice, and even: the words are of one quote
+//!
+//! What holds at every moment, whatever other threads do, is the record `Kept` of `specs/Rule`. Each step of the `pen` and of a
+//! `watch` is a type of `rule`, proved to keep it.
 #![tactic(auto)]
 
 mod board;

@@ -3,7 +3,7 @@ ghost use Rattle.std.specs.Prelude.{◌≡◌, ◌+◌, ◌++◌, ◌∷◌, ◌
 ghost use Rattle.std.specs.Option.{option_map};
 ghost use Rattle.xm_book.specs.declared.places.TheConstants.{MAX_PLACES};
 ghost use Rattle.xm_book.specs.Places.{SamePlaces, place_of};
-ghost use Rattle.xm_book.specs.Queues.{best_order, level_after, market_sum, next_order, taken_from, taken_from_best};
+ghost use Rattle.xm_book.specs.Queues.{best_order, level_after, market_sum, next_order, taken_from};
 ghost use Rattle.xm_book.specs.TimeList.{IsBook, Reserves, is_known, is_reserved, references_of};
 ghost use Rattle.xm_rules.specs.Active.{active, limits};
 ghost use Rattle.xm_rules.specs.Commands.{is_in_range, outlasts};
@@ -245,17 +245,6 @@ impl<A: Allocator + Copy> Book<A> {
         ensures { result ≡ option_map (λ (o : Order). o.kind) (best_order phase side self.now.orders) }
     {
         self.queues.first_kind(side, phase)
-    }
-
-    /// Takes units from the best active order of a side, which has as many. An order that has none left is gone, and
-    /// another keeps its place in time. Where no order of the side is active, nothing changes.
-    pub fn fill_best(&mut self, side: Side, phase: Phase, units: u32)
-        requires { IfSome (best_order phase side self.old.orders) (λ o. (1 ≤ units) × (units ≤ o.rest)) }
-        ensures { self.new ≡ record self.old { orders = taken_from_best phase side units self.old.orders } }
-    {
-        if let Some(order) = self.best(side, phase).copied() {
-            self.fill(&order, units);
-        }
     }
 
     /// The active order of a side that is next in priority after the order of this name; nothing where no active order

@@ -101,11 +101,11 @@ impl EntryLists {
         ensures left { self.new ≡ none_left }
     {
         let given = mem::replace(self, EntryLists::new(storage));
-        given.into_carried(storage)
+        given.into_carried(storage.alloc)
     }
 
     /// The orders and stops, as what earlier days left.
-    fn into_carried(self, storage: Storage<Global>) -> Result<Carried, OutOfMemory>
+    fn into_carried(self, alloc: Global) -> Result<Carried, OutOfMemory>
         ensures { IfOk result (λ carried. carried ≡ self) }
     {
         let EntryLists {
@@ -113,7 +113,7 @@ impl EntryLists {
             stops,
             taken: _taken,
         } = self;
-        Carried::of(storage, orders, stops)
+        Carried::of(alloc, orders, stops)
     }
 }
 

@@ -1,4 +1,13 @@
 //! The files that a day is read from: what the bytes of a segment file, of a carry file and of an order file give.
+//!
+//! `segment` reads the first, `carry` puts into the settings what the second lists. `orders` reads the third, a `batch` of rows at a
+//! time: `headers` finds its format, of which `order_format` has the columns, commands and conditions. `records` finds the fields of a
+//! record: a line without quotes by `marks` where it stands, any other by `csv_records`. `entries` tells what the record says, and
+//! `record_texts` its free text. `timetable` cuts rows into rounds and shares.
+//!
+//! For several threads `file_parts` also cuts the text at line feeds, and guesses the number of each part's first record. A part is
+//! kept only where it begins at the byte, and with the number, at which those before it ended. Nothing is proved of a guess; quotes
+//! over lines, faults and limits are told as by one thread.
 #![tactic(auto)]
 
 mod batch;

@@ -1,4 +1,7 @@
 //! Continuous trading: an incoming order is executed against the other side of the book.
+//!
+//! `sweeping` does it, and `filling` says beforehand whether a fill-or-kill order can be filled. `terms` are fixed before the first
+//! fill; `meeting` is what the order meets next.
 #![tactic(auto)]
 
 mod filling;

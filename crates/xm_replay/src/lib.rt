@@ -1,4 +1,6 @@
 //! The rows of a day, taken in their order by the desks of a segment, which tell the texts that are asked for.
+//!
+//! `runs` asks the file for batch after batch, and `desks` hands each row to its desk, which answers it.
 #![tactic(auto)]
 
 mod desks;

@@ -1,16 +1,13 @@
 //! The orders and stops that a day begins with.
-ghost use Rattle.std.specs.Prelude.{◌≡◌, ◌||◌, ℕ, [], IfOk, OnOk, is_some, not};
-ghost use Rattle.xm_name_index.specs.Names.{lookup};
+ghost use Rattle.std.specs.Prelude.{◌≡◌, IfOk};
 ghost use Rattle.std.specs.List.{list_all};
 ghost use Rattle.xm_rules.specs.Opening.{can_be_left, is_carriable, is_carriable_stop};
-ghost use Rattle.xm_rules.specs.Entries.{are_distinct, is_same_name, names, none_left};
+ghost use Rattle.xm_rules.specs.Entries.{are_distinct, names, none_left};
 
-use crate::commands::is_given_in_range;
 use crate::orders::{Order, Stop};
 use std::alloc::Global;
 use std::marker::Model;
 use xm_memory::OutOfMemory;
-use xm_name_index::{Names, Storage};
 
 /// The most orders and stops, together, that a security begins a day with.
 pub const MAX_CARRIED: usize = 100_000;
@@ -74,15 +71,11 @@ impl Carried {
     }
 
     /// These orders, in the order in which they stood in the time list, and these stops, in order of entry.
-    pub fn of(
-        storage: Storage<Global>,
-        orders: Vec<Order>,
-        stops: Vec<Stop>,
-    ) -> Result<Carried, OutOfMemory>
+    pub fn of(alloc: Global, orders: Vec<Order>, stops: Vec<Stop>) -> Result<Carried, OutOfMemory>
         ensures { IfOk result (λ carried. carried ≡ record { orders = orders.items; stops = stops.items }) }
     {
-        let names = names(storage.alloc, &orders, &stops)?;
-        let have_own_names = are_distinct(storage, &names)?;
+        let mut names = names(alloc, &orders, &stops)?;
+        let have_own_names = are_distinct(&mut names);
         let lists = Lists {
             orders,
             stops,
@@ -183,28 +176,10 @@ fn names(alloc: Global, orders: &[Order], stops: &[Stop]) -> Result<Vec<(u32, u3
     Ok(names)
 }
 
-/// Whether no name stands twice.
-fn are_distinct(storage: Storage<Global>, names: &[(u32, u32)]) -> Result<bool, OutOfMemory>
-    ensures { IfOk result (λ distinct. distinct ≡ are_distinct names.now) }
+/// Whether no name stands twice. It puts them in order, where the same names are neighbours.
+fn are_distinct(names: &mut [(u32, u32)]) -> bool
+    ensures { result ≡ are_distinct names.old }
 {
-    let mut taken = Names::new(storage);
-    for (member, reference) in names {
-        if !take_name(&mut taken, *member, *reference)? {
-            return Ok(false);
-        }
-    }
-    Ok(true)
-}
-
-/// Takes a name, or answers `false` where it is taken already.
-fn take_name(taken: &mut Names<Global>, member: u32, reference: u32) -> Result<bool, OutOfMemory>
-    ensures new { IfOk result (λ new. new ≡ not (is_some (lookup taken.old member reference))) }
-    ensures taken { OnOk result ((m r : ℕ) → is_some (lookup taken.new m r) ≡ (is_same_name (member, reference) (m, r) || is_some (lookup taken.old m r))) }
-{
-    if taken.get(member, reference).is_some() {
-        return Ok(false);
-    }
-    taken.reserve(member)?;
-    taken.insert(member, reference, 0);
-    Ok(true)
+    names.sort_unstable();
+    names.is_sorted_by(|name, next| name < next)
 }

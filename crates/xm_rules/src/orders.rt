@@ -4,11 +4,9 @@ ghost use Rattle.xm_rules.specs.Active.{is_active};
 ghost use Rattle.xm_rules.specs.Commands.{is_over, outlasts};
 ghost use Rattle.xm_rules.specs.Opening.{is_carriable, is_carriable_stop, is_lasting, is_still_valid};
 ghost use Rattle.xm_rules.specs.Orders.{accepts, limit_of, meets, trade_between};
-ghost use Rattle.xm_rules.specs.Priority.{is_better};
 ghost use Rattle.xm_rules.specs.Refusals.{is_given_in_range, is_limit_for_market};
 ghost use Rattle.xm_rules.specs.Settling.{is_free, is_reached, order_of_stop};
-ghost use Rattle.xm_rules.specs.Sides.{better, opposite, reaches, same_side};
-ghost use Rattle.xm_rules.specs.State.{is_auction};
+ghost use Rattle.xm_rules.specs.Sides.{better, opposite, reaches};
 ghost use Rattle.xm_rules.specs.Step.{changed_kind, changed_order, keeps_priority, same_limit};
 ghost use Rattle.xm_rules.specs.Sums.{money_of};
 
@@ -32,13 +30,6 @@ impl Side {
             Side::Buy => Side::Sell,
             Side::Sell => Side::Buy,
         }
-    }
-
-    /// Whether two sides are one.
-    pub fn same_side(self, other: Side) -> bool
-        ensures { result ≡ same_side self other }
-    {
-        self == other
     }
 
     /// Whether a price in ticks is as high as another on the buy side, as low on the sell side.
@@ -108,20 +99,6 @@ impl OrderKind {
         match other {
             OrderKind::Market => true,
             OrderKind::Limit(limit) => self.accepts(side, limit),
-        }
-    }
-
-    /// Whether an order of this kind is ahead of one of another on the same side, whatever their
-    /// times: market orders come first, then better limits.
-    pub fn is_better(self, side: Side, other: OrderKind) -> bool
-        ensures { result ≡ is_better side self other }
-    {
-        match self {
-            OrderKind::Market => matches!(other, OrderKind::Limit(_)),
-            OrderKind::Limit(limit) => match other {
-                OrderKind::Market => false,
-                OrderKind::Limit(other_limit) => !side.reaches(other_limit.get(), limit.get()),
-            },
         }
     }
 
@@ -343,18 +320,6 @@ impl Stop {
 pub enum TradeKind {
     Continuous,
     Auction(Auction, CallStage),
-}
-
-impl TradeKind {
-    /// Whether the trade was made at the end of a call.
-    pub fn is_auction(self) -> bool
-        ensures { result ≡ is_auction self }
-    {
-        match self {
-            TradeKind::Continuous => false,
-            TradeKind::Auction(_, _) => true,
-        }
-    }
 }
 
 /// A trade between a buy order and a sell order, each named by its member and reference.

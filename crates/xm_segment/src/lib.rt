@@ -1,4 +1,12 @@
 //! A segment of securities that workers share: each behind its own lock, with a board of quotes that is read without one.
+//!
+//! `segment` has eight lanes, `submit` and `quote`. A `lane` is a lock and a board, and `locked` what stands behind the lock. `seat` and
+//! `working` have a worker's rows, `gathering` the end, `opened` the beginning.
+//!
+//! What stands behind a lock is known by its type alone. So settings, workers and names of ledgers are members of a type that exists
+//! in proofs alone (`naming`), and a caller picks it once by what it opened. The `ledgers` of a security are tokens without bytes:
+//! books behind the lock, shares in each seat. In the end they are compared. A new call on a security is a method of `Locked`, one of
+//! `Lane`, and eight arms in `segment`.
 #![tactic(auto)]
 
 mod blanks;

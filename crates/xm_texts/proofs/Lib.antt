@@ -1,4 +1,4 @@
-mod Lines
+mod StatementLines
 mod CashSums
 mod Leaving
 mod LeftInRange

@@ -1,5 +1,9 @@
 //! The texts of a day: its statement, the carry file of the next day, and what is told of its rows: the answers, the trades, and the
 //! levels behind them.
+//!
+//! `statements` makes the statement from `traded`, `remaining` and `sums`, and `carry_file` what is left. `told` adds to what is
+//! `asked` for: `answers` a line for each row, `trades` one for each trade, `depth` the levels where they changed. `fields`, `quoted`
+//! and `words` are what lines are made of.
 #![tactic(auto)]
 
 mod answers;

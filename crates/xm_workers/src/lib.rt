@@ -1,4 +1,8 @@
 //! The rows of a day, taken by several workers, each those of its members.
+//!
+//! `shared_day` reads a round at a time. `shares` has the members' rows taken: several shares by a thread each (`standing`), one alone
+//! by the calling thread. When all are joined, the first worker takes the round's phase rows. In the end the segment is gathered into
+//! desks again.
 #![tactic(auto)]
 
 mod shared_day;

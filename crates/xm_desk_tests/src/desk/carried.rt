@@ -4,7 +4,6 @@ use super::settings;
 use std::alloc::Global;
 use std::process::Abort;
 use xm_config::OpenFault;
-use xm_name_index::Storage;
 use xm_rules::{
     Carried, Command, Condition, DeskSettings, Kind, Order, OrderKind, Phase, Restriction, Side,
     Stop, Validity,
@@ -62,9 +61,8 @@ pub(crate) fn carrying(
     for entry in held {
         stops.push(stop(*entry)).ok().expect(rt, "memory");
     }
-    let storage = Storage::with_fixed_seed(rt.alloc());
     DeskSettings {
-        carried: Carried::of(storage, orders, stops).expect(rt, "memory"),
+        carried: Carried::of(rt.alloc(), orders, stops).expect(rt, "memory"),
         ..settings(rt, 100)
     }
 }

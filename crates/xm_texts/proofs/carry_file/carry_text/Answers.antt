@@ -1,7 +1,7 @@
 use Rattle.std.proofs.Common.{◌<◌, ◌++◌, List, length, map, arith, ap, ◌∙◌}
 use Rattle.std.proofs.lemmas.List.{take_all}
 use Rattle.xm_rules.specs.Step.{Journal, replay}
-use Rattle.xm_texts.proofs.Lines.{each-more}
+use Rattle.xm_texts.proofs.StatementLines.{each-more}
 use Rattle.xm_texts.specs.Carry.{carry_header, left_text, lefts_text}
 use Rattle.xm_texts.proofs.carry_file.carry_text.Goals as goal
 

@@ -1,7 +1,7 @@
 use Rattle.std.proofs.Common.{ap, ◌∙◌}
 use Rattle.xm_rules.specs.Step.{replay}
 use Rattle.xm_rules.specs.declared.settings.DeskSettings.{DeskSettings}
-use Rattle.xm_texts.proofs.Lines.{security-written}
+use Rattle.xm_texts.proofs.StatementLines.{security-written}
 use Rattle.xm_texts.proofs.statements.push_security.Goals as goal
 
 pub returns : goal.returns

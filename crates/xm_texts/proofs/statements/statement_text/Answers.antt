@@ -2,7 +2,7 @@ use Rattle.std.proofs.Common.{ℕ, ◌++◌, map, ap, ◌∙◌}
 use Rattle.std.specs.List.{flat_map}
 use Rattle.xm_rules.specs.Step.{replay}
 use Rattle.xm_rules.specs.declared.settings.DeskSettings.{DeskSettings}
-use Rattle.xm_texts.proofs.Lines.{four_parts, today_of-first}
+use Rattle.xm_texts.proofs.StatementLines.{four_parts, today_of-first}
 use Rattle.xm_texts.specs.Statement.{day_line, member_indices, member_line, rows_line, securities_text, today_of}
 use Rattle.xm_texts.proofs.statements.statement_text.Goals as goal
 

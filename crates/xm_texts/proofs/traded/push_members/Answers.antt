@@ -1,7 +1,7 @@
 use Rattle.std.proofs.Common.{◌≡◌, ℕ, List, ◌++◌, length, map, ap, arith, ◌∙◌}
 use Rattle.std.specs.List.{flat_map, range_with_len}
 use Rattle.xm_rules.specs.Step.{replay}
-use Rattle.xm_texts.proofs.Lines.{lines-more}
+use Rattle.xm_texts.proofs.StatementLines.{lines-more}
 use Rattle.xm_texts.specs.Statement.{member_line}
 use Rattle.xm_texts.proofs.traded.push_members.Goals as goal
 

@@ -1,6 +1,6 @@
 use Rattle.std.proofs.Common.{ℕ, List, ◌++◌, ap, ◌∙◌}
 use Rattle.xm_rules.specs.Step.{replay}
-use Rattle.xm_texts.proofs.Lines.{lines-more}
+use Rattle.xm_texts.proofs.StatementLines.{lines-more}
 use Rattle.xm_texts.specs.Statement.{net_line}
 use Rattle.xm_texts.proofs.traded.push_nets.Goals as goal
 
