@@ -9,7 +9,7 @@ ghost use Rattle.xm_board.specs.declared.words.TheConstants.{QUOTE_WORDS};
 
 use crate::journal::Entry;
 use crate::naming::BoardNaming;
-use crate::opened::{BoardSeat, Opened, QuoteTable};
+use crate::opened::{BoardSeat, OpenedBoard, QuoteTable};
 use crate::pen::Pen;
 use crate::rule::{
     AskSeen, BeginWrite, CompareSeen, EndWrite, MakeWatch, ReadWord, ShareLast, ShareSeen,
@@ -46,7 +46,7 @@ impl<N: BoardNaming, A: Allocator> Board<N, A> {
     /// Nothing is published, seen or own. It fails where the memory of the list is refused.
     pub fn open(
         alloc: A,
-        opened: Opened<A>,
+        opened: OpenedBoard<A>,
         watches: u32,
     ) -> Result<(Board<N, A>, Pen<N>, Vec<Watch<N>, A>), OutOfMemory>
         requires named { opened.table ≡ N.table }
@@ -55,7 +55,7 @@ impl<N: BoardNaming, A: Allocator> Board<N, A> {
         ensures watches { IfOk result (λ o. (k : ℕ) (w : _) → slice_get o.2.items k ≡ Some w → w ≡ known_by k (opening_of opened.settings) []) }
     {
         let mut row = Vec::with_capacity(alloc, watches as usize)?;
-        let Opened {
+        let OpenedBoard {
             table,
             mut seat,
             quote,

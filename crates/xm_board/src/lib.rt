@@ -24,6 +24,6 @@ mod words;
 pub use board::Board;
 pub use journal::{Entry, NumberedJournal};
 pub use naming::BoardNaming;
-pub use opened::Opened;
+pub use opened::OpenedBoard;
 pub use pen::Pen;
 pub use watch::{Known, Watch};

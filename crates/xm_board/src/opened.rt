@@ -21,13 +21,13 @@ pub(crate) type BoardSeat = Seat<Entry, View>;
 
 /// A board whose memory is there, and which no type names yet. A clause sees which table it is, and the settings.
 #[derive(Drop)]
-pub struct Opened<A: Allocator> {
+pub struct OpenedBoard<A: Allocator> {
     pub(crate) table: QuoteTable<A>,
     pub(crate) seat: BoardSeat,
     pub(crate) quote: Quote,
 }
 
-impl<A: Allocator> Model for Opened<A> {
+impl<A: Allocator> Model for OpenedBoard<A> {
     ghost use Rattle.std.specs.Prelude.{◌≡◌, ◌+◌, ◌≤◌};
     ghost use Rattle.xm_board.specs.Journals.{opening_of, quote_of};
     ghost use Rattle.xm_board.specs.Opened.{Unnamed};
@@ -42,9 +42,13 @@ impl<A: Allocator> Model for Opened<A> {
     ghost invariant = { λ o. (QUOTE_WORDS + 1 ≤ o.table.shared.table_id.words) × (o.seat.table_id ≡ o.table.shared.table_id) × (o.seat.me.0 ≡ opening_pen o.table.shared.key) × (o.quote ≡ quote_of (opening_of o.table.shared.key)) × IsPublished (opening_of o.table.shared.key) };
 }
 
-impl<A: Allocator> Opened<A> {
+impl<A: Allocator> OpenedBoard<A> {
     /// A board for these settings, whose carried orders and stops a security takes, with the quote of their opening state. It fails where the memory is refused.
-    pub fn new(alloc: A, settings: &DeskSettings, quote: &Quote) -> Result<Opened<A>, OutOfMemory>
+    pub fn new(
+        alloc: A,
+        settings: &DeskSettings,
+        quote: &Quote,
+    ) -> Result<OpenedBoard<A>, OutOfMemory>
         requires carried { are_carriable settings.now ≡ true }
         requires quote { quote.now ≡ quote_of (opening_of settings.now) }
         ensures { IfOk result (λ o. o.settings ≡ settings.now) }
@@ -53,7 +57,7 @@ impl<A: Allocator> Opened<A> {
         let _ = settings.limit.get();
         let words = opening_words(quote);
         let (table, seat) = Table::of_words(alloc, &words, settings)?;
-        Ok(Opened {
+        Ok(OpenedBoard {
             table,
             seat,
             quote: *quote,

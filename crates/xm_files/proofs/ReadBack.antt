@@ -27,8 +27,8 @@ use Rattle.xm_files.specs.Orders.{records_in}
 use Rattle.xm_files.specs.Rows.{by_column, carry_columns, is_header}
 use Rattle.xm_files.specs.declared.file_faults.FileCause.TheVariants.{BadHeader, TooLong}
 use Rattle.xm_files.specs.declared.file_faults.FileFault.{FileFault}
-use Rattle.xm_files.specs.declared.listed.Entry.{Entry}
-use Rattle.xm_files.specs.declared.listed.Entry.TheVariants as entry
+use Rattle.xm_files.specs.declared.listed.CarriedEntry.{CarriedEntry}
+use Rattle.xm_files.specs.declared.listed.CarriedEntry.TheVariants as entry
 use Rattle.xm_files.specs.declared.order_format.OrderFormat.TheVariants.{Carry}
 
 -- ---- names, and how often one is used
@@ -43,7 +43,7 @@ unused p [] none = refl
 unused p (n ∷ ns) none = none-if (p n) (count_by p ns) (list_any p ns) (sym (sum_by-cons (λ m. cond (p m) 1 0) n ns) ∙ none) (unused p ns)
 
 -- one entry more uses its name once more
-uses-more : (p : ℕ × ℕ → Bool) (left : Entries) (e : Entry) → count_by p (names (one_more left e)) ≡ count_by p (names left) + cond (p (entry_name e)) 1 0
+uses-more : (p : ℕ × ℕ → Bool) (left : Entries) (e : CarriedEntry) → count_by p (names (one_more left e)) ≡ count_by p (names left) + cond (p (entry_name e)) 1 0
 uses-more p left (entry.Order o) =
     let once : ℕ × ℕ → ℕ = λ n. cond (p n) 1 0 in
     omega (
@@ -71,48 +71,48 @@ own-name name = rw (same-number name.0, same-number name.1) refl
 abbrev count_of : Entries → ℕ
 count_of left = length left.orders + length left.stops
 
-count-more : (left : Entries) (e : Entry) → count_of (one_more left e) ≡ count_of left + 1
+count-more : (left : Entries) (e : CarriedEntry) → count_of (one_more left e) ≡ count_of left + 1
 count-more left (entry.Order o) = omega (arith, length_push left.orders o)
 count-more left (entry.Stop stop) = omega (arith, length_push left.stops stop)
 
 -- an entry of a name that is free may be listed, where there is room
-free-listed : (line : ℕ) (left : Entries) (e : Entry) → list_any (is_same_name (entry_name e)) (names left) ≡ false → count_of left < MAX_CARRIED → with_one_more line left e ≡ Ok (one_more left e)
+free-listed : (line : ℕ) (left : Entries) (e : CarriedEntry) → list_any (is_same_name (entry_name e)) (names left) ≡ false → count_of left < MAX_CARRIED → with_one_more line left e ≡ Ok (one_more left e)
 free-listed line left e free room = rw (free, there_is_room (count_of left) room) refl where
   there_is_room : (n : ℕ) → n < MAX_CARRIED → nat_le MAX_CARRIED n ≡ false
   there_is_room n h = grind (arith, nat_tests)
 
 -- the entries, one more at the end for each of these
-abbrev with_entries : Entries → List Entry → Entries
+abbrev with_entries : Entries → List CarriedEntry → Entries
 with_entries left es = fold one_more left es
 
 -- how often these entries use a name
-abbrev uses_in : ℕ × ℕ → List Entry → ℕ
+abbrev uses_in : ℕ × ℕ → List CarriedEntry → ℕ
 uses_in name es = count_by (λ e. is_same_name name (entry_name e)) es
 
 abbrev uses_of : ℕ × ℕ → Entries → ℕ
 uses_of name left = count_by (is_same_name name) (names left)
 
-module _ (known : NameLists) (securities : List SecurityConfig) (written : Entry → EntryTexts) (security : ℕ) where
+module _ (known : NameLists) (securities : List SecurityConfig) (written : CarriedEntry → EntryTexts) (security : ℕ) where
   -- the record of an entry is read as it
-  abbrev IsReadBack : Entry → Type 0
+  abbrev IsReadBack : CarriedEntry → Type 0
   IsReadBack e = listed_in known securities (by_column carry_columns (fields_in (written e))) ≡ Some (record { security = security; entry = e })
 
-  abbrev record_of_entry : Entry → List (List ℕ)
+  abbrev record_of_entry : CarriedEntry → List (List ℕ)
   record_of_entry e = fields_in (written e)
 
-  one-listed : (line : ℕ) (lists : List Entries) (left : Entries) (e : Entry) (more : List (List (List ℕ))) → get_or lists security none_left ≡ left → IsReadBack e
+  one-listed : (line : ℕ) (lists : List Entries) (left : Entries) (e : CarriedEntry) (more : List (List (List ℕ))) → get_or lists security none_left ≡ left → IsReadBack e
       → list_any (is_same_name (entry_name e)) (names left) ≡ false → count_of left < MAX_CARRIED
       → lists_after known securities line lists (record_of_entry e ∷ more) ≡ lists_after known securities (line + 1) (slice_set lists security (one_more left e)) more
   one-listed line lists left e more at back free room = rw (back, at, free-listed line left e free room) refl
 
-  free-name : (left : Entries) (e : Entry) (es : List Entry) → uses_of (entry_name e) left + uses_in (entry_name e) (e ∷ es) ≤ 1 → list_any (is_same_name (entry_name e)) (names left) ≡ false
+  free-name : (left : Entries) (e : CarriedEntry) (es : List CarriedEntry) → uses_of (entry_name e) left + uses_in (entry_name e) (e ∷ es) ≤ 1 → list_any (is_same_name (entry_name e)) (names left) ≡ false
   free-name left e es once =
       let own = ap {B = ℕ} (λ (t : Bool). cond t 1 0) (own-name (entry_name e)) in
       unused (is_same_name (entry_name e)) (names left)
-      (omega (arith, once, own, sum_by-cons (λ (other : Entry). cond (is_same_name (entry_name e) (entry_name other)) 1 0) e es))
+      (omega (arith, once, own, sum_by-cons (λ (other : CarriedEntry). cond (is_same_name (entry_name e) (entry_name other)) 1 0) e es))
 
   -- the records of entries of which no two have one name, and behind them others
-  entries-listed : (es : List Entry) (line : ℕ) (lists : List Entries) (left : Entries) (more : List (List (List ℕ))) → security < length lists → get_or lists security none_left ≡ left
+  entries-listed : (es : List CarriedEntry) (line : ℕ) (lists : List Entries) (left : Entries) (more : List (List (List ℕ))) → security < length lists → get_or lists security none_left ≡ left
       → All IsReadBack es → ((name : ℕ × ℕ) → uses_of name left + uses_in name es ≤ 1) → count_of left + length es ≤ MAX_CARRIED
       → lists_after known securities line lists (map record_of_entry es ++ more) ≡ lists_after known securities (line + length es) (slice_set lists security (with_entries left es)) more
   entries-listed [] line lists left more within at back once few =
@@ -129,22 +129,22 @@ module _ (known : NameLists) (securities : List SecurityConfig) (written : Entry
       one-listed line lists left e (map record_of_entry es ++ more) at (All-head IsReadBack e es back) (free-name left e es (once (entry_name e))) (omega arith)
       ∙ entries-listed es (line + 1) longer (one_more left e) more
       (omega (arith, within, length-set lists security (one_more left e))) (get_or-set_same lists security (one_more left e) none_left within) (All-tail IsReadBack e es back)
-      (λ name. omega (arith, once name, uses-more (is_same_name name) left e, sum_by-cons (λ (other : Entry). cond (is_same_name name (entry_name other)) 1 0) e es))
+      (λ name. omega (arith, once name, uses-more (is_same_name name) left e, sum_by-cons (λ (other : CarriedEntry). cond (is_same_name name (entry_name other)) 1 0) e es))
       (omega (arith, few, count-more left e))
       ∙ (λ i. lists_after known securities (count i) (set-set lists security (one_more left e) (with_entries (one_more left e) es) i) more)
 
 -- ---- the orders of a security, and then its stops
 
-abbrev of_orders : List Order → List Entry
+abbrev of_orders : List Order → List CarriedEntry
 of_orders orders = map (λ (o : Order). entry.Order o) orders
 
-abbrev of_stops : List Stop → List Entry
+abbrev of_stops : List Stop → List CarriedEntry
 of_stops stops = map (λ (stop : Stop). entry.Stop stop) stops
 
-abbrev entries_of : Entries → List Entry
+abbrev entries_of : Entries → List CarriedEntry
 entries_of left = of_orders left.orders ++ of_stops left.stops
 
-with-orders : (left : Entries) (orders : List Order) (es : List Entry) → with_entries left (of_orders orders ++ es) ≡ with_entries (record left { orders = left.orders ++ orders }) es
+with-orders : (left : Entries) (orders : List Order) (es : List CarriedEntry) → with_entries left (of_orders orders ++ es) ≡ with_entries (record left { orders = left.orders ++ orders }) es
 with-orders left [] es = ap (λ (orders : List Order). with_entries (record left { orders = orders }) es) (sym (append-nil left.orders))
 with-orders left (o ∷ orders) es =
     with-orders (one_more left (entry.Order o)) orders es
@@ -170,17 +170,17 @@ entries-number left =
     )
 
 uses-orders : (member reference : ℕ) (orders : List Order) → uses_in (member, reference) (of_orders orders) ≡ count_by (is_named member reference) orders
-uses-orders member reference orders = sum-map (λ (e : Entry). cond (is_same_name (member, reference) (entry_name e)) 1 0) (λ (o : Order). entry.Order o) orders
+uses-orders member reference orders = sum-map (λ (e : CarriedEntry). cond (is_same_name (member, reference) (entry_name e)) 1 0) (λ (o : Order). entry.Order o) orders
 
 uses-stops : (member reference : ℕ) (stops : List Stop) → uses_in (member, reference) (of_stops stops) ≡ count_by (is_stop_named member reference) stops
-uses-stops member reference stops = sum-map (λ (e : Entry). cond (is_same_name (member, reference) (entry_name e)) 1 0) (λ (stop : Stop). entry.Stop stop) stops
+uses-stops member reference stops = sum-map (λ (e : CarriedEntry). cond (is_same_name (member, reference) (entry_name e)) 1 0) (λ (stop : Stop). entry.Stop stop) stops
 
 entries-use : (member reference : ℕ) (left : Entries)
     → uses_in (member, reference) (entries_of left) ≡ count_by (is_named member reference) left.orders + count_by (is_stop_named member reference) left.stops
 entries-use member reference left =
     omega (
       arith,
-      sum_by-append (λ (e : Entry). cond (is_same_name (member, reference) (entry_name e)) 1 0) (of_orders left.orders) (of_stops left.stops),
+      sum_by-append (λ (e : CarriedEntry). cond (is_same_name (member, reference) (entry_name e)) 1 0) (of_orders left.orders) (of_stops left.stops),
       uses-orders member reference left.orders,
       uses-stops member reference left.stops,
     )
@@ -215,14 +215,14 @@ module _ (known : NameLists) (securities : List SecurityConfig) (order_texts : �
   records_of security (left ∷ more) =
       map (λ (o : Order). fields_in (order_texts security o)) left.orders ++ (map (λ (stop : Stop). fields_in (stop_texts security stop)) left.stops ++ records_of (security + 1) more)
 
-  abbrev entry_texts : ℕ → Entry → EntryTexts
+  abbrev entry_texts : ℕ → CarriedEntry → EntryTexts
   entry_texts security (entry.Order o) = order_texts security o
   entry_texts security (entry.Stop stop) = stop_texts security stop
 
-  abbrev record_at : ℕ → Entry → List (List ℕ)
+  abbrev record_at : ℕ → CarriedEntry → List (List ℕ)
   record_at security e = fields_in (entry_texts security e)
 
-  order-records : (security : ℕ) (orders : List Order) (es : List Entry) (more : List (List (List ℕ)))
+  order-records : (security : ℕ) (orders : List Order) (es : List CarriedEntry) (more : List (List (List ℕ)))
       → map (record_at security) (of_orders orders ++ es) ++ more ≡ map (λ (o : Order). fields_in (order_texts security o)) orders ++ (map (record_at security) es ++ more)
   order-records security [] es more = refl
   order-records security (o ∷ orders) es more = ap (λ (rest : List (List (List ℕ))). fields_in (order_texts security o) ∷ rest) (order-records security orders es more)

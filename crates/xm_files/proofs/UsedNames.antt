@@ -4,8 +4,8 @@ use Rattle.std.specs.List.{list_any}
 use Rattle.std.proofs.lemmas.Bool.Decides.{nat_tests}
 use Rattle.xm_rules.specs.Entries.{Entries, is_same_name, names, order_name, stop_name}
 use Rattle.xm_files.specs.Carry.{entry_name, one_more}
-use Rattle.xm_files.specs.declared.listed.Entry.{Entry}
-use Rattle.xm_files.specs.declared.listed.Entry.TheVariants as entry
+use Rattle.xm_files.specs.declared.listed.CarriedEntry.{CarriedEntry}
+use Rattle.xm_files.specs.declared.listed.CarriedEntry.TheVariants as entry
 
 later : (a b c : Bool) → (a || (b || c)) ≡ (b || (a || c))
 later true true c = refl
@@ -25,7 +25,7 @@ any-end : {X Y : Type 0} (p : Y → Bool) (f : X → Y) (xs : List Y) (ys : List
 any-end p f [] ys y = any-last p f ys y
 any-end p f (x ∷ xs) ys y = ap (λ (b : Bool). p x || b) (any-end p f xs ys y) ∙ later (p x) (p (f y)) (list_any p (xs ++ map f ys))
 
-name-more : (name : ℕ × ℕ) (e : Entries) (more : Entry) → list_any (is_same_name name) (names (one_more e more)) ≡ (is_same_name name (entry_name more) || list_any (is_same_name name) (names e))
+name-more : (name : ℕ × ℕ) (e : Entries) (more : CarriedEntry) → list_any (is_same_name name) (names (one_more e more)) ≡ (is_same_name name (entry_name more) || list_any (is_same_name name) (names e))
 name-more name e (entry.Order o) = any-middle (is_same_name name) order_name e.orders o (map stop_name e.stops)
 name-more name e (entry.Stop stop) = any-end (is_same_name name) stop_name (map order_name e.orders) e.stops stop
 
@@ -37,7 +37,7 @@ some-if true o = refl
 some-if false o = refl
 
 -- a name was taken for one entry more
-pub taken-more : (new kept old : Option ℕ) (name : ℕ × ℕ) (m r : ℕ) (e more : Entries) (added : Entry) → new ≡ (if (m == name.0) && (r == name.1) then Some 0 else kept) → kept ≡ old → name ≡ entry_name added
+pub taken-more : (new kept old : Option ℕ) (name : ℕ × ℕ) (m r : ℕ) (e more : Entries) (added : CarriedEntry) → new ≡ (if (m == name.0) && (r == name.1) then Some 0 else kept) → kept ≡ old → name ≡ entry_name added
     → is_some old ≡ list_any (is_same_name (m, r)) (names e) → more ≡ one_more e added → is_some new ≡ list_any (is_same_name (m, r)) (names more)
 taken-more new kept old name m r e more added inserted reserved is before after =
     ap is_some inserted

@@ -23,9 +23,9 @@ use Rattle.xm_files.specs.Steps.{◌>>=◌}
 use Rattle.xm_files.specs.declared.columns.Column.TheVariants as column
 use Rattle.xm_files.specs.declared.file_faults.FileCause.TheVariants.{TooLong, Syntax, DuplicateName, BadHeader, BadField, TooManyRows}
 use Rattle.xm_files.specs.declared.file_faults.FileFault.{FileFault}
-use Rattle.xm_files.specs.declared.listed.Entry.{Entry}
-use Rattle.xm_files.specs.declared.listed.Entry.TheVariants as entry
-use Rattle.xm_files.specs.declared.listed.Listed.{Listed}
+use Rattle.xm_files.specs.declared.listed.CarriedEntry.{CarriedEntry}
+use Rattle.xm_files.specs.declared.listed.CarriedEntry.TheVariants as entry
+use Rattle.xm_files.specs.declared.listed.ListedEntry.{ListedEntry}
 use Rattle.xm_files.specs.declared.order_format.OrderFormat.TheVariants.{Carry}
 
 -- prices and units are in range, it is valid beyond the day of its entry, and a stop has no restriction
@@ -34,12 +34,12 @@ may_be_listed kind quantity validity restriction =
     has_prices_in_range kind && is_in_range quantity && is_lasting validity && not (is_bad_combination Plain kind restriction)
 
 -- an order, or the stop with this trigger that becomes it
-abbrev pub entry_with_trigger : Option ℕ → Order → Entry
+abbrev pub entry_with_trigger : Option ℕ → Order → CarriedEntry
 entry_with_trigger None o = entry.Order o
 entry_with_trigger (Some trigger) o = entry.Stop (stop_of trigger o)
 
 -- what a command would have entered on an earlier day, if that may be left
-abbrev pub entry_left : Command → Option Entry
+abbrev pub entry_left : Command → Option CarriedEntry
 entry_left (Enter member reference side kind quantity validity restriction condition) =
     if may_be_listed kind quantity validity restriction
     then Some (entry_with_trigger (trigger_of kind) (entered_order member reference side kind quantity validity restriction)) else None
@@ -51,7 +51,7 @@ known_index names text = name_index names text >>= (λ index. if nat_lt index (l
 
 -- what the fields of a record say: those that the order file has are read as there, where an order is entered; the restriction is
 -- named, and names of the segment and prices of the security's tick alone are lawful
-abbrev pub listed_in : NameLists → List SecurityConfig → List (List ℕ) → Option Listed
+abbrev pub listed_in : NameLists → List SecurityConfig → List (List ℕ) → Option ListedEntry
 listed_in names securities fields =
     known_index names.securities (field column.Security fields) >>= (λ security.
     known_index names.members (field column.Member fields) >>= (λ member.
@@ -60,23 +60,23 @@ listed_in names securities fields =
     Some (record { security = security; entry = entry })))))
 
 -- the member, and the member's own reference
-abbrev pub entry_name : Entry → ℕ × ℕ
+abbrev pub entry_name : CarriedEntry → ℕ × ℕ
 entry_name (entry.Order o) = order_name o
 entry_name (entry.Stop stop) = stop_name stop
 
 -- the orders and stops of a security, and one more at the end
-abbrev pub one_more : Entries → Entry → Entries
+abbrev pub one_more : Entries → CarriedEntry → Entries
 one_more left (entry.Order o) = record left { orders = left.orders ++ o ∷ [] }
 one_more left (entry.Stop stop) = record left { stops = left.stops ++ stop ∷ [] }
 
 -- the same, where the entry, whose record has this number, has a name of its own and there are no more than a security takes
-abbrev pub with_one_more : ℕ → Entries → Entry → Result Entries FileFault
+abbrev pub with_one_more : ℕ → Entries → CarriedEntry → Result Entries FileFault
 with_one_more line left entry =
     if list_any (is_same_name (entry_name entry)) (names left) then Err (fault_at line DuplicateName)
     else (if nat_le MAX_CARRIED (length left.orders + length left.stops) then Err (fault_at line TooManyRows) else Ok (one_more left entry))
 
 -- the lists of all securities, in index order, and what a record with this number says
-abbrev pub with_listed : ℕ → List Entries → Option Listed → Result (List Entries) FileFault
+abbrev pub with_listed : ℕ → List Entries → Option ListedEntry → Result (List Entries) FileFault
 with_listed line lists None = Err (fault_at line BadField)
 with_listed line lists (Some listed) =
     result_then (with_one_more line (get_or lists listed.security none_left) listed.entry) (λ left. Ok (slice_set lists listed.security left))

@@ -3,7 +3,7 @@ use Rattle.std.specs.Prelude.{codes, ℕ, List, [], ◌∷◌, ◌++◌, Option}
 use Rattle.xm_files.specs.Carry.{listed_in}
 use Rattle.xm_files.specs.Names.{NameLists}
 use Rattle.xm_files.specs.Rows.{by_column, carry_columns}
-use Rattle.xm_files.specs.declared.listed.Listed.{Listed}
+use Rattle.xm_files.specs.declared.listed.ListedEntry.{ListedEntry}
 use Rattle.xm_rules.specs.declared.commands.Command.{Command}
 use Rattle.xm_rules.specs.declared.commands.Command.TheVariants.{Cancel, CancelAll, Enter, StartClosing, StartOpening, Uncross}
 use Rattle.xm_rules.specs.declared.commands.Condition.TheVariants.{Plain}
@@ -74,7 +74,7 @@ carry_record security kind limit trigger quantity validity restriction =
     security ∷ codes "BBB" ∷ codes "7" ∷ codes "sell" ∷ kind ∷ limit ∷ trigger ∷ quantity ∷ validity ∷ restriction ∷ []
 
 -- what a record of a carry file says
-abbrev pub says : List (List ℕ) → Option Listed
+abbrev pub says : List (List ℕ) → Option ListedEntry
 says fields = listed_in record_names record_settings.securities (by_column carry_columns fields)
 
 -- a sell limit order of the second member in the first security, at a tick of 50

@@ -10,8 +10,8 @@ use Rattle.csv.specs.declared.reader.Trim.TheVariants as trim
 use Rattle.csv.specs.declared.record.ByteRecord.{ByteRecord}
 use Rattle.xm_files.specs.Batches.{RowsLeft}
 use Rattle.xm_files.specs.Orders.{records_in}
-use Rattle.xm_files.specs.declared.csv_records.Standing.{Standing}
-use Rattle.xm_files.specs.declared.csv_records.Standing.TheVariants.{Ahead, Ended, Failed}
+use Rattle.xm_files.specs.declared.csv_records.Lookahead.{Lookahead}
+use Rattle.xm_files.specs.declared.csv_records.Lookahead.TheVariants.{Ahead, Ended, Failed}
 use Rattle.xm_files.specs.declared.order_format.OrderFormat.{OrderFormat}
 
 -- the record that waits, the records behind it, and the number of the first of all
@@ -42,18 +42,18 @@ pub record IsBetween (reader : Reader (Bor (List ℕ))) : Type 0 where
   pub source : source_of known reader ≡ Some left
 
 -- the record that waits
-abbrev pub record_ahead : Standing → ByteRecord → Option (List (List ℕ))
+abbrev pub record_ahead : Lookahead → ByteRecord → Option (List (List ℕ))
 record_ahead Ahead row = Some (fields_of row)
 record_ahead _ row = None
 
 -- those that aren't read
-abbrev pub behind_of : Standing → Reader (Bor (List ℕ)) → List (List (List ℕ))
+abbrev pub behind_of : Lookahead → Reader (Bor (List ℕ)) → List (List (List ℕ))
 behind_of Ended reader = []
 behind_of (Failed _) reader = []
 behind_of _ reader = records_left reader
 
 -- a reader that reads on stands between two records
-abbrev pub ReadsOn : Standing → Reader (Bor (List ℕ)) → Type 0
+abbrev pub ReadsOn : Lookahead → Reader (Bor (List ℕ)) → Type 0
 ReadsOn Ended reader = Unit
 ReadsOn (Failed _) reader = Unit
 ReadsOn _ reader = IsBetween reader

@@ -12,7 +12,7 @@ use xm_memory::OutOfMemory;
 
 /// Where the reading of records stands.
 #[derive(Clone, Copy)]
-enum Standing {
+enum Lookahead {
     /// The record that was read last waits.
     Ahead,
     /// The record that was read last was taken.
@@ -29,7 +29,7 @@ pub(crate) struct CsvRecords<'a> {
     reader: Reader<&'a [u8]>,
     // The record that was read last.
     row: ByteRecord,
-    standing: Standing,
+    lookahead: Lookahead,
     // The number of the next record, the header being 1.
     line: u32,
 }
@@ -41,12 +41,12 @@ impl<'a> Model for CsvRecords<'a> {
 
     ghost Value = { CsvLeft };
 
-    ghost view = { λ c. record { ahead = record_ahead c.standing c.row; behind = behind_of c.standing c.reader; line = c.line } };
+    ghost view = { λ c. record { ahead = record_ahead c.lookahead c.row; behind = behind_of c.lookahead c.reader; line = c.line } };
 
     ghost invariant = { λ c. record {
-      reads_on : ReadsOn c.standing c.reader;
+      reads_on : ReadsOn c.lookahead c.reader;
       begun : 1 ≤ c.line;
-      short : c.line + length (with_ahead (record_ahead c.standing c.row) (behind_of c.standing c.reader)) ≤ max_lines;
+      short : c.line + length (with_ahead (record_ahead c.lookahead c.row) (behind_of c.lookahead c.reader)) ≤ max_lines;
     } };
 }
 
@@ -63,7 +63,7 @@ impl<'a> CsvRecords<'a> {
                 .flexible(true)
                 .from_reader(alloc, text),
             row: ByteRecord::new(alloc),
-            standing: Standing::Taken,
+            lookahead: Lookahead::Taken,
             line,
         }
     }
@@ -76,24 +76,24 @@ impl<'a> CsvRecords<'a> {
         ensures waits { result ≡ Ok true → IsSome self.new.ahead }
         ensures ended { result ≡ Ok false → with_ahead self.new.ahead self.new.behind ≡ [] }
     {
-        match &self.standing {
-            Standing::Ahead => return Ok(true),
-            Standing::Ended => return Ok(false),
-            Standing::Failed(wanting) => return Err(*wanting),
-            Standing::Taken => {}
+        match &self.lookahead {
+            Lookahead::Ahead => return Ok(true),
+            Lookahead::Ended => return Ok(false),
+            Lookahead::Failed(wanting) => return Err(*wanting),
+            Lookahead::Taken => {}
         }
         match self.reader.read_byte_record(&mut self.row) {
             Ok(true) => {
-                self.standing = Standing::Ahead;
+                self.lookahead = Lookahead::Ahead;
                 Ok(true)
             }
             Ok(false) => {
-                self.standing = Standing::Ended;
+                self.lookahead = Lookahead::Ended;
                 Ok(false)
             }
             Err(error) => {
                 let wanting = OutOfMemory::told_by(&error);
-                self.standing = Standing::Failed(wanting);
+                self.lookahead = Lookahead::Failed(wanting);
                 Err(wanting)
             }
         }
@@ -140,7 +140,7 @@ impl<'a> CsvRecords<'a> {
         ensures taken { self.new ≡ record { ahead = None; behind = self.old.behind; line = self.old.line + 1 } }
         ensures within { self.new.line ≤ MAX_LINES }
     {
-        self.standing = Standing::Taken;
+        self.lookahead = Lookahead::Taken;
         self.line += 1;
     }
 }

@@ -7,7 +7,7 @@ ghost use Rattle.xm_files.specs.Carry.{entry_name, one_more, with_one_more};
 ghost use Rattle.xm_files.specs.FileFaults.{is_from_outside};
 
 use crate::file_faults::{FileCause, FileFault};
-use crate::listed::Entry;
+use crate::listed::CarriedEntry;
 use crate::orders::fault_at;
 use std::alloc::Global;
 use std::marker::Model;
@@ -60,7 +60,7 @@ impl EntryLists {
     }
 
     /// Adds an entry at the end, whose record has this number.
-    pub(crate) fn add(&mut self, line: u32, entry: &Entry) -> Result<(), FileFault>
+    pub(crate) fn add(&mut self, line: u32, entry: &CarriedEntry) -> Result<(), FileFault>
         ensures ok { OnOk result (with_one_more line self.old entry.now ≡ Ok self.new) }
         ensures err { IfErr result (λ fault. fault.cause ≢ FileCause.OutOfMemory tt → with_one_more line self.old entry.now ≡ Err fault) }
         ensures memory { IfErr result (λ fault. OnTrue (is_from_outside fault.cause) (fault.line ≡ 0)) }
@@ -76,7 +76,7 @@ impl EntryLists {
     }
 
     /// Whether one of them has the name of this entry.
-    pub(crate) fn has_name_of(&self, entry: &Entry) -> bool
+    pub(crate) fn has_name_of(&self, entry: &CarriedEntry) -> bool
         ensures { result ≡ list_any (is_same_name (entry_name entry.now)) (names self.now) }
     {
         let (member, reference) = entry.name();
@@ -84,7 +84,7 @@ impl EntryLists {
     }
 
     /// Adds an entry at the end that has a name of its own.
-    fn push(&mut self, entry: &Entry) -> Result<(), OutOfMemory>
+    fn push(&mut self, entry: &CarriedEntry) -> Result<(), OutOfMemory>
         requires { list_any (is_same_name (entry_name entry.now)) (names self.old) ≡ false }
         ensures { OnOk result (self.new ≡ one_more self.old entry.now) }
     {
@@ -121,14 +121,14 @@ impl EntryLists {
 fn push_entry(
     orders: &mut Vec<Order>,
     stops: &mut Vec<Stop>,
-    entry: &Entry,
+    entry: &CarriedEntry,
 ) -> Result<(), OutOfMemory>
     ensures ok { OnOk result (record { orders = orders.new.items; stops = stops.new.items } ≡ one_more (record { orders = orders.old.items; stops = stops.old.items }) entry.now) }
     ensures err { OnErr result ((orders.new.items ≡ orders.old.items) × (stops.new.items ≡ stops.old.items)) }
 {
     match entry {
-        Entry::Order(order) => push(orders, order),
-        Entry::Stop(stop) => push(stops, stop),
+        CarriedEntry::Order(order) => push(orders, order),
+        CarriedEntry::Stop(stop) => push(stops, stop),
     }
 }
 

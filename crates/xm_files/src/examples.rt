@@ -11,7 +11,7 @@ ghost use Rattle.xm_files.specs.declared.file_faults.FileCause.TheVariants.{BadF
 ghost use Rattle.xm_files.specs.declared.columns.Column.TheVariants as column;
 ghost use Rattle.xm_files.specs.declared.entries.Word.TheVariants as word;
 ghost use Rattle.xm_files.specs.declared.order_format.OrderFormat.TheVariants.{First, Second, Carry};
-ghost use Rattle.xm_files.specs.declared.listed.Entry.TheVariants as entry;
+ghost use Rattle.xm_files.specs.declared.listed.CarriedEntry.TheVariants as entry;
 ghost use Rattle.xm_rules.specs.declared.commands.Command.TheVariants.{Cancel, CancelAll, Change, EndDay, StartClosing, StartIntraday, StartOpening, Uncross};
 ghost use Rattle.xm_rules.specs.declared.commands.Condition.TheVariants.{Fok, Ioc, Plain};
 ghost use Rattle.xm_rules.specs.declared.commands.Kind.TheVariants.{Limit, Market, StopLimit, StopMarket};

@@ -13,28 +13,28 @@ use xm_rules::{Command, Condition, Kind, Order, Restriction, Stop, Validity, is_
 
 /// An order or a stop that an earlier day left.
 #[derive(Clone, Copy)]
-pub(crate) enum Entry {
+pub(crate) enum CarriedEntry {
     Order(Order),
     Stop(Stop),
 }
 
-impl Entry {
+impl CarriedEntry {
     /// The member, and the member's own reference.
     pub(crate) fn name(&self) -> (u32, u32)
         ensures { result ≡ entry_name self.now }
     {
         match self {
-            Entry::Order(order) => (order.member, order.reference),
-            Entry::Stop(stop) => (stop.member, stop.reference),
+            CarriedEntry::Order(order) => (order.member, order.reference),
+            CarriedEntry::Stop(stop) => (stop.member, stop.reference),
         }
     }
 }
 
 /// What a record says: an order or a stop of the security with this index.
 #[derive(Clone, Copy)]
-pub(crate) struct Listed {
+pub(crate) struct ListedEntry {
     pub(crate) security: u32,
-    pub(crate) entry: Entry,
+    pub(crate) entry: CarriedEntry,
 }
 
 /// What a record of the carry file says, if each of its fields is lawful.
@@ -42,7 +42,7 @@ pub(crate) fn parse_listed(
     fields: &Fields,
     names: &SegmentNames,
     securities: &[SecurityConfig],
-) -> Option<Listed>
+) -> Option<ListedEntry>
     requires { fields.now.format ≡ OrderFormat.Carry }
     ensures says { result ≡ listed_in names.now securities.now (texts_of fields.now) }
     ensures known { IfSome result (λ listed. listed.security < length names.now.securities) }
@@ -54,7 +54,7 @@ pub(crate) fn parse_listed(
     }
     let command = order(fields, member, tick(securities, security))?;
     let entry = entry_left(command)?;
-    Some(Listed { security, entry })
+    Some(ListedEntry { security, entry })
 }
 
 /// The index of a name, if it is below the number of names, which is that of an unknown one.
@@ -65,7 +65,7 @@ fn known(index: u32, count: u32) -> Option<u32>
 }
 
 /// What a command would have entered on an earlier day, if that may be left.
-fn entry_left(command: Command) -> Option<Entry>
+fn entry_left(command: Command) -> Option<CarriedEntry>
     ensures { result ≡ entry_left command }
 {
     match command {
@@ -108,12 +108,12 @@ fn may_be_listed(kind: Kind, quantity: u32, validity: Validity, restriction: Res
 }
 
 /// An order, or the stop with this trigger that becomes it.
-fn entry_with_trigger(trigger: Option<u32>, order: Order) -> Entry
+fn entry_with_trigger(trigger: Option<u32>, order: Order) -> CarriedEntry
     ensures { result ≡ entry_with_trigger trigger order }
 {
     match trigger {
-        None => Entry::Order(order),
-        Some(trigger) => Entry::Stop(Stop {
+        None => CarriedEntry::Order(order),
+        Some(trigger) => CarriedEntry::Stop(Stop {
             member: order.member,
             reference: order.reference,
             side: order.side,

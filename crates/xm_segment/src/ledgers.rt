@@ -2,7 +2,7 @@
 ghost use Rattle.std.specs.Prelude.{◌≡◌, ◌+◌, ◌-◌, ◌<◌, ◌≤◌, Ok};
 ghost use Rattle.xm_segment.specs.Ledgers.{both_sums, no_sums, with_answer};
 
-use crate::naming::{Accepted, Money, Naming, Quantity};
+use crate::naming::{AcceptedCount, Money, Naming, Quantity};
 use std::marker::Model;
 use std::sync::ledger::{Blank, Book, Share};
 use xm_rules::Reply;
@@ -39,7 +39,7 @@ impl Model for LaneBlanks {
 
 /// The three books of a security. A clause sees their totals.
 pub struct Books<S: Naming, const K: usize> {
-    accepted: Book<Accepted<S, K>>,
+    accepted: Book<AcceptedCount<S, K>>,
     quantity: Book<Quantity<S, K>>,
     money: Book<Money<S, K>>,
 }
@@ -65,7 +65,7 @@ impl<S: Naming, const K: usize> Model for Books<S, K> {
 
 /// A share of each of the three ledgers of a security. A clause sees how many parts they have, and their amounts.
 pub struct Shares<S: Naming, const K: usize> {
-    accepted: Share<Accepted<S, K>>,
+    accepted: Share<AcceptedCount<S, K>>,
     quantity: Share<Quantity<S, K>>,
     money: Share<Money<S, K>>,
 }
@@ -116,7 +116,7 @@ impl LaneBlanks {
             quantity,
             money,
         } = self;
-        let (accepted_book, accepted) = accepted.open::<Accepted<S, K>>();
+        let (accepted_book, accepted) = accepted.open::<AcceptedCount<S, K>>();
         let (quantity_book, quantity) = quantity.open::<Quantity<S, K>>();
         let (money_book, money) = money.open::<Money<S, K>>();
         (

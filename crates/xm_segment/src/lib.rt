@@ -29,7 +29,7 @@ pub use crate::gate::{Gate, NoGate};
 pub use crate::gathered::{GatherFault, Gathered};
 pub use crate::ledgers::{Books, Shares};
 pub use crate::locked::{Locked, QuoteBoard, QuoteWatch};
-pub use crate::naming::{Accepted, Money, Naming, Quantity, Quotes};
+pub use crate::naming::{AcceptedCount, Money, Naming, Quantity, Quotes};
 pub use crate::opened::Opened;
 pub use crate::seat::{Seat, WatchRow};
 pub use crate::segment::Segment;

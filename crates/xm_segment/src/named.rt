@@ -78,7 +78,7 @@ impl<S: Naming> Model for NamedBoards<S> {
 /// Gives each board its name, and as many watches as there are rows.
 pub(crate) fn named_boards<S: Naming>(
     alloc: Global,
-    mut boards: Vec<xm_board::Opened<Global>>,
+    mut boards: Vec<xm_board::OpenedBoard<Global>>,
     rows: u32,
 ) -> Result<NamedBoards<S>, OutOfMemory>
     requires few { length S.settings ≤ MAX_SECURITIES }
@@ -108,7 +108,7 @@ pub(crate) fn named_boards<S: Naming>(
 /// The board of the lane with this index, for which the last one is taken where there are more than its index.
 fn last_board<S: Naming, const K: usize>(
     alloc: Global,
-    boards: &mut Vec<xm_board::Opened<Global>>,
+    boards: &mut Vec<xm_board::OpenedBoard<Global>>,
     rows: u32,
 ) -> Result<Option<NamedBoard<S, K>>, OutOfMemory>
     requires { AreBoards (take (K + 1) S.settings) S.boards boards.old.items }

@@ -35,11 +35,11 @@ impl Naming for Brand {
 }
 
 /// Names the ledger of the commands that the desk with this index accepted.
-pub struct Accepted<S, const K: usize> {
+pub struct AcceptedCount<S, const K: usize> {
     of: PhantomData<S>,
 }
 
-impl<S: Naming, const K: usize> Ledger for Accepted<S, K> {
+impl<S: Naming, const K: usize> Ledger for AcceptedCount<S, K> {
     ghost use Rattle.std.specs.Prelude.{◌+◌};
 
     ghost name = { (S.ledgers K).accepted };

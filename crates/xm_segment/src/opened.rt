@@ -30,7 +30,7 @@ use xm_name_index::Storage;
 /// their names. A clause sees the settings of its securities, the boards, the ledgers, and for how many workers and watchers it is.
 pub struct Opened {
     desks: Vec<Box<Desk<Global>>>,
-    boards: Vec<xm_board::Opened<Global>>,
+    boards: Vec<xm_board::OpenedBoard<Global>>,
     blanks: Blanks,
     workers: u32,
     watchers: u32,
@@ -119,13 +119,13 @@ fn boxed(alloc: Global, desks: Vec<Desk<Global>>) -> Result<Vec<Box<Desk<Global>
 fn boards_of(
     alloc: Global,
     desks: &[Desk<Global>],
-) -> Result<Vec<xm_board::Opened<Global>>, OutOfMemory>
+) -> Result<Vec<xm_board::OpenedBoard<Global>>, OutOfMemory>
     requires { (i : ℕ) (desk : Journal) → slice_get desks.now i ≡ Some desk → desk.commands ≡ [] }
     ensures { IfOk result (λ boards. map (λ board. board.settings) boards.items ≡ map (λ desk. desk.settings) desks.now) }
 {
     let mut boards = Vec::with_capacity(alloc, desks.len())?;
     for desk in desks {
-        let board = xm_board::Opened::new(alloc, desk.settings(), &desk.quote())?;
+        let board = xm_board::OpenedBoard::new(alloc, desk.settings(), &desk.quote())?;
         boards.push_reserved(board);
     }
     Ok(boards)

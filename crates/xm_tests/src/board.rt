@@ -9,7 +9,7 @@ mod script;
 use std::alloc::Allocator;
 use std::marker::Brand;
 use std::process::Abort;
-use xm_board::{Board, BoardNaming, Opened};
+use xm_board::{Board, BoardNaming, OpenedBoard};
 use xm_memory::OutOfMemory;
 use xm_rules::{Auction, CallStage, Carried, Command, DeskSettings, Phase, Quote, Widths};
 use xm_ticks::{JournalLimit, Price, TickSize};
@@ -48,7 +48,7 @@ fn quote_in(settings: &DeskSettings, version: u64, phase: Phase) -> Quote
 /// Publishes the opening call on a board, and reads before and after.
 fn read_on<N: BoardNaming, A: Allocator + Copy>(
     alloc: A,
-    opened: Opened<A>,
+    opened: OpenedBoard<A>,
     first: &Quote,
 ) -> Result<Option<Seen>, OutOfMemory>
     requires named { opened.table ≡ N.table }
@@ -79,7 +79,7 @@ pub fn read<A: Allocator + Copy>(
     requires { settings.now.carried ≡ none_left }
 {
     let quote = quote_in(settings, 0, Phase::PreTrading);
-    let opened = Opened::new(alloc, settings, &quote)?;
+    let opened = OpenedBoard::new(alloc, settings, &quote)?;
     let first = quote_in(
         settings,
         1,

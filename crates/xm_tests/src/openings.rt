@@ -11,7 +11,7 @@ use xm_positions::Positions;
 enum Call {
     /// `Positions::new`, for so many members.
     Positions(u32),
-    /// `Opened::new` of a board and `Board::open`, for two watches.
+    /// `OpenedBoard::new` and `Board::open`, for two watches.
     Board,
 }
 

@@ -2,10 +2,10 @@
 use denote.Param.Send.{IsSend, sendable}
 use Rattle.std.proofs.Crossing.{crosses}
 use Rattle.xm_desk.proofs.Crosses.{desk-send}
-use Rattle.xm_threads.specs.contracts.lanes.Lane as Lane
+use Rattle.xm_threads.specs.contracts.lanes.DeskLane as DeskLane
 use Rattle.xm_threads.specs.contracts.sections.Section as Section
 
-pub lane-send : IsSend Lane.the_field.row
+pub lane-send : IsSend DeskLane.the_field.row
 lane-send = let a = desk-send in search (sendable, crosses) depth 30
 
 pub section-send : IsSend Section.the_field.row

@@ -7,7 +7,7 @@ ghost use Rattle.xm_texts.specs.declared.asked.AskedTexts.{AskedTexts};
 ghost use Rattle.xm_files.specs.Batches.{rows_so_far, text_left};
 ghost use Rattle.xm_files.specs.declared.bytes.TheConstants.{MAX_BYTES};
 
-use crate::lanes::{Lane, closed, open_lanes, take_apart};
+use crate::lanes::{DeskLane, closed, open_lanes, take_apart};
 use crate::merged::Merged;
 use std::alloc::Global;
 use std::thread::Threads;
@@ -59,7 +59,7 @@ fn take_file<T: Threads + Sync>(
     names: &SegmentNames,
     texts: &mut RecordTexts<'_>,
     file: &mut RowReader<'_>,
-    opened: Result<Vec<Lane>, DayFault>,
+    opened: Result<Vec<DeskLane>, DayFault>,
     asked: AskedTexts,
 ) -> Result<Result<OpenDay, DayFault>, FileFault>
     requires threads { 1 ≤ threads }
@@ -114,7 +114,7 @@ fn take_batches<T: Threads + Sync>(
     config: &SegmentConfig,
     names: &SegmentNames,
     texts: &mut RecordTexts<'_>,
-    lanes: &mut [Lane],
+    lanes: &mut [DeskLane],
     merged: &mut Merged,
     file: &mut RowReader<'_>,
 ) -> Result<Batch, FileFault>
@@ -158,7 +158,7 @@ fn take_beside<T: Threads + Sync>(
     names: &SegmentNames,
     texts: &mut RecordTexts<'_>,
     batch: &Batch,
-    lanes: &mut [Lane],
+    lanes: &mut [DeskLane],
     merged: &mut Merged,
     next: &mut Batch,
     parts: &mut FileParts,

@@ -31,7 +31,7 @@ use xm_texts::{AskedTexts, MarketDepth};
 /// The desk of a security, what is asked for of its rows, what it keeps of those that aren't told yet, and the want of memory that it met.
 /// From then on it takes no row.
 #[derive(Drop)]
-pub(crate) struct Lane {
+pub(crate) struct DeskLane {
     asked: AskedTexts,
     desk: Desk<Global>,
     kept: KeptRows,
@@ -40,7 +40,7 @@ pub(crate) struct Lane {
     wanting: Option<OutOfMemory>,
 }
 
-impl Model for Lane {
+impl Model for DeskLane {
     ghost use Rattle.std.specs.Prelude.{◌≡◌, is_some};
     ghost use Rattle.std.specs.Bool.{OnTrue};
     ghost use Rattle.xm_threads.specs.Lanes.{LaneView};
@@ -54,18 +54,18 @@ impl Model for Lane {
     ghost invariant = { λ l. OnTrue l.asked.depth (l.shown ≡ market_depth (replay l.desk)) };
 }
 
-impl Lane {
+impl DeskLane {
     ghost use Rattle.std.specs.Prelude.{◌≡◌, IfOk, OnErr, OnOk, false, true};
     ghost use Rattle.xm_threads.specs.KeptRows.{behind_first};
     ghost use Rattle.xm_threads.specs.Lanes.{fresh_lane, lane_after, with_first};
     ghost use Rattle.xm_files.specs.RecordTexts.{text_of_record};
 
     /// A desk that takes rows, of which these texts are told.
-    fn of(alloc: Global, desk: Desk<Global>, asked: AskedTexts) -> Lane
+    fn of(alloc: Global, desk: Desk<Global>, asked: AskedTexts) -> DeskLane
         ensures { result ≡ fresh_lane asked desk }
     {
         let shown = MarketDepth::of(&desk);
-        Lane {
+        DeskLane {
             asked,
             desk,
             kept: KeptRows::new(alloc),
@@ -126,7 +126,7 @@ impl Lane {
         ensures had_memory { OnOk result (self.lacks_memory ≡ false) }
         ensures lacked { OnErr result (self.lacks_memory ≡ true) }
     {
-        let Lane { desk, wanting, .. } = self;
+        let DeskLane { desk, wanting, .. } = self;
         match wanting {
             None => Ok(desk),
             Some(wanting) => Err(wanting),
@@ -170,7 +170,7 @@ pub(crate) fn open_lanes(
     storage: Storage<Global>,
     config: &SegmentConfig,
     asked: AskedTexts,
-) -> Result<Vec<Lane>, DayFault>
+) -> Result<Vec<DeskLane>, DayFault>
     ensures { AreOpened (λ lanes. lanes.items) asked config.now result }
 {
     let desks = open_desks(storage, config)?;
@@ -183,12 +183,12 @@ fn lanes_of(
     alloc: Global,
     desks: Vec<Desk<Global>>,
     asked: AskedTexts,
-) -> Result<Vec<Lane>, OutOfMemory>
+) -> Result<Vec<DeskLane>, OutOfMemory>
     ensures { IfOk result (λ lanes. lanes.items ≡ map (fresh_lane asked) desks.items) }
 {
     let mut lanes = Vec::with_capacity(alloc, desks.len())?;
     for desk in desks {
-        lanes.push(Lane::of(alloc, desk, asked))?;
+        lanes.push(DeskLane::of(alloc, desk, asked))?;
     }
     Ok(lanes)
 }
@@ -200,7 +200,7 @@ pub(crate) fn take_apart<T: Threads + Sync>(
     names: &SegmentNames,
     texts: &mut RecordTexts<'_>,
     batch: &Batch,
-    lanes: &mut [Lane],
+    lanes: &mut [DeskLane],
     merged: &mut Merged,
 )
     requires { 0 < size }
@@ -218,7 +218,7 @@ fn take_parts<T: Threads + Sync>(
     size: usize,
     names: &SegmentNames,
     rows: &[Row],
-    lanes: &mut [Lane],
+    lanes: &mut [DeskLane],
 )
     requires { 0 < size }
     ensures { TookOwnRows names.now 0 lanes.old rows.now lanes.new }
@@ -232,7 +232,7 @@ fn take_parts<T: Threads + Sync>(
 }
 
 /// Has the securities from an index on take their rows.
-fn take_part(first: usize, names: &SegmentNames, lanes: &mut [Lane], rows: &[Row])
+fn take_part(first: usize, names: &SegmentNames, lanes: &mut [DeskLane], rows: &[Row])
     ensures { TookOwnRows names.now first lanes.old rows.now lanes.new }
 {
     for row in rows {
@@ -242,7 +242,7 @@ fn take_part(first: usize, names: &SegmentNames, lanes: &mut [Lane], rows: &[Row
 
 /// Has the security of a row take it, if it is one of those from an index on.
 #[inline(always)]
-fn take_row(first: usize, names: &SegmentNames, lanes: &mut [Lane], row: &Row)
+fn take_row(first: usize, names: &SegmentNames, lanes: &mut [DeskLane], row: &Row)
     ensures { (k : ℕ) (d : LaneView) → k < length lanes.old → (slice_index_or lanes.new k d).lacks_memory ≡ false
         → ((slice_index_or lanes.old k d).lacks_memory ≡ false) × (slice_index_or lanes.new k d ≡ lane_row names.now (first + k) (slice_index_or lanes.old k d) row.now) }
 {
@@ -259,7 +259,7 @@ fn take_row(first: usize, names: &SegmentNames, lanes: &mut [Lane], row: &Row)
 pub(crate) fn closed(
     alloc: Global,
     config: &SegmentConfig,
-    lanes: Vec<Lane>,
+    lanes: Vec<DeskLane>,
     merged: Merged,
     batch: &Batch,
 ) -> Result<OpenDay, DayFault>
@@ -280,7 +280,7 @@ pub(crate) fn closed(
 }
 
 /// The desks of securities, unless memory was wanting for one of their rows.
-fn into_desks(lanes: Vec<Lane>) -> Result<Vec<Desk<Global>>, OutOfMemory>
+fn into_desks(lanes: Vec<DeskLane>) -> Result<Vec<Desk<Global>>, OutOfMemory>
     ensures desks { IfOk result (λ desks. desks.items ≡ map (λ (l : LaneView). l.journal) lanes.items) }
     ensures had_memory { OnOk result (All (λ (l : LaneView). l.lacks_memory ≡ false) lanes.items) }
 {

@@ -3,7 +3,7 @@ ghost use Rattle.std.specs.Prelude.{◌≡◌, OnOk};
 ghost use Rattle.xm_threads.specs.Lanes.{IsAdded, told_row};
 ghost use Rattle.xm_files.specs.RecordTexts.{text_of_record};
 
-use crate::lanes::Lane;
+use crate::lanes::DeskLane;
 use crate::row_texts::RowTexts;
 use std::alloc::Global;
 use std::marker::Model;
@@ -55,7 +55,7 @@ impl Merged {
     }
 
     /// Adds what securities are to tell of rows that they have taken. The texts are those of the file of the rows.
-    pub(crate) fn add(&mut self, texts: &mut RecordTexts<'_>, rows: &[Row], lanes: &mut [Lane])
+    pub(crate) fn add(&mut self, texts: &mut RecordTexts<'_>, rows: &[Row], lanes: &mut [DeskLane])
         ensures added { self.new.lacks_memory ≡ false → (self.old.lacks_memory ≡ false) × IsAdded texts.old.orders rows.now lanes.old self.old.texts lanes.new self.new.texts }
         ensures texts { texts.new.orders ≡ texts.old.orders }
     {
@@ -84,7 +84,7 @@ fn tell_rows(
     told: &mut RowTexts,
     texts: &mut RecordTexts<'_>,
     rows: &[Row],
-    lanes: &mut [Lane],
+    lanes: &mut [DeskLane],
 ) -> Result<(), OutOfMemory>
     ensures added { OnOk result (IsAdded texts.old.orders rows.now lanes.old told.old lanes.new told.new) }
     ensures texts { texts.new.orders ≡ texts.old.orders }
@@ -103,7 +103,7 @@ fn tell_row(
     told: &mut RowTexts,
     texts: &mut RecordTexts<'_>,
     row: &Row,
-    lanes: &mut [Lane],
+    lanes: &mut [DeskLane],
 ) -> Result<(), OutOfMemory>
     ensures added { OnOk result (record { lanes = lanes.new; texts = told.new } ≡ told_row (text_of_record texts.old.orders) (record { lanes = lanes.old; texts = told.old }) row.now) }
     ensures texts { texts.new.orders ≡ texts.old.orders }

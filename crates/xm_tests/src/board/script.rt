@@ -10,7 +10,7 @@ use std::marker::Brand;
 use std::sync::Wait;
 use std::sync::atomic::{AtomicU64, Ordering};
 use std::thread::{self, Threads};
-use xm_board::{Board, BoardNaming, Opened, Pen, Watch};
+use xm_board::{Board, BoardNaming, OpenedBoard, Pen, Watch};
 use xm_memory::OutOfMemory;
 use xm_rules::{
     Auction, CallStage, Carried, Command, Condition, DeskSettings, Kind, Phase, Quote, Restriction,
@@ -267,7 +267,7 @@ fn publish_beside<N: BoardNaming + Send + Sync, R: Threads + Sync>(
 /// The same on a board that a type names.
 fn read_beside<N: BoardNaming + Send + Sync, R: AllocGlobal + Threads + Wait + Sync>(
     rt: &R,
-    opened: Opened<Global>,
+    opened: OpenedBoard<Global>,
 ) -> Result<Vec<bool>, OutOfMemory>
     requires named { opened.table ≡ N.table }
     requires settings { opened.settings ≡ script_settings }
@@ -282,6 +282,6 @@ pub(super) fn read_published<R: AllocGlobal + Threads + Wait + Sync>(
 ) -> Result<Vec<bool>, OutOfMemory> {
     let settings = script_settings();
     let first = quote_in(&settings, 0, Phase::PreTrading);
-    let opened = Opened::new(rt.alloc(), &settings, &first)?;
+    let opened = OpenedBoard::new(rt.alloc(), &settings, &first)?;
     read_beside::<Brand, R>(rt, opened)
 }

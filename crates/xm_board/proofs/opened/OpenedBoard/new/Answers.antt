@@ -5,7 +5,7 @@ use Rattle.xm_board.specs.Words.{quote_words}
 use Rattle.xm_rules.specs.declared.replies.Quote.{Quote}
 use Rattle.xm_board.proofs.Steps.{begins}
 use Rattle.xm_board.proofs.Quotes.{published_opening}
-use Rattle.xm_board.proofs.opened.Opened.new.Goals as goal
+use Rattle.xm_board.proofs.opened.OpenedBoard.new.Goals as goal
 
 pub of_words-requires : goal.of_words-requires
 of_words-requires g c =

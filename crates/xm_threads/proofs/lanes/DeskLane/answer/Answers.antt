@@ -3,7 +3,7 @@ use Rattle.xm_texts.proofs.Then.{ok-then}
 use Rattle.xm_threads.proofs.Merging.{kept-own, lane-answered}
 use Rattle.xm_threads.specs.KeptRows.{KeptRow}
 use Rattle.xm_threads.specs.Lanes.{LaneView, asks_any, if_asked, lane_after, own_kept}
-use Rattle.xm_threads.proofs.lanes.Lane.answer.Goals as goal
+use Rattle.xm_threads.proofs.lanes.DeskLane.answer.Goals as goal
 
 pub returns : goal.returns
 returns c =
