@@ -12,7 +12,7 @@ MOST = {
     "README.md": 900,
     "CHANGELOG.md": 600,
     "CONTRIBUTING.md": 2750,
-    "docs/ARCHITECTURE.md": 2500,
+    "docs/ARCHITECTURE.md": 1150,
     "docs/CASES.md": 1500,
     "docs/DECISIONS.md": 2750,
     "docs/FORMATS.md": 4000,
@@ -24,7 +24,7 @@ MOST = {
     "docs/WHOLE_DAY.md": 1250,
     "docs/WRONG_VARIANTS.md": 1150,
 }
-MOST_IN_ALL = 25_600
+MOST_IN_ALL = 24_000
 LONGEST_SENTENCE = 45
 # What is no file of the repository, though it is named as one: files that a build makes, and names that stand for any.
 MADE = ("out/",)

@@ -1,5 +1,7 @@
 //! The quote of one security, which one pen writes and watches read without a lock.
 //!
+//! `board` has what a pen and a watch are given to: `publish` writes the quote, and `tell` tells a watch what was published. `watch` reads it.
+//!
 //! A board has eight words that all threads share: a sequence and the seven words of the quote (`words`). The sequence is twice the
 //! version that is published, and one more while the pen writes:
 //!

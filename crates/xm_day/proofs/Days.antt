@@ -3,8 +3,8 @@ use Rattle.std.proofs.Common.{◌≡◌, ◌∙◌, ℕ, Bool, true, false, List
 use Rattle.std.specs.Io.KnownBytes.{Appends}
 use Rattle.xm_day.proofs.Endings.{rows-of-file}
 use Rattle.xm_day.specs.Answers.{DayEnds, DayOfRowsEnds, FileRun, InFileOrder, IsSegmentOf, OrdersEnd, StatementEnds, statement_of}
-use Rattle.xm_day.specs.CarriedDays.{BothEnd, CarriedDayEnds, IsCutOff, OpensWith, Outputs, carry_text_of}
-use Rattle.xm_day.specs.Days.{AreTextsOf, BothBegun, BothWritten, DayFiles, GivesTexts, HasTakenRows, HasTexts, HasTextsOf, IsDay, IsDayOfRows, IsStated, IsUntold, OpeningRead, OpensBy, SharesRows, States, StatementWritten, TakesFile, TakesRows, hands_on, nothing_asked, taken_day, text_where}
+use Rattle.xm_day.specs.CarriedDays.{BothEnd, CarriedDayEnds, IsCutOff, OpensWith, Outputs}
+use Rattle.xm_day.specs.Days.{BothBegun, BothWritten, DayFiles, HasTextsOf, IsDay, IsDayOfRows, IsStated, OpeningRead, OpensBy, SharesRows, StatementWritten, TakesFile, nothing_asked, taken_day, text_where}
 use Rattle.xm_day.specs.declared.value.DayTexts.{DayTexts}
 use Rattle.xm_day.specs.declared.value.HandsOn.{HandsOn}
 use Rattle.xm_day.specs.declared.value.HandsOn.TheVariants.{WhatIsLeft}
@@ -14,7 +14,7 @@ use Rattle.xm_config.specs.Day.{Day, day_of}
 use Rattle.xm_texts.specs.Feeds.{Feed, feed_of}
 use Rattle.xm_texts.specs.RowAnswers.{answers_text, where_asked}
 use Rattle.xm_texts.specs.RowTrades.{trades_text}
-use Rattle.xm_replay.specs.Taken.{DesksEnd, IsOpenFault, RowsTaken}
+use Rattle.xm_replay.specs.Taken.{IsOpenFault, RowsTaken}
 use Rattle.xm_replay.specs.declared.desks.OpenDay.{OpenDay}
 use Rattle.xm_replay.specs.declared.faults.DayFault.{DayFault}
 use Rattle.xm_replay.specs.declared.faults.DayFault.TheVariants.{Segment, Carry, Orders, Open, OutOfMemory, WriteFailed}

@@ -19,7 +19,7 @@ use Rattle.xm_replay.specs.Taken.{DesksEnd, IsOpenFault}
 use Rattle.xm_texts.specs.Asked.{TellsNothing}
 use Rattle.xm_replay.specs.declared.desks.OpenDay.{OpenDay}
 use Rattle.xm_replay.specs.declared.faults.DayFault.{DayFault}
-use Rattle.xm_replay.specs.declared.faults.DayFault.TheVariants.{Segment, Carry, Orders, Open, OutOfMemory, WriteFailed}
+use Rattle.xm_replay.specs.declared.faults.DayFault.TheVariants.{Segment, Carry, Open, OutOfMemory, WriteFailed}
 use Rattle.xm_texts.specs.declared.asked.AskedTexts.{AskedTexts}
 use Rattle.xm_replay.specs.declared.report.DayReport.{DayReport}
 use Rattle.xm_config.specs.Opening.{segment_fault}

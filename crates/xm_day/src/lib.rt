@@ -1,6 +1,9 @@
-//! The day of a segment as a value: its files are opened, its rows are taken in one of three ways, and its texts are made: its statement,
-//! beside it the answers to its rows, its trades and the levels behind its rows, and what it leaves to the next day. `calls` has the same with
-//! readers and writers; and a segment file is checked.
+//! The day of a segment as a value: its files are opened, its rows are taken in one of three ways, and its texts are made: its
+//! statement, beside it the answers to its rows, its trades and the levels behind its rows, and what it leaves to the next day.
+//!
+//! `opening` reads the segment file and the carry file. `taking` has the three ways, and makes the statement, in the pieces of
+//! `statement_text`; for each way `order_file` reads the order file and has its rows taken. `value` makes all texts. `calls` has days
+//! with readers and writers, and `send_statement`, which the program writes with too. `checks` makes the line of the command `check`.
 #![tactic(auto)]
 
 mod calls;

@@ -1,5 +1,5 @@
 //! The desks of a segment that have taken an order file.
-ghost use Rattle.std.specs.Prelude.{◌≡◌, ◌≤◌, length};
+ghost use Rattle.std.specs.Prelude.{◌≡◌, ◌≤◌};
 ghost use Rattle.xm_replay.specs.Taken.{HasTaken, RowsTaken};
 ghost use Rattle.xm_day.specs.Answers.{FileRun};
 ghost use Rattle.xm_day.specs.Days.{IsUntold, SharesRows};

@@ -1,9 +1,11 @@
 //! The files that a day is read from: what the bytes of a segment file, of a carry file and of an order file give.
 //!
-//! `segment` reads the first, `carry` puts into the settings what the second lists. `orders` reads the third, a `batch` of rows at a
-//! time: `headers` finds its format, of which `order_format` has the columns, commands and conditions. `records` finds the fields of a
-//! record: a line without quotes by `marks` where it stands, any other by `csv_records`. `entries` tells what the record says, and
-//! `record_texts` its free text. `timetable` cuts rows into rounds and shares.
+//! `bytes` reads a file whole. `segment` reads the first. `carry` puts into the settings what the second lists: `listed` is what a
+//! record says, and `entry_lists` what a security has. `orders` reads the third, a `batch` at a time, as far as `part` says: so many rows,
+//! or a round. `headers` finds its format, and `order_format` says which `columns`, commands and conditions that has. `records` finds the
+//! fields of a record: a line without quotes by `marks` where it stands, any other by `csv_records`. `entries` tells what the record says,
+//! with words and numbers from `fields` and indices from `names`. A row has no free text: `record_texts` reads it again where it is told.
+//! `timetable` finds the phase rows of a round, and the share of each worker.
 //!
 //! For several threads `file_parts` also cuts the text at line feeds, and guesses the number of each part's first record. A part is
 //! kept only where it begins at the byte, and with the number, at which those before it ended. Nothing is proved of a guess; quotes

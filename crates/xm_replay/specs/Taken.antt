@@ -1,5 +1,5 @@
 -- What desks have taken of the rows of an order file, and what they told of them.
-use Rattle.std.specs.Prelude.{◌≡◌, ℕ, ◌+◌, List, [], length, sum_by, Result, Ok, Err}
+use Rattle.std.specs.Prelude.{◌≡◌, ℕ, ◌+◌, List, [], length, sum_by, None, Some, Result, Ok, Err}
 use Rattle.std.specs.Bool.{OnFalse, OnTrue}
 use Rattle.xm_config.specs.Day.{Day, LacksMemoryAt, day, day_of, opening_day}
 use Rattle.xm_texts.specs.Feeds.{feed_of}

@@ -1,5 +1,5 @@
 //! The rows that the desks of a segment take.
-ghost use Rattle.std.specs.Prelude.{ℕ, Bool, ◌≡◌, ◌≢◌, ◌+◌, ◌<◌, ◌^◌, ◌++◌, List, [], All, Err, IfErr, IfOk, OnErr, OnOk, Some, false, length, map, option_map, true};
+ghost use Rattle.std.specs.Prelude.{ℕ, ◌≡◌, ◌≢◌, ◌+◌, ◌<◌, ◌^◌, ◌++◌, List, [], Err, IfOk, OnErr, OnOk, length, map, option_map};
 ghost use Rattle.xm_replay.specs.Taken.{HasTaken};
 ghost use Rattle.xm_texts.specs.Asked.{TellsNothing};
 ghost use Rattle.xm_config.specs.Day.{Accepts, LacksMemoryAt, after_row, after_rows, counted, day_of, row_answer};

@@ -1,6 +1,7 @@
 //! The rows of a day, taken in their order by the desks of a segment, which tell the texts that are asked for.
 //!
-//! `runs` asks the file for batch after batch, and `desks` hands each row to its desk, which answers it.
+//! `runs` asks the file for batch after batch, and `desks` hands each row to its desk, which answers it. `faults` says why a day has no
+//! statement, for all crates above, and `report` counts rows.
 #![tactic(auto)]
 
 mod desks;

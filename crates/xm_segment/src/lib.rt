@@ -1,7 +1,9 @@
 //! A segment of securities that workers share: each behind its own lock, with a board of quotes that is read without one.
 //!
-//! `segment` has eight lanes, `submit` and `quote`. A `lane` is a lock and a board, and `locked` what stands behind the lock. `seat` and
-//! `working` have a worker's rows, `gathering` the end, `opened` the beginning.
+//! `working` takes a worker's rows of the order file. For each, `segment` picks one of eight lanes, the `lane` takes its lock, and
+//! `locked`, which stands behind it, has the desk take the command and the board publish it. A `seat` is what a worker holds: its shares
+//! of the ledgers, and a row of watches, one a security. `opened` is the beginning, `gathering` the end. A `gate` is for tests: the
+//! program's does nothing. `submit` and `quote` of `segment` are for callers with single commands.
 //!
 //! What stands behind a lock is known by its type alone. So settings, workers and names of ledgers are members of a type that exists
 //! in proofs alone (`naming`), and a caller picks it once by what it opened. The `ledgers` of a security are tokens without bytes:

@@ -2,8 +2,8 @@
 //! levels behind them.
 //!
 //! `statements` makes the statement from `traded`, `remaining` and `sums`, and `carry_file` what is left. `told` adds to what is
-//! `asked` for: `answers` a line for each row, `trades` one for each trade, `depth` the levels where they changed. `fields`, `quoted`
-//! and `words` are what lines are made of.
+//! `asked` for: `answers` a line for each row, `trades` one for each trade, `depth` the levels where they changed, for the option
+//! `--depth`. `lines` is such a text so far, from its header on. `fields`, `quoted` and `words` are what lines are made of.
 #![tactic(auto)]
 
 mod answers;

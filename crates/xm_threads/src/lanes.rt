@@ -90,11 +90,11 @@ impl DeskLane {
         ensures { OnOk result (self.new ≡ lane_after names.now self.old row.now) }
     {
         let answer = answered(&mut self.desk, row)?;
-        let before = self.shown;
-        show(&mut self.shown, self.asked.depth, &self.desk);
         if !asks_any(self.asked) {
             return Ok(());
         }
+        let before = self.shown;
+        show(&mut self.shown, self.asked.depth, &self.desk);
         self.kept.push(
             self.asked,
             names,

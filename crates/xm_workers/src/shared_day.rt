@@ -1,7 +1,7 @@
 //! A day that workers share.
 ghost use Rattle.std.specs.Prelude.{ℕ, ◌≡◌, ◌≢◌, ◌+◌, ◌≤◌, ◌++◌, List, [], IfOk, None, Some, length, map, slice_get, sum_by, true};
 ghost use Rattle.xm_replay.specs.Taken.{DesksEnd, RowsRun, commands_in};
-ghost use Rattle.xm_workers.specs.Workers.{AreJournals, HasOpened, HasShared, HaveWorked, IsShared, WorkerView, accepted_by, fresh_worker, rows_of, taken_by, taken_in};
+ghost use Rattle.xm_workers.specs.Workers.{AreJournals, HasOpened, HasShared, HaveWorked, IsShared, WorkerView, accepted_by, fresh_worker, rows_of, taken_by};
 ghost use Rattle.xm_files.specs.Batches.{text_left};
 ghost use Rattle.xm_files.specs.Orders.{max_rows};
 ghost use Rattle.xm_files.specs.Timetable.{is_one_round};

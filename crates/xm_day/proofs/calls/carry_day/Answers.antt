@@ -1,4 +1,4 @@
-use Rattle.std.proofs.Common.{Err, sym, subst}
+use Rattle.std.proofs.Common.{sym, subst}
 use Rattle.xm_day.proofs.Days.{both-end, carried-day-ends, carry-unopened, texted}
 use Rattle.xm_day.specs.Answers.{InFileOrder}
 use Rattle.xm_day.specs.CarriedDays.{CarriedDayEnds, Outputs}

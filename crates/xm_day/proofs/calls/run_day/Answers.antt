@@ -1,11 +1,9 @@
-use Rattle.std.proofs.Common.{◌≡◌, Err, Result, sym, subst}
+use Rattle.std.proofs.Common.{◌≡◌, sym, subst}
 use Rattle.xm_day.proofs.Days.{day-ends, orders-end, texted, unopened}
 use Rattle.xm_day.specs.Answers.{DayEnds, InFileOrder}
 use Rattle.xm_day.specs.Days.{nothing_asked}
 use Rattle.xm_day.specs.declared.value.HandsOn.TheVariants.{Nothing}
 use Rattle.xm_files.proofs.PassedErrors.{is_passed}
-use Rattle.xm_replay.specs.declared.faults.DayFault.{DayFault}
-use Rattle.xm_replay.specs.declared.report.DayReport.{DayReport}
 use Rattle.xm_workers.specs.Workers.{IsShared}
 use Rattle.xm_day.proofs.calls.run_day.Goals as goal
 

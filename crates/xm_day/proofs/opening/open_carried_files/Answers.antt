@@ -1,4 +1,4 @@
-use Rattle.std.proofs.Common.{Err, Some, sym, subst}
+use Rattle.std.proofs.Common.{Some, sym, subst}
 use Rattle.xm_day.proofs.Days.{uncarried}
 use Rattle.xm_day.specs.Days.{OpeningRead}
 use Rattle.xm_files.proofs.PassedErrors.{is_passed}

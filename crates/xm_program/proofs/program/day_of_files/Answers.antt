@@ -1,10 +1,8 @@
-use Rattle.std.proofs.Common.{None, Err, Result, sym, subst}
+use Rattle.std.proofs.Common.{None, Err, sym, subst}
 use Rattle.xm_day.proofs.Days.{opened-day, texted, unopened-day}
 use Rattle.xm_day.specs.Days.{DayFiles, IsDay, TakesFile}
-use Rattle.xm_day.specs.declared.value.DayTexts.{DayTexts}
 use Rattle.xm_day.specs.declared.value.HandsOn.TheVariants.{Nothing}
 use Rattle.xm_files.proofs.PassedErrors.{is_passed}
-use Rattle.xm_replay.specs.declared.faults.DayFault.{DayFault}
 use Rattle.xm_program.proofs.Sent.{ends-anyhow, ends-by}
 use Rattle.xm_program.specs.Days.{IsDayBy, asked_with}
 use Rattle.xm_program.proofs.program.day_of_files.Goals as goal
