@@ -13,7 +13,6 @@ use Rattle.xm_workers.specs.Workers.{IsShared}
 use Rattle.xm_texts.specs.declared.asked.AskedTexts.{AskedTexts}
 use Rattle.xm_replay.specs.declared.faults.DayFault.{DayFault}
 use Rattle.xm_replay.specs.declared.faults.DayFault.TheVariants.{WriteFailed}
-use Rattle.xm_program.specs.FaultLines.{told}
 use Rattle.xm_program.specs.declared.concurrency.Concurrency.{Concurrency}
 use Rattle.xm_program.specs.declared.concurrency.Concurrency.TheVariants.{Threads, Workers}
 use Rattle.xm_config.specs.declared.config.SegmentConfig.{SegmentConfig}
@@ -107,7 +106,7 @@ pub record AreUntouched (out : DayOutputs) : Type 0 where
 abbrev pub DayIsSent : DayOutputs → Result DayTexts DayFault → Result (Unit {0}) DayFault → Type 0
 DayIsSent out (Ok t) result = SendingEnds (sendings out t) result
 DayIsSent out (Err fault) (Ok done) = ⊥
-DayIsSent out (Err fault) (Err again) = (again ≡ told fault) × AreUntouched out
+DayIsSent out (Err fault) (Err again) = (again ≡ fault) × AreUntouched out
 
 -- how a call ends that makes the day of these files, whose rows are taken so, and sends out its texts
 pub record DayCallEnds (concurrency : Concurrency) (asked : AskedTexts) (handing : HandsOn) (files : DayFiles) (out : DayOutputs) (result : Result (Unit {0}) DayFault) : Type 0 where
@@ -132,7 +131,7 @@ FilesEnd concurrency asked goes_on old new result =
 abbrev pub LineIsSent : Held → Result (Vec ℕ Global) DayFault → Result (Unit {0}) DayFault → Type 0
 LineIsSent out (Ok line) result = SendingEnds (sending out line.items ∷ []) result
 LineIsSent out (Err fault) (Ok done) = ⊥
-LineIsSent out (Err fault) (Err again) = (again ≡ told fault) × (out.new ≡ out.old)
+LineIsSent out (Err fault) (Err again) = (again ≡ fault) × (out.new ≡ out.old)
 
 -- how a call ends that checks a segment file of these bytes
 pub record CheckCallEnds (segment : Option (List ℕ)) (out : Held) (result : Result (Unit {0}) DayFault) : Type 0 where

@@ -47,15 +47,3 @@ fault_text day.WriteFailed = codes "write failed"
 -- the line of a fault, with its line feed
 abbrev pub fault_line : DayFault → List ℕ
 fault_line fault = codes "xetra-day: " ++ fault_text fault ++ codes "\n"
-
--- want of memory is told in one way, wherever it was met
-abbrev pub told_for : DayFault → FileCause → DayFault
-told_for fault (file.OutOfMemory _) = day.OutOfMemory tt
-told_for fault _ = fault
-
-abbrev pub told : DayFault → DayFault
-told (day.Segment fault) = told_for (day.Segment fault) fault.cause
-told (day.Carry fault) = told_for (day.Carry fault) fault.cause
-told (day.Orders fault) = told_for (day.Orders fault) fault.cause
-told (day.Open (opening.OutOfMemory _)) = day.OutOfMemory tt
-told fault = fault

@@ -1,13 +1,12 @@
 //! The line that tells why a day has no statement.
-ghost use Rattle.std.specs.Prelude.{◌≡◌, ◌+◌, ◌≤◌, ◌++◌, length, option_map, unwrap_or};
-ghost use Rattle.xm_program.specs.FaultLines.{cause_name, fault_line, file_line, open_name, told};
+ghost use Rattle.std.specs.Prelude.{◌≡◌, ◌+◌, ◌≤◌, ◌++◌, length};
+ghost use Rattle.xm_program.specs.FaultLines.{cause_name, fault_line, file_line, open_name};
 
 use arrayvec::ArrayVec;
 use itoa::Buffer;
 use xm_config::OpenFault;
 use xm_day::DayFault;
 use xm_files::{FileCause, FileFault};
-use xm_memory::OutOfMemory;
 
 /// The line by which the program tells of a fault. It fits 64 bytes, so that want of memory is told without any.
 pub fn fault_line(fault: DayFault) -> ArrayVec<u8, 64>
@@ -50,32 +49,6 @@ fn push_text(line: &mut ArrayVec<u8, 64>, text: &str)
     ensures { line.new.items ≡ line.old.items ++ text.now }
 {
     line.try_extend_from_slice(text.as_bytes()).unwrap();
-}
-
-/// A fault as the program tells it: want of memory in one way, wherever it was met.
-pub fn told(fault: DayFault) -> DayFault
-    ensures { result ≡ told fault }
-{
-    match want_of_memory(&fault) {
-        Some(error) => DayFault::OutOfMemory(error),
-        None => fault,
-    }
-}
-
-/// The want of memory that a fault of a file or of the opening is.
-fn want_of_memory(fault: &DayFault) -> Option<OutOfMemory>
-    ensures { told fault.now ≡ unwrap_or (option_map (λ error. DayFault.OutOfMemory error) result) fault.now }
-{
-    match fault {
-        DayFault::Segment(of_file) | DayFault::Carry(of_file) | DayFault::Orders(of_file) => {
-            match of_file.cause {
-                FileCause::OutOfMemory(error) => Some(error),
-                _ => None,
-            }
-        }
-        DayFault::Open(OpenFault::OutOfMemory(error)) => Some(*error),
-        _ => None,
-    }
 }
 
 fn cause_name(cause: FileCause) -> &'static str

@@ -11,7 +11,7 @@ ghost use Rattle.xm_program.specs.Requests.{RefusesBytes, asked_of, day, day_app
 
 use crate::complaints::Complaints;
 use crate::concurrency::Concurrency;
-use crate::fault_lines::{fault_line, told};
+use crate::fault_lines::fault_line;
 use crate::outputs::TextFiles;
 use crate::requests::{self, DayRequest, Failure, Request};
 use crate::{inputs, outputs};
@@ -167,7 +167,7 @@ fn read_command_line<R: Env + AllocGlobal>(rt: &R) -> Result<Vec<String>, Failur
 /// Makes the day of two files, whose rows are taken so, and sends out its texts, one after the other: its statement, and the answers
 /// to its rows, their trades and the levels behind them, as far as they are asked for, each to its file.
 ///
-/// The faults are those of the day, in their order, as `told` gives them. `WriteFailed` tells that a text didn't go out whole. Nothing
+/// The faults are those of the day, in their order. `WriteFailed` tells that a text didn't go out whole. Nothing
 /// of those behind it did.
 pub fn run<R: Threads + Wait + Sync, S: Read, O: Read, W: Write, F: Write>(
     rt: &R,
@@ -274,10 +274,7 @@ fn send_day<W: Write, F: Write>(
     ensures sent { DayIsSent (outputs_of F.contents (record { old = W.contents out.old; new = W.contents out.new }) files.old files.new) made result }
     ensures untouched { IfErr result (λ fault. fault ≢ DayFault.WriteFailed → out.new ≡ out.old) }
 {
-    match made {
-        Ok(texts) => send_texts(&texts, out, files),
-        Err(fault) => Err(told(fault)),
-    }
+    send_texts(&made?, out, files)
 }
 
 /// Sends out the texts of a day, one after the other.
@@ -309,7 +306,7 @@ fn send<W: Write>(out: &mut W, text: &Vec<u8>) -> Result<(), DayFault>
 
 /// Writes the line of a segment file that opens, and sees that all of it went out.
 ///
-/// The faults are those of `xm_day::check`, in their order, as `told` gives them; then `WriteFailed`.
+/// The faults are those of `xm_day::check`, in their order; then `WriteFailed`.
 pub fn check<S: Read, W: Write>(
     storage: Storage<Global>,
     segment: &mut S,
@@ -320,7 +317,7 @@ pub fn check<S: Read, W: Write>(
 {
     match xm_day::check(storage, segment) {
         Ok(line) => send(out, &line),
-        Err(fault) => Err(told(fault)),
+        Err(fault) => Err(fault),
     }
 }
 

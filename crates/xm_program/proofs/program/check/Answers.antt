@@ -10,4 +10,4 @@ returns-in-Ok-clause-ends g c = record {
 }
 
 pub returns-in-Err-clause-ends : goal.returns-in-Err-clause-ends
-returns-in-Err-clause-ends g c = record { made = Err c.in-Err.fault; is_check = c.in-Err.ensures; is_sent = (c.told.ensures, refl) }
+returns-in-Err-clause-ends g c = record { made = Err c.in-Err.fault; is_check = c.in-Err.ensures; is_sent = (refl, refl) }
