@@ -1,6 +1,6 @@
 #!/usr/bin/env python3
 """The documents are short enough to be read: each page within its words, all pages together, and no sentence over 45 words.
-And what they name is there: each file of the repository, and each page that a link leads to. Prints what is wrong, and ends
+And what they name is there: each file of the repository, a word of it, and each page that a link leads to. Prints what is wrong, and ends
 with status 1 where something is. With names of pages it looks at these alone."""
 import pathlib
 import re
@@ -30,6 +30,8 @@ LONGEST_SENTENCE = 45
 MADE = ("out/",)
 STANDS_FOR = ("/out/", "NAME")
 FILES = re.compile(r"`((?:crates|dev|dist|docs|examples|tests)/[A-Za-z0-9_./-]+)`")
+# A word of a file or a folder.
+WORDS = re.compile(r"`([A-Za-z_:]+)` in `(crates/[A-Za-z0-9_./-]+)`")
 LINKS = re.compile(r"\]\(([^)#]+)(?:#[^)]*)?\)")
 # Where a sentence ends: not behind a number of a list, and not inside code.
 ENDS = re.compile(r"(?<=[.!?:])\s+(?=[A-Z`*\"(])")
@@ -60,6 +62,13 @@ def sentences_of(text):
         yield from ENDS.split(block)
 
 
+def has_word(place, word):
+    """Whether a file has a word, or a folder a file that has it or is called so."""
+    paths = [place] if place.is_file() else [path for path in place.rglob("*") if path.is_file() and "out" not in path.relative_to(ROOT).parts]
+    found = re.compile(rf"\b{re.escape(word.rpartition('::')[2])}\b")
+    return any(found.search(f"{path.stem}\n{path.read_text(encoding='utf-8', errors='replace')}") for path in paths)
+
+
 def faults_of(page, text):
     words = len(text.split())
     if words > MOST.get(page, 0):
@@ -73,6 +82,9 @@ def faults_of(page, text):
     for folder, name in named:
         if not name.startswith(MADE) and not any(it in name for it in STANDS_FOR) and not (folder / name).exists():
             yield f"it names {name}, which isn't there"
+    for word, name in WORDS.findall(text):
+        if (ROOT / name).exists() and not has_word(ROOT / name, word):
+            yield f"it names {word} in {name}, which hasn't it"
 
 
 def main():
