@@ -2,7 +2,8 @@
 //!
 //! `Desk::apply` takes a command through three calls of `Market`, of which each goes by what the one before it answered: `check`,
 //! which answers the refusal or an `Accepted`; `reserve`, the only growth beside that of the journal; and `step`, which can't fail.
-//! A clause sees an `Accepted` as the command that it was made of (`IsAccepted`).
+//! Then `Market::record_from` puts its trades into the positions. A clause sees an `Accepted` as the command that it was made of
+//! (`IsAccepted`).
 //!
 //! Nothing fails once a command has begun, however long its cascade. Each order, each stop and what is ready for the command has room
 //! for one trade, and each trade lowers by one how many are still possible (`possible_trades`). A stop holds a place in the book from

@@ -9,8 +9,9 @@ use std::thread::SpawnError;
 
 /// A growth was refused, or the start of a thread; or a count is above a limit that no memory reaches.
 ///
-/// It has no public constructor: it is made of the error of such a refusal, or of such a count, alone, so an answer that
-/// carries it can't be made up. A clause sees all of them as one.
+/// It has no public constructor. It is made of the error of such a refusal or of such a count, so an answer that carries it isn't made
+/// up; or by `told_by` of another crate's error, where no type says that this tells want of memory: `docs/TESTED.md` names the files
+/// that take such a word, and `tests/want_of_memory.py` sees that no other does. A clause sees all of them as one.
 #[derive(Clone, Copy, PartialEq, Eq, Hash, Debug)]
 pub struct OutOfMemory {
     refused: (),
