@@ -1,8 +1,8 @@
 #!/usr/bin/env python3
 """The calls of README, TWO_DAYS, WHOLE_DAY and of the help, made as they are written, by the program of a fresh copy of the checkout, with
 nothing on the path but what the system has: they print and write what stands beside them, in examples/ or in the page. So does the
-day that the help shows. Files may be pipes, and a carried day touches none of the files that it reads. Prints what is wrong, and
-ends with status 1 where something is."""
+day that the help shows. Files may be pipes, no text goes to a file that is read, and each goes to its own. Prints what is wrong, and ends
+with status 1 where something is."""
 import filecmp
 import os
 import pathlib
@@ -109,28 +109,68 @@ def faults_of_pipes(copy):
         yield f"the answers through a pipe are {told}"
 
 
-def faults_of_carry(copy):
-    """OUT is none of the files that are read, by whatever name."""
+def names_of(name):
+    """A file by its name, by a path, by a link and by a second name."""
+    return name, f"./{name}", f"{name}.link", f"{name}.again"
+
+
+def refused_calls():
+    """Calls whose text would go to a file that is read, to the one that has another text, or to none."""
+    for name in ("a.toml", "in.csv", "b.csv"):
+        for out in names_of(name):
+            yield f"carry a.toml in.csv b.csv {out}"
+            yield from (f"carry a.toml in.csv b.csv made.csv {option} {out}" for option in ("--answers", "--trades", "--depth"))
+    for name in ("a.toml", "b.csv"):
+        yield from (f"run a.toml b.csv --threads 2 {option} {name}.link" for option in ("--answers", "--trades", "--depth"))
+    yield "run a.toml b.csv --answers stated.csv > stated.csv"
+    yield "run a.toml b.csv --depth stated.csv >> stated.csv"
+    yield "run a.toml b.csv --answers made.csv >&-"
+    yield "run a.toml b.csv --answers one.csv --depth one.csv.link"
+    yield "run a.toml b.csv --trades b.csv/made.csv"
+
+
+def faults_of_refused_calls(copy):
+    """No text goes where it would be lost, or take what is read."""
     os.chdir(copy)
     for name, stored in (("a.toml", "second_day.segment.toml"), ("in.csv", "second_day.carry.csv"), ("b.csv", "second_day.orders.csv")):
         shutil.copy2(f"examples/{stored}", name)
         os.symlink(name, f"{name}.link")
         os.link(name, f"{name}.again")
+    os.symlink("one.csv", "one.csv.link")
     before = {name: pathlib.Path(name).read_bytes() for name in ("a.toml", "in.csv", "b.csv")}
-    for name in before:
-        for out in (name, f"./{name}", f"{name}.link", f"{name}.again"):
-            ran = call(copy, f"./xetra-day carry a.toml in.csv b.csv {out}")
-            if (ran.returncode, ran.stdout, ran.stderr) != (1, "", "xetra-day: write failed\n"):
-                yield f"carry to {out}: status {ran.returncode}, it prints {ran.stdout}{ran.stderr}"
+    for line in refused_calls():
+        ran = call(copy, f"./xetra-day {line}")
+        if (ran.returncode, ran.stdout, ran.stderr) != (1, "", "xetra-day: write failed\n"):
+            yield f"{line}: status {ran.returncode}, it prints {ran.stdout}{ran.stderr}"
     if before != {name: pathlib.Path(name).read_bytes() for name in before}:
-        yield "a carried day touched a file that it reads"
+        yield "a file that is read was touched"
+    unread = call(copy, "./xetra-day run b.csv/a.toml b.csv --answers new.csv")
+    if (unread.returncode, unread.stderr) != (1, "xetra-day: segment: line 0: ReadFailed\n"):
+        yield f"a segment file that can't be looked at: status {unread.returncode}, it prints {unread.stderr}"
+    if pathlib.Path("made.csv").exists() or pathlib.Path("stated.csv").read_bytes():
+        yield "a text went out, though another one is refused"
+
+
+def faults_of_texts(copy):
+    """Each text goes to its own file, which has nothing of what was there before."""
+    texts = ("answers", "trades", "depth")
+    for text in texts:
+        (copy / f"{text}.made.csv").write_text("what was there before\n" * 10_000)
+    line = "./xetra-day run examples/segment.toml examples/cascade.orders.csv " + " ".join(f"--{text} {text}.made.csv" for text in texts)
+    ran = call(copy, line)
+    if ran.returncode != 0:
+        yield f"{line}: status {ran.returncode}, it prints {ran.stderr}"
+    for text in texts:
+        if not filecmp.cmp(copy / f"{text}.made.csv", ROOT / f"examples/cascade.{text}.csv", shallow=False):
+            yield f"{line}: its {text} are others than those of examples/"
 
 
 def main():
     with tempfile.TemporaryDirectory() as name:
         room = pathlib.Path(name)
         copy = fresh_copy(room)
-        faults = [*faults_of_readme(), *faults_of_calls(copy), *faults_of_help(copy, room), *faults_of_pipes(copy), *faults_of_carry(copy)]
+        faults = [*faults_of_readme(), *faults_of_calls(copy), *faults_of_help(copy, room), *faults_of_pipes(copy)]
+        faults += [*faults_of_refused_calls(copy), *faults_of_texts(copy)]
     for fault in faults:
         print(f"readme: {fault}")
     return 1 if faults else 0

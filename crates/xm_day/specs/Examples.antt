@@ -1,7 +1,7 @@
 -- The worked example of a day: three buys below one another, two stops, and a sell that reaches both.
-use Rattle.std.specs.Prelude.{codes, ℕ, ◌+◌, List, [], ◌∷◌, ◌++◌, replicate}
+use Rattle.std.specs.Prelude.{codes, ℕ, ◌+◌, ◌==◌, if◌then◌else◌, List, [], ◌∷◌, ◌++◌, replicate}
 use Rattle.xm_rules.specs.Entries.{none_left}
-use Rattle.xm_rules.specs.Examples.{enter, order, trade}
+use Rattle.xm_rules.specs.Examples.{enter, order, stop, trade}
 use Rattle.xm_rules.specs.State.{State}
 use Rattle.xm_rules.specs.declared.commands.Command.{Command}
 use Rattle.xm_rules.specs.declared.commands.Command.TheVariants.{Cancel, EndDay, Enter, StartClosing, StartOpening, Uncross}
@@ -26,6 +26,7 @@ use Rattle.xm_config.specs.Opening.{settings_of}
 use Rattle.xm_texts.specs.MarketDepth.{depth_header}
 use Rattle.xm_texts.specs.RowAnswers.{answers_header}
 use Rattle.xm_texts.specs.RowTrades.{trades_header}
+use Rattle.xm_files.specs.Examples.{carry_record}
 use Rattle.xm_files.specs.Names.{NameLists}
 use Rattle.xm_config.specs.declared.config.SecurityConfig.{SecurityConfig}
 use Rattle.xm_config.specs.declared.config.SegmentConfig.{SegmentConfig}
@@ -229,3 +230,27 @@ sized_config securities members = record { today = 20260105; members = members; 
 -- a security whose dynamic width is its wide one
 abbrev pub broad_security : SecurityConfig
 broad_security = record example_security { widths = record { dynamic = 40; statics = 50; wide = 40 } }
+
+-- three orders and three stops, of which some end today and one is for auctions alone
+abbrev pub lasting_state : State
+lasting_state = record cascade_state {
+  orders =
+      record (order 1 2 Sell (Limit 985) 5) { validity = TillCancelled; restriction = AuctionsOnly }
+      ∷ record (order 0 3 Buy (Limit 980) 7) { validity = TillDate 20260105 } ∷ record (order 0 4 Buy Market 9) { validity = TillDate 20260106 } ∷ [];
+  stops =
+      record (stop 0 5 Sell 900 (Limit 890) 3) { validity = TillDate 20260105 } ∷ record (stop 0 6 Buy 1020 Market 4) { validity = TillCancelled }
+      ∷ stop 1 7 Sell 900 Market 5 ∷ [];
+}
+
+abbrev pub lasting_text : List ℕ
+lasting_text =
+    codes "XYZ,BBB,2,sell,limit,9.8500,,5,gtc,auctions\n" ++ codes "XYZ,AAA,4,buy,market,,,9,20260106,free\n"
+    ++ codes "XYZ,AAA,6,buy,stop-market,,10.2000,4,gtc,free\n"
+
+-- the record of a carry file that lists a sell stop of so many units
+abbrev pub stop_record : List ℕ → List (List ℕ)
+stop_record quantity = carry_record (codes "XYZ") (codes "stop-market") (codes "") (codes "1") quantity (codes "gtc") (codes "free")
+
+-- the texts of records, by their numbers
+abbrev pub second_told : ℕ → List ℕ
+second_told line = if line == 2 then codes "second" else codes "another"

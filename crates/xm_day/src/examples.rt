@@ -1,20 +1,29 @@
 //! What the definitions give on worked examples. Each function promises one by its contract.
 #![tactic(auto, unfolding(xm_rules::specs::Opening::opening, xm_rules::specs::Refusals::refusal_of, xm_rules::specs::Step::step))]
 
-ghost use Rattle.std.specs.Prelude.{◌≡◌, codes, map, negsuc, pos, false, true, Err, None, Ok, Some, [], ◌∷◌, ◌++◌};
+ghost use Rattle.std.specs.Prelude.{◌≡◌, ◌+◌, codes, is_some, length, map, negsuc, pos, false, true, ℕ, List, Err, None, Ok, Some, [], ◌∷◌, ◌++◌};
+ghost use Rattle.std.specs.List.{list_any};
 ghost use Rattle.xm_day.specs.Checks.{check_line};
 ghost use Rattle.xm_config.specs.Day.{day, opening_day};
 ghost use Rattle.xm_config.specs.Opening.{segment_fault};
-ghost use Rattle.xm_day.specs.Examples.{broad_security, cascade_answers, cascade_depth, cascade_rows, cascade_state, cascade_text, cascade_trades, crowded_state, every_phase, every_phase_word, every_refusal, every_refusal_word, every_restriction, every_restriction_word, every_trade_kind, every_trade_word, every_validity, every_validity_text, example_config, example_names, no_trades, open_row, penny_state, restricted_state, sized_config};
+ghost use Rattle.xm_day.specs.Examples.{broad_security, cascade_answers, cascade_depth, cascade_rows, cascade_state, cascade_text, cascade_trades, crowded_state, every_phase, every_phase_word, every_refusal, every_refusal_word, every_restriction, every_restriction_word, every_trade_kind, every_trade_word, every_validity, every_validity_text, example_config, example_names, lasting_state, lasting_text, no_trades, open_row, penny_state, restricted_state, second_told, sized_config, stop_record};
+ghost use Rattle.xm_texts.specs.Carry.{left_text};
 ghost use Rattle.xm_texts.specs.MarketDepth.{depth_text, market_depth, same_depth, same_level, same_side_depth, told_change};
-ghost use Rattle.xm_texts.specs.RowAnswers.{answer_line, answers_header, answers_of, market_fields, priced_fields, quoted_field, refusal_word};
+ghost use Rattle.xm_texts.specs.RowAnswers.{answer_line, answers_header, answers_of, market_fields, priced_fields, quoted_field, refusal_word, rest_named};
 ghost use Rattle.xm_texts.specs.RowTrades.{trade_lines, trades_by, trades_header, trades_of};
 ghost use Rattle.xm_texts.specs.Statement.{day_line, limit_text, member_line, phase_word, restriction_word, side_word, statement, stop_line, total_cash, trade_word, validity_text};
+ghost use Rattle.xm_segment.specs.Reports.{report_of};
 ghost use Rattle.xm_workers.specs.Workers.{rows_of};
 ghost use Rattle.xm_config.specs.declared.opening.OpenFault.TheVariants.{BadWidths, NoSecurity, TooMany};
-ghost use Rattle.xm_files.specs.Examples.{round_rows, row_of};
-ghost use Rattle.xm_rules.specs.Examples.{stop, trade};
-ghost use Rattle.xm_rules.specs.declared.commands.Command.TheVariants.{Cancel, CancelAll, StartClosing, StartOpening, Uncross};
+ghost use Rattle.xm_files.specs.Carry.{with_carry_record};
+ghost use Rattle.xm_files.specs.Examples.{left_order, left_record, record_names, record_settings, round_rows, row_of, says};
+ghost use Rattle.xm_files.specs.declared.file_faults.FileCause.TheVariants.{TooManyRows};
+ghost use Rattle.xm_rules.specs.Entries.{is_same_name, names, none_left, order_name};
+ghost use Rattle.xm_rules.specs.Examples.{enter, stop, stop_at, takes, trade};
+ghost use Rattle.xm_rules.specs.Opening.{can_be_left};
+ghost use Rattle.xm_rules.specs.declared.carried.TheConstants.{MAX_CARRIED};
+ghost use Rattle.xm_rules.specs.declared.commands.Command.TheVariants.{Cancel, CancelAll, Change, StartClosing, StartOpening, Uncross};
+ghost use Rattle.xm_rules.specs.declared.commands.Kind.TheVariants as kind;
 ghost use Rattle.xm_rules.specs.declared.orders.OrderKind.TheVariants.{Limit, Market};
 ghost use Rattle.xm_rules.specs.declared.orders.TradeKind.TheVariants as made;
 ghost use Rattle.xm_rules.specs.declared.phases.Auction.TheVariants.{Closing, Opening};
@@ -22,6 +31,8 @@ ghost use Rattle.xm_rules.specs.declared.phases.CallStage.TheVariants.{Ordinary}
 ghost use Rattle.xm_rules.specs.declared.phases.Phase.TheVariants.{Call, Continuous};
 ghost use Rattle.xm_rules.specs.declared.replies.Refusal.TheVariants as refused;
 ghost use Rattle.xm_rules.specs.declared.orders.Side.TheVariants.{Buy, Sell};
+ghost use Rattle.xm_rules.specs.declared.orders.Stop.{Stop as HeldStop};
+ghost use Rattle.xm_rules.specs.declared.orders.Validity.TheVariants.{TillCancelled};
 
 /// The rows of `examples/cascade.orders.csv` lead to this state, of which eleven are accepted.
 pub fn cascade_day()
@@ -165,4 +176,50 @@ pub fn limits_of_a_segment()
     ensures more_members { segment_fault (sized_config 8 1001) ≡ Some TooMany }
     ensures widths { segment_fault (record example_config { securities = broad_security ∷ [] }) ≡ Some BadWidths }
     ensures too_many_before_widths { segment_fault (record example_config { members = 1001; securities = broad_security ∷ [] }) ≡ Some TooMany }
+{}
+
+/// What a security leaves to the next day: its orders before its stops, each with its restriction, and nothing that ends today.
+pub fn entries_left()
+    ensures all { left_text example_names 0 lasting_state ≡ lasting_text }
+    ensures nothing { left_text example_names 0 cascade_state ≡ codes "XYZ,BBB,2,sell,limit,9.8500,,5,gtc,free\n" }
+{}
+
+/// Stops are asked for their units as orders are, where a security takes them and where a carry file lists them.
+pub fn units_of_carried_stops()
+    ensures none { takes [] (record (stop_at 0 1 900 TillCancelled) { quantity = 0 } ∷ []) ≡ false }
+    ensures fewest { takes [] (record (stop_at 0 1 900 TillCancelled) { quantity = 1 } ∷ []) ≡ true }
+    ensures too_many { takes [] (record (stop_at 0 1 900 TillCancelled) { quantity = 1000001 } ∷ []) ≡ false }
+    ensures listed_none { says (stop_record (codes "0")) ≡ None }
+    ensures listed_fewest { is_some (says (stop_record (codes "1"))) ≡ true }
+    ensures listed_too_many { says (stop_record (codes "1000001")) ≡ None }
+{}
+
+/// A security takes 100,000 entries, and a stop is one of them.
+pub fn stops_among_the_entries()
+    ensures taken { (members : ℕ) (stops : List HeldStop) → length stops ≡ MAX_CARRIED + 1 → can_be_left members (record { orders = []; stops = stops }) ≡ false }
+    ensures listed { (stops : List HeldStop) → length stops ≡ MAX_CARRIED → list_any (is_same_name (order_name left_order)) (names (record { orders = []; stops = stops })) ≡ false
+        → with_carry_record record_names record_settings.securities 4 (record { orders = []; stops = stops } ∷ none_left ∷ []) left_record ≡ Err (record { line = 4; cause = TooManyRows }) }
+{}
+
+/// The answer to a command that names an order or a stop has what is left of it, also behind a change and a cancellation.
+pub fn rests_in_answers()
+    ensures entered { rest_named cascade_state (enter 1 2 Sell (kind.Limit 985) 10) ≡ Some 5 }
+    ensures changed { rest_named cascade_state (Change 1 2 5 None) ≡ Some 5 }
+    ensures cancelled { rest_named cascade_state (Cancel 1 2) ≡ Some 5 }
+    ensures gone { rest_named cascade_state (Cancel 1 9) ≡ Some 0 }
+    ensures all { rest_named cascade_state (CancelAll 1) ≡ None }
+    ensures phase { rest_named cascade_state Uncross ≡ None }
+{}
+
+/// An answer has the text of its own record.
+pub fn text_of_its_record()
+    ensures { answers_of example_names second_told (opening_day example_config) (open_row 7 ∷ record (open_row 7) { line = 3 } ∷ [])
+        ≡ codes "2,,unknown-security,,,,,,,,,,,,,,,,second\n" ++ codes "3,,unknown-security,,,,,,,,,,,,,,,,another\n" }
+{}
+
+/// A worker's report counts want of memory at the fourteenth place, and a book-or-cancel order that would execute at the fifteenth.
+pub fn refusals_in_reports()
+    ensures wanting { (report_of (Ok no_trades ∷ Err (refused.OutOfMemory tt) ∷ [])).refused ≡ 0 ∷ 0 ∷ 0 ∷ 0 ∷ 0 ∷ 0 ∷ 0 ∷ 0 ∷ 0 ∷ 0 ∷ 0 ∷ 0 ∷ 0 ∷ 1 ∷ 0 ∷ [] }
+    ensures last { (report_of (Err refused.WouldExecute ∷ Err refused.UnknownSecurity ∷ [])).refused ≡ 1 ∷ 0 ∷ 0 ∷ 0 ∷ 0 ∷ 0 ∷ 0 ∷ 0 ∷ 0 ∷ 0 ∷ 0 ∷ 0 ∷ 0 ∷ 0 ∷ 1 ∷ [] }
+    ensures ended { (report_of (Ok no_trades ∷ Err (refused.OutOfMemory tt) ∷ [])).wanting ≡ Some tt }
 {}

@@ -48,8 +48,8 @@ use xm_day::{AskedTexts, DayFault};
 use xm_files::{FileCause, FileFault};
 use xm_name_index::Storage;
 use xm_program::{
-    Concurrency, Count, DayRequest, Failure, Input, Output, Request, TextFiles, TextPaths, check,
-    fault_line, open_input, read_words, run,
+    Concurrency, Count, DayRequest, Failure, Input, Output, Request, TextFiles, TextPaths,
+    carry_over, check, fault_line, open_input, read_words, run,
 };
 
 /// A fault of a file, in this line.
@@ -610,11 +610,15 @@ fn kept_files(alloc: Global, fails: Option<u32>) -> TextFiles<Kept> {
         answers: make_kept(alloc, fails == Some(0)),
         trades: make_kept(alloc, fails == Some(1)),
         depth: make_kept(alloc, fails == Some(2)),
-        carry: Output::Unasked,
+        carry: make_kept(alloc, fails == Some(3)),
     }
 }
 
-/// Runs the day of two texts, and writes its statement, its answers and its levels. A clause sees nothing of it.
+/// A carry file without an entry.
+const NONE_LEFT: &str = carried!("");
+
+/// Runs the day of two texts, which opens with nothing that earlier days left, and writes its statement, the texts that are asked for,
+/// and what it leaves. A clause sees nothing of it.
 fn tell_day(
     rt: &(impl Abort + AllocGlobal + Threads + Wait + Sync),
     out: &mut impl Write,
@@ -623,11 +627,13 @@ fn tell_day(
 ) -> Result<(), DayFault> {
     let storage = Storage::with_fixed_seed(rt.alloc());
     let (mut segment, mut orders) = (SEGMENT.as_bytes(), CASCADE.as_bytes());
+    let mut carried = NONE_LEFT.as_bytes();
     let alone = Concurrency::Threads(Count::new(1).expect(rt, "a number of threads"));
-    run(
+    carry_over(
         rt,
         storage,
         &mut segment,
+        &mut carried,
         &mut orders,
         alone,
         asked,
@@ -710,7 +716,7 @@ fn one_text_of_a_day(rt: HostRuntime) {
         answers: Output::Unasked,
         trades: Output::Unasked,
         depth: make_kept(rt.alloc(), false),
-        carry: Output::Unasked,
+        carry: make_kept(rt.alloc(), false),
     };
     assert!(rt; tell_day(&rt, &mut out, asked, &mut files) == Ok(()));
     assert!(rt; has_text(&files.depth));
@@ -721,7 +727,7 @@ fn texts_go_out_one_behind_the_other(rt: HostRuntime) {
     let failed = Err(DayFault::WriteFailed);
     let mut files = kept_files(rt.alloc(), None);
     assert!(rt; tell_day(&rt, &mut Unflushed, ALL, &mut files) == failed);
-    assert!(rt; !has_text(&files.answers) && !has_text(&files.trades) && !has_text(&files.depth));
+    assert!(rt; !has_text(&files.answers) && !has_text(&files.carry));
     let mut out = Vec::new(rt.alloc());
     let mut files = kept_files(rt.alloc(), Some(0));
     assert!(rt; tell_day(&rt, &mut out, ALL, &mut files) == failed);
@@ -732,5 +738,8 @@ fn texts_go_out_one_behind_the_other(rt: HostRuntime) {
     assert!(rt; has_text(&files.answers) && !has_text(&files.depth));
     let mut files = kept_files(rt.alloc(), Some(2));
     assert!(rt; tell_day(&rt, &mut out, ALL, &mut files) == failed);
-    assert!(rt; has_text(&files.trades));
+    assert!(rt; has_text(&files.trades) && !has_text(&files.carry));
+    let mut files = kept_files(rt.alloc(), Some(3));
+    assert!(rt; tell_day(&rt, &mut out, ALL, &mut files) == failed);
+    assert!(rt; has_text(&files.depth));
 }

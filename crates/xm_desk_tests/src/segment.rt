@@ -2,6 +2,7 @@
 mod crowd;
 mod held;
 mod many;
+mod noted;
 mod opening;
 mod running;
 mod trading;

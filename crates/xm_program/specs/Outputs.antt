@@ -1,6 +1,7 @@
 -- What is written to an output.
-use Rattle.std.specs.Prelude.{ℕ, List, Option, None}
+use Rattle.std.specs.Prelude.{◌≡◌, ℕ, List, Option, Some, None, option_map}
 use Rattle.xm_program.specs.Days.{DayOutputs, Held}
+use Rattle.xm_program.specs.Requests.{AskedDay}
 use Rattle.xm_program.specs.declared.outputs.Output.{Output}
 use Rattle.xm_program.specs.declared.outputs.Output.TheVariants.{Made, Unasked}
 use Rattle.xm_program.specs.declared.outputs.TextFiles.{TextFiles}
@@ -23,3 +24,15 @@ module _ {F : Type 0} where
     depth = held_in file_holds old.depth new.depth;
     carry = held_in file_holds old.carry new.carry;
   }
+
+  -- an output is the file that was made at a path, where there is one
+  abbrev pub IsMade : (List ℕ → F → Type 0) → Option (List ℕ) → Output F → Type 0
+  IsMade Made_at None output = output ≡ Unasked
+  IsMade Made_at (Some path) output = (file : F) × Made_at path file × (output ≡ Made file)
+
+  -- each text of a day has the file that was made at its path
+  pub record AreMade (Made_at : List ℕ → F → Type 0) (day : AskedDay) (files : TextFiles F) : Type 0 where
+    pub answers : IsMade Made_at day.answers files.answers
+    pub trades : IsMade Made_at day.trades files.trades
+    pub depth : IsMade Made_at day.depth files.depth
+    pub carry : IsMade Made_at (option_map (λ c. c.1) day.carrying) files.carry

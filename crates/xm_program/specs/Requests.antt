@@ -129,6 +129,10 @@ are_apart (path ∷ paths) = is_file path && (not (list_any (is_one_path path) p
 abbrev pub outputs : AskedDay → List (Option Text)
 outputs d = d.answers ∷ d.trades ∷ d.depth ∷ option_map (λ c. c.1) d.carrying ∷ []
 
+-- the files that it is read from
+abbrev pub inputs : AskedDay → List (Option Text)
+inputs d = Some d.segment ∷ option_map (λ c. c.0) d.carrying ∷ Some d.orders ∷ []
+
 -- the texts beside its statement that are asked for
 abbrev pub asked_texts : AskedDay → AskedTexts
 asked_texts d = record { answers = is_some d.answers; trades = is_some d.trades; depth = is_some d.depth }

@@ -2,16 +2,18 @@
 //! what earlier days left, checks a segment file, or prints its help.
 //!
 //! `requests` reads the command line, and `program` does that. `concurrency` says whether threads or workers take the rows, and a
-//! `count` how many. `outputs` makes the files of the texts, `inputs` opens those that are read. `fault_lines` has the line that tells a
-//! fault; `complaints` is standard error, as a writer.
+//! `count` how many. `outputs` makes the files of the texts, by what lies at their `places`; `inputs` opens those that are read.
+//! `fault_lines` has the line that tells a fault; `complaints` is standard error, as a writer.
 #![tactic(auto)]
 
 mod complaints;
 mod concurrency;
 mod count;
+pub mod examples;
 mod fault_lines;
 mod inputs;
 mod outputs;
+mod places;
 mod program;
 mod requests;
 

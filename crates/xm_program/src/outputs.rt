@@ -1,12 +1,16 @@
 //! The files that texts beside the statement are written to.
+ghost use Rattle.std.specs.Prelude.{IfOk, Ok, OnOk, map, option_map};
+ghost use Rattle.std.specs.Fn.{FnReturnsAt};
 ghost use Rattle.std.specs.Io.{WritesAtMost};
 ghost use Rattle.std.specs.Io.KnownBytes.{Keeps, WriteAppends};
+ghost use Rattle.xm_program.specs.Outputs.{AreMade, IsMade};
+ghost use Rattle.xm_program.specs.Places.{AreFree, AreOtherFiles, IsFree, IsOtherFile};
+ghost use Rattle.xm_program.specs.Requests.{inputs, named_day, outputs};
 
+use crate::places::{Place, is_one_file, is_statements};
 use crate::requests::DayRequest;
+use std::io;
 use std::io::Write;
-use std::os::unix::fs::MetadataExt;
-use std::rt::Files;
-use std::{fs, io};
 
 /// A file that a text is written to, or none, where the text isn't asked for: each write to it fails.
 #[derive(Drop)]
@@ -55,109 +59,125 @@ pub struct TextFiles<F> {
     pub carry: Output<F>,
 }
 
-/// The files that a day is written to, as far as they are asked for. Where one of the files that are to be read lies at such a path,
-/// or the one that standard output goes to, nothing is touched, and that is an error; it is one too where two would be the same file,
-/// or where standard output is closed, whose place a file would take.
-pub(crate) fn make_files<R: Files>(
-    rt: &R,
-    request: &DayRequest<'_>,
-) -> io::Result<TextFiles<R::File>> {
+/// The files that a day is written to, as far as they are asked for, each as it is made at its path. Where one of the files that are to
+/// be read lies at such a path, or the one that standard output goes to, nothing is made, and that is an error; it is one too where
+/// two would be the same file, or where standard output is closed, whose place a file would take.
+pub(crate) fn make_files<
+    F: Drop,
+    L: Fn(&str) -> io::Result<Option<Place>>,
+    M: Fn(&str) -> io::Result<F>,
+>(lies: &L, makes: &M, request: &DayRequest<'_>) -> io::Result<TextFiles<F>>
+    requires lies { L.IsAlwaysCallable lies.now }
+    requires makes { M.IsAlwaysCallable makes.now }
+    ensures free { OnOk result (AreFree (λ path place. FnReturnsAt L.Fn lies.now path (Ok place)) (inputs (named_day request.now)) (outputs (named_day request.now))) }
+    ensures made { IfOk result (AreMade (λ path file. FnReturnsAt M.Fn makes.now path (Ok file)) (named_day request.now)) }
+{
     let paths = request.outputs();
-    let inputs = request.inputs();
-    for path in &paths {
-        if is_taken(rt, *path, &inputs)? {
-            return Err(io::Error::from(io::ErrorKind::AlreadyExists));
-        }
-    }
+    check_free(lies, &paths, &request.inputs())?;
     let [answers, trades, depth, carry] = paths;
-    let answers_file = make_file(rt, answers, &[])?;
-    let trades_file = make_file(rt, trades, &[answers])?;
-    let depth_file = make_file(rt, depth, &[answers, trades])?;
+    let answers_file = make_file(lies, makes, answers, &[])?;
+    let trades_file = make_file(lies, makes, trades, &[answers])?;
+    let depth_file = make_file(lies, makes, depth, &[answers, trades])?;
     Ok(TextFiles {
         answers: answers_file,
         trades: trades_file,
         depth: depth_file,
-        carry: make_file(rt, carry, &[answers, trades, depth])?,
+        carry: make_file(lies, makes, carry, &[answers, trades, depth])?,
     })
 }
 
-/// The file at a path, empty, where there is a path, unless it is one of those that were made.
-fn make_file<R: Files>(
-    rt: &R,
+/// The file at a path, as it is made, where there is a path, unless it is one of those that were made.
+fn make_file<F, L: Fn(&str) -> io::Result<Option<Place>>, M: Fn(&str) -> io::Result<F>>(
+    lies: &L,
+    makes: &M,
     path: Option<&str>,
     made: &[Option<&str>],
-) -> io::Result<Output<R::File>> {
+) -> io::Result<Output<F>>
+    requires lies { L.IsAlwaysCallable lies.now }
+    requires makes { M.IsAlwaysCallable makes.now }
+    ensures { IfOk result (IsMade (λ path file. FnReturnsAt M.Fn makes.now path (Ok file)) (option_map (λ s. s.now) path.entry)) }
+{
     let Some(path) = path else {
         return Ok(Output::Unasked);
     };
-    if is_one_of(rt, path, made)? {
+    check_apart(lies, path, &lies(path)?, made)?;
+    Ok(Output::Made(makes(path)?))
+}
+
+/// Sees that a text may go to each of these paths: what lies there is neither read, nor the statement's.
+fn check_free<L: Fn(&str) -> io::Result<Option<Place>>>(
+    lies: &L,
+    paths: &[Option<&str>],
+    inputs: &[Option<&str>],
+) -> io::Result<()>
+    requires { L.IsAlwaysCallable lies.now }
+    ensures { OnOk result (AreFree (λ path place. FnReturnsAt L.Fn lies.now path (Ok place)) (map (option_map (λ s. s.now)) inputs.now) (map (option_map (λ s. s.now)) paths.now)) }
+{
+    match paths {
+        [] => Ok(()),
+        [path, paths @ ..] => {
+            if let Some(path) = path {
+                check_path(lies, path, inputs)?;
+            }
+            check_free(lies, paths, inputs)
+        }
+    }
+}
+
+/// Sees that a text may go to a path.
+fn check_path<L: Fn(&str) -> io::Result<Option<Place>>>(
+    lies: &L,
+    path: &str,
+    inputs: &[Option<&str>],
+) -> io::Result<()>
+    requires { L.IsAlwaysCallable lies.now }
+    ensures { OnOk result (IsFree (λ path place. FnReturnsAt L.Fn lies.now path (Ok place)) (map (option_map (λ s. s.now)) inputs.now) path.now) }
+{
+    let place = lies(path)?;
+    let descriptors = lies(DESCRIPTORS)?;
+    let output = lies(STATEMENT_PATH)?;
+    if is_statements(&place, &descriptors, &output) {
         return Err(io::Error::from(io::ErrorKind::AlreadyExists));
     }
-    Ok(Output::Made(fs::create(rt, path)?))
+    check_apart(lies, path, &place, inputs)
 }
 
-/// Whether standard output is closed, where the system tells.
-fn is_closed<R: Files>(rt: &R) -> io::Result<bool> {
-    Ok(place_of(rt, DESCRIPTORS)?.is_some() && place_of(rt, STATEMENT_PATH)?.is_none())
-}
-
-/// Whether at a path, if there is one, lies a file that is to be read, or the one that standard output goes to, or that is closed.
-fn is_taken<R: Files>(rt: &R, path: Option<&str>, inputs: &[Option<&str>]) -> io::Result<bool> {
-    match path {
-        Some(path) => {
-            Ok(is_closed(rt)? || is_one_of(rt, path, inputs)? || has_statement(rt, path)?)
-        }
-        None => Ok(false),
-    }
-}
-
-/// Whether the file at a path lies at one of others, too.
-fn is_one_of<R: Files>(rt: &R, path: &str, others: &[Option<&str>]) -> io::Result<bool> {
-    for other in others {
-        if let Some(other) = other {
-            if is_same(rt, path, other)? {
-                return Ok(true);
+/// Sees that a path leads to none of the files at others.
+fn check_apart<L: Fn(&str) -> io::Result<Option<Place>>>(
+    lies: &L,
+    path: &str,
+    place: &Option<Place>,
+    others: &[Option<&str>],
+) -> io::Result<()>
+    requires { L.IsAlwaysCallable lies.now }
+    ensures { OnOk result (AreOtherFiles (λ path place. FnReturnsAt L.Fn lies.now path (Ok place)) path.now place.now (map (option_map (λ s. s.now)) others.now)) }
+{
+    match others {
+        [] => Ok(()),
+        [other, others @ ..] => {
+            if let Some(other) = other {
+                check_other(lies, path, place, other)?;
             }
+            check_apart(lies, path, place, others)
         }
-    }
-    Ok(false)
-}
-
-/// Whether the same file lies at both paths, or they are the same, whatever lies there.
-fn is_same<R: Files>(rt: &R, first: &str, second: &str) -> io::Result<bool> {
-    if first == second {
-        return Ok(true);
-    }
-    let Some(place) = place_of(rt, first)? else {
-        return Ok(false);
-    };
-    Ok(place_of(rt, second)? == Some(place))
-}
-
-/// Whether standard output goes to the file at a path. A device may take more than one text.
-fn has_statement<R: Files>(rt: &R, path: &str) -> io::Result<bool> {
-    match fs::metadata(rt, STATEMENT_PATH) {
-        Ok(found) => {
-            if found.is_file() {
-                Ok(place_of(rt, path)? == Some((found.dev(), found.ino())))
-            } else {
-                Ok(false)
-            }
-        }
-        Err(_) => Ok(false),
     }
 }
 
-/// The device and the number of the file at a path, or none where no file lies there.
-fn place_of<R: Files>(rt: &R, path: &str) -> io::Result<Option<(u64, u64)>> {
-    match fs::metadata(rt, path) {
-        Ok(found) => Ok(Some((found.dev(), found.ino()))),
-        Err(error) => {
-            if error.kind() == io::ErrorKind::NotFound {
-                Ok(None)
-            } else {
-                Err(error)
-            }
-        }
+/// Sees that a path doesn't lead to the file at another one. Where nothing lies there, this isn't looked at: what is wrong with it is
+/// found where it is read.
+fn check_other<L: Fn(&str) -> io::Result<Option<Place>>>(
+    lies: &L,
+    path: &str,
+    place: &Option<Place>,
+    other: &str,
+) -> io::Result<()>
+    requires { L.IsAlwaysCallable lies.now }
+    ensures { OnOk result (IsOtherFile (λ path place. FnReturnsAt L.Fn lies.now path (Ok place)) path.now place.now other.now) }
+{
+    let found = if place.is_some() { lies(other)? } else { None };
+    if is_one_file(path, place, other, &found) {
+        Err(io::Error::from(io::ErrorKind::AlreadyExists))
+    } else {
+        Ok(())
     }
 }

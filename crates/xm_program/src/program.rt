@@ -13,6 +13,7 @@ use crate::complaints::Complaints;
 use crate::concurrency::Concurrency;
 use crate::fault_lines::fault_line;
 use crate::outputs::TextFiles;
+use crate::places::place_in;
 use crate::requests::{self, DayRequest, Failure, Request};
 use crate::{inputs, outputs};
 use clap::Error;
@@ -87,7 +88,9 @@ fn write_day<R: AllocGlobal + Files + RandomSource + Threads + Wait + Sync, W: W
     ensures ends { AskedEnds (day (named_day request.now)) (W.contents out.old) (W.contents out.new) result }
     ensures untouched { IfErr result (λ fault. fault ≢ DayFault.WriteFailed → out.new ≡ out.old) }
 {
-    let mut files = match outputs::make_files(rt, request) {
+    let lies = |path: &str| place_in(fs::metadata(rt, path));
+    let made = outputs::make_files(&lies, &|path: &str| fs::create(rt, path), request);
+    let mut files = match made {
         Ok(files) => files,
         Err(_) => return Err(DayFault::WriteFailed),
     };

@@ -4,7 +4,7 @@ ghost use Rattle.std.specs.List.{list_any};
 ghost use Rattle.clap.specs.Words.{app_of, fault_of, first_of, found_of, kind_of, new_app, one_of, rows_of, rule_of, subcommand_rows_of, takes};
 ghost use Rattle.clap.specs.declared.builder.command.Command.TheViews.{out-Command as fields_of};
 ghost use Rattle.clap.specs.declared.error.kind.ErrorKind.TheVariants as kind;
-ghost use Rattle.xm_program.specs.Requests.{AnswersWords, Asked, Asks, IsGranted, IsOfWords, IsRequest, IsTold, IsUnread, Meets, answer_of, are_apart, asked_in, asked_of, asked_texts, can_write, carried_by, carried_day_in, carry_app, check_app, concurrency_in, count_in, count_rule, day, day_app, day_in, named_day, failure_status, file_rule, is_file, is_one_path, outputs, path_rule, run_app, top_app, with_options};
+ghost use Rattle.xm_program.specs.Requests.{AnswersWords, Asked, Asks, IsGranted, IsOfWords, IsRequest, IsTold, IsUnread, Meets, answer_of, are_apart, asked_in, asked_of, asked_texts, can_write, carried_by, carried_day_in, carry_app, check_app, concurrency_in, count_in, count_rule, day, day_app, day_in, inputs, named_day, failure_status, file_rule, is_file, is_one_path, outputs, path_rule, run_app, top_app, with_options};
 
 use crate::concurrency::{Concurrency, concurrency_of};
 use crate::count::Count;
@@ -247,7 +247,9 @@ impl<'a> DayRequest<'a> {
     }
 
     /// The files that the day is read from.
-    pub(crate) fn inputs(&self) -> [Option<&'a str>; 3] {
+    pub(crate) fn inputs(&self) -> [Option<&'a str>; 3]
+        ensures { map (option_map (λ s. s.now)) result ≡ inputs (named_day self.now) }
+    {
         let carry = match self.carrying {
             Some(Carrying { from, .. }) => Some(from),
             None => None,

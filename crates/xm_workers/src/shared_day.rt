@@ -1,5 +1,5 @@
 //! A day that workers share.
-ghost use Rattle.std.specs.Prelude.{ℕ, ◌≡◌, ◌≢◌, ◌+◌, ◌≤◌, ◌++◌, List, [], IfOk, None, Some, length, map, slice_get, sum_by, true};
+ghost use Rattle.std.specs.Prelude.{ℕ, ◌≡◌, ◌≢◌, ◌+◌, ◌≤◌, ◌++◌, List, [], IfErr, IfOk, None, Some, length, map, slice_get, sum_by, true};
 ghost use Rattle.xm_replay.specs.Taken.{DesksEnd, RowsRun, commands_in};
 ghost use Rattle.xm_workers.specs.Workers.{AreJournals, HasOpened, HasShared, HaveWorked, IsShared, WorkerView, accepted_by, fresh_worker, rows_of, taken_by};
 ghost use Rattle.xm_files.specs.Batches.{text_left};
@@ -26,7 +26,7 @@ use xm_files::{Batch, FileFault, Part, RowReader, SegmentNames, first_phase};
 use xm_memory::OutOfMemory;
 use xm_name_index::Storage;
 use xm_replay::{DayFault, DayReport, OpenDay};
-use xm_segment::{Gate, GatherFault, Naming, Opened, Seat, Segment};
+use xm_segment::{Gate, GatherFault, Naming, Opened, Seat, Segment, WatchRow};
 use xm_texts::Told;
 
 /// Reads the rows of an order file of these bytes, round by round, and has so many workers take them, on a segment whose type is
@@ -185,7 +185,7 @@ impl<S: Naming> SharedDay<S> {
         requires few { workers ≤ MAX_WORKERS }
         ensures { HasShared S.settings S.workers config.now [] result }
     {
-        let (segment, seats, _rows) = Segment::open(alloc, opened?)?;
+        let (segment, seats, _rows) = opened_segment(alloc, opened?)?;
         let segment = boxed(alloc, segment)?;
         let workers = seated(seats)?;
         Ok(SharedDay { segment, workers })
@@ -229,6 +229,18 @@ impl<S: Naming> SharedDay<S> {
             told: Told::nothing(),
         })
     }
+}
+
+/// A segment with its seats, whose want of memory is one of the opening.
+fn opened_segment<S: Naming>(
+    alloc: Global,
+    opened: Opened,
+) -> Result<(Segment<S>, Vec<Seat<S>>, Vec<WatchRow<S>>), OpenFault>
+    requires { NamesSegment S.settings S.ledgers S.boards S.workers opened }
+    ensures seats { IfOk result (λ o. AreSeats S.settings opened.workers o.1.items) }
+    ensures wanting { IfErr result (λ fault. fault ≡ OpenFault.OutOfMemory tt) }
+{
+    Ok(Segment::open(alloc, opened)?)
 }
 
 /// A segment in a place of its own.

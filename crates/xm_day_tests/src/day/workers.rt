@@ -320,7 +320,7 @@ impl Meeting {
     }
 }
 
-/// Runs the day of two texts, each of whose rows is accepted, and sees that no worker waited in vain.
+/// Runs the day of two texts, a row for each worker, which is accepted, and sees that each worker was met and none waited in vain.
 fn meet<R: Abort + AllocGlobal + Threads + Wait + Sync, G: Gate + Sync>(
     rt: &R,
     segment: &str,
@@ -332,6 +332,7 @@ fn meet<R: Abort + AllocGlobal + Threads + Wait + Sync, G: Gate + Sync>(
     let mut out = Vec::new(rt.alloc());
     let answer = shared(rt, segment, orders, &mut out, workers, gate);
     assert!(rt; meeting.missed.load(Ordering::SeqCst) == 0);
+    assert!(rt; meeting.count.load(Ordering::SeqCst) == u64::from(workers));
     assert!(rt; answer == Ok((u64::from(workers), 0)));
 }
 

@@ -158,6 +158,45 @@ macro_rules! writes {
     };
 }
 
+/// Texts that go out one behind the other, each to its own file.
+const BOTH_WRITTEN: [End; 2] = [
+    End {
+        words: &[
+            b"xetra-day",
+            b"run",
+            b"day.toml",
+            b"day.csv",
+            b"--answers=answers.csv",
+            b"--depth=other.csv",
+        ],
+        status: 0,
+        printed: Printed::Text(STATEMENT),
+        complained: Printed::Nothing,
+        written: Printed::Between(
+            ANSWERS,
+            "other.csv: record,security,side,rank,limit,quantity\n",
+        ),
+    },
+    End {
+        words: &[
+            b"xetra-day",
+            b"carry",
+            b"day.toml",
+            b"in.csv",
+            b"day.csv",
+            b"answers.csv",
+            b"--trades=other.csv",
+        ],
+        status: 0,
+        printed: Printed::Text(STATEMENT),
+        complained: Printed::Nothing,
+        written: Printed::Between(
+            "other.csv: record,security,sweep,kind,price,quantity,buyer,buy_reference,seller,sell_reference,text\n",
+            NONE_LEFT,
+        ),
+    },
+];
+
 const WRITTEN: [End; 4] = [
     writes!(
         ANSWERS,
@@ -204,7 +243,7 @@ pub const CANNOT_TELL_CARRIED: Printed = Printed::Text(
 );
 
 /// Runs that write no answers: the order file is at fault, the file is one that is read, or it can't be made, and mistakes.
-const UNANSWERED: [End; 8] = [
+const UNANSWERED: [End; 9] = [
     complains!(
         1,
         Printed::Text("xetra-day: orders: line 2: BadField\n"),
@@ -239,6 +278,15 @@ const UNANSWERED: [End; 8] = [
         b"day.toml",
         b"day.csv",
         b"--depth",
+        b"day.toml"
+    ),
+    complains!(
+        1,
+        UNWRITTEN,
+        b"run",
+        b"day.toml",
+        b"day.csv",
+        b"--trades",
         b"day.csv"
     ),
     complains!(
@@ -535,6 +583,7 @@ const MISTAKES: [End; 7] = [
 fn ends_of_runs(rt: HostRuntime) {
     are_ends(&rt, Stream::Kept, &STATEMENTS);
     are_ends(&rt, Stream::Kept, &WRITTEN);
+    are_ends(&rt, Stream::Kept, &BOTH_WRITTEN);
     are_ends(&rt, Stream::Kept, &UNANSWERED);
     are_ends(&rt, Stream::Kept, &CARRIED);
     are_ends(&rt, Stream::Kept, &CHECKED);

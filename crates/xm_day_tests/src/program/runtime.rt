@@ -20,8 +20,9 @@ pub enum Stream {
     Refused,
 }
 
-/// The path of the file that can be made.
-pub const MADE: &str = "answers.csv";
+/// The paths of the files that can be made, each with what is kept before each piece that is written to it, so that one isn't taken for
+/// the other.
+pub const MADE: [(&str, &str); 2] = [("answers.csv", ""), ("other.csv", "other.csv: ")];
 
 /// The command line and the files of a call of the program, and what it printed. Threads are those of another runtime.
 #[derive(Drop)]
@@ -30,7 +31,7 @@ pub struct Call<'a, R> {
     pub alloc: Global,
     pub words: &'a [&'a [u8]],
     pub files: &'a [(&'a str, &'a str)],
-    /// What was written to the one file that can be made, `MADE`.
+    /// What was written to the files that can be made, and what was in one that wasn't emptied as it was opened.
     pub made: &'a Mutex<String>,
     pub output: Stream,
     pub printed: Mutex<String>,
@@ -152,7 +153,7 @@ impl<R> Eprint for Call<'_, R> {
 #[derive(Drop)]
 pub enum Opened<'a> {
     Read(&'a [u8]),
-    Made(&'a Mutex<String>),
+    Made(&'a Mutex<String>, &'static str),
 }
 
 fn unsupported<T>() -> io::Result<T>
@@ -165,7 +166,7 @@ impl Read for Opened<'_> {
     fn read(&mut self, buf: &mut [u8]) -> io::Result<usize> {
         match self {
             Opened::Read(left) => left.read(buf),
-            Opened::Made(_) => unsupported(),
+            Opened::Made(..) => unsupported(),
         }
     }
 }
@@ -173,7 +174,8 @@ impl Read for Opened<'_> {
 impl Write for Opened<'_> {
     fn write(&mut self, bytes: &[u8]) -> io::Result<usize> {
         match (self, str::from_utf8(bytes)) {
-            (Opened::Made(kept), Ok(text)) => {
+            (Opened::Made(kept, mark), Ok(text)) => {
+                keep(kept, mark)?;
                 keep(kept, text)?;
                 Ok(bytes.len())
             }
@@ -210,19 +212,39 @@ impl OpenFile for Opened<'_> {
     }
 }
 
+impl<'a, R> Call<'a, R> {
+    /// One of the files that are read, which is told where it is opened for writing.
+    fn open_read(&self, how: &OpenOptions, text: &'a str) -> io::Result<Opened<'a>> {
+        if how.asks_write() {
+            keep(&self.complained, "a file that is read is written to")?;
+        }
+        Ok(Opened::Read(text.as_bytes()))
+    }
+
+    /// One of the files that are made, which has what was there before where it isn't emptied.
+    fn make(&self, how: &OpenOptions, mark: &'static str) -> io::Result<Opened<'a>> {
+        if !how.asks_truncate() {
+            keep(self.made, "what was there before")?;
+        }
+        Ok(Opened::Made(self.made, mark))
+    }
+}
+
 impl<'a, R> Files for Call<'a, R> {
     type File = Opened<'a>;
 
     type Dir = Opened<'a>;
 
-    fn open_file(&self, _how: &OpenOptions, path: &str) -> io::Result<Opened<'a>> {
+    fn open_file(&self, how: &OpenOptions, path: &str) -> io::Result<Opened<'a>> {
         for (name, text) in self.files {
             if *name == path {
-                return Ok(Opened::Read(text.as_bytes()));
+                return self.open_read(how, text);
             }
         }
-        if path == MADE {
-            return Ok(Opened::Made(self.made));
+        for (name, mark) in &MADE {
+            if *name == path {
+                return self.make(how, mark);
+            }
         }
         Err(io::Error::from(io::ErrorKind::NotFound))
     }

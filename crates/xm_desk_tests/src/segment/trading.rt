@@ -6,6 +6,10 @@ use xm_rules::{
 
 const OPENING: Phase = Phase::Call(Auction::Opening, CallStage::Ordinary);
 
+const OPENING_INTERRUPTED: Phase = Phase::Call(Auction::Opening, CallStage::Interrupted);
+
+const OPENING_EXTENDED: Phase = Phase::Call(Auction::Opening, CallStage::Extended);
+
 const INTRADAY: Phase = Phase::Call(Auction::Intraday, CallStage::Ordinary);
 
 const INTRADAY_INTERRUPTED: Phase = Phase::Call(Auction::Intraday, CallStage::Interrupted);
@@ -98,6 +102,16 @@ const STATIC_RANGE: [Given; 11] = [
     accepted!(0, Command::Uncross, 11, 1, 10, 10_550, Phase::Continuous),
 ];
 
+/// The price of the opening call is outside the dynamic range and then outside the wide one; an extended call asks none.
+const EXTENDED: [Given; 6] = [
+    accepted!(0, Command::StartOpening, 1, 0, 0, 0, OPENING),
+    accepted!(0, buy!(0, 1, 1100, 10), 2, 0, 0, 0, OPENING),
+    accepted!(1, sell!(1, 1, 1100, 15), 3, 0, 0, 0, OPENING),
+    accepted!(0, Command::Uncross, 4, 0, 0, 0, OPENING_INTERRUPTED),
+    accepted!(0, Command::Uncross, 5, 0, 0, 0, OPENING_EXTENDED),
+    accepted!(0, Command::Uncross, 6, 1, 10, 11_000, Phase::Continuous),
+];
+
 /// What a security leaves that was given nothing.
 const FRESH: Left = (0, 0, 1000, 1000, 0, 0);
 
@@ -119,14 +133,20 @@ fn cascades_through_locks(rt: HostRuntime) {
 }
 
 #[test]
-fn static_range_through_locks(rt: HostRuntime) {
-    let case = Case {
+fn calls_out_of_range_through_locks(rt: HostRuntime) {
+    let interrupted = Case {
         workers: 2,
         limit: 100,
         shown: (11, Phase::Continuous, None, None, 1055, 1055, 12),
         left: &[(12, 12_610, 1055, 1055, 0, 0)],
     };
-    run(&rt, &case, &STATIC_RANGE);
+    run(&rt, &interrupted, &STATIC_RANGE);
+    let extended = Case {
+        shown: (6, Phase::Continuous, None, Some(1100), 1100, 1100, 10),
+        left: &[(10, 11_000, 1100, 1100, 1, 0)],
+        ..interrupted
+    };
+    run(&rt, &extended, &EXTENDED);
 }
 
 /// One seat and a watcher; the last of eight securities has trades of its own.
