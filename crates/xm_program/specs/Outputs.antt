@@ -1,5 +1,5 @@
 -- What is written to an output.
-use Rattle.std.specs.Prelude.{◌≡◌, ℕ, List, Option, Some, None, option_map}
+use Rattle.std.specs.Prelude.{◌≡◌, ℕ, List, Option, Some, None, Result, Ok, option_map}
 use Rattle.xm_program.specs.Days.{DayOutputs, Held}
 use Rattle.xm_program.specs.Requests.{AskedDay}
 use Rattle.xm_program.specs.declared.outputs.Output.{Output}
@@ -26,13 +26,13 @@ module _ {F : Type 0} where
   }
 
   -- an output is the file that was made at a path, where there is one
-  abbrev pub IsMade : (List ℕ → F → Type 0) → Option (List ℕ) → Output F → Type 0
-  IsMade Made_at None output = output ≡ Unasked
-  IsMade Made_at (Some path) output = (file : F) × Made_at path file × (output ≡ Made file)
+  abbrev pub IsMade : {E : Type 0} → (List ℕ → Result F E → Type 0) → Option (List ℕ) → Output F → Type 0
+  IsMade Makes None output = output ≡ Unasked
+  IsMade Makes (Some path) output = (file : F) × Makes path (Ok file) × (output ≡ Made file)
 
   -- each text of a day has the file that was made at its path
-  pub record AreMade (Made_at : List ℕ → F → Type 0) (day : AskedDay) (files : TextFiles F) : Type 0 where
-    pub answers : IsMade Made_at day.answers files.answers
-    pub trades : IsMade Made_at day.trades files.trades
-    pub depth : IsMade Made_at day.depth files.depth
-    pub carry : IsMade Made_at (option_map (λ c. c.1) day.carrying) files.carry
+  pub record AreMade {E : Type 0} (Makes : List ℕ → Result F E → Type 0) (day : AskedDay) (files : TextFiles F) : Type 0 where
+    pub answers : IsMade Makes day.answers files.answers
+    pub trades : IsMade Makes day.trades files.trades
+    pub depth : IsMade Makes day.depth files.depth
+    pub carry : IsMade Makes (option_map (λ c. c.1) day.carrying) files.carry

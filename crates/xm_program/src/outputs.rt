@@ -1,10 +1,10 @@
 //! The files that texts beside the statement are written to.
-ghost use Rattle.std.specs.Prelude.{IfOk, Ok, OnOk, map, option_map};
+ghost use Rattle.std.specs.Prelude.{[], IfOk, OnOk, map, option_map};
 ghost use Rattle.std.specs.Fn.{FnReturnsAt};
 ghost use Rattle.std.specs.Io.{WritesAtMost};
 ghost use Rattle.std.specs.Io.KnownBytes.{Keeps, WriteAppends};
 ghost use Rattle.xm_program.specs.Outputs.{AreMade, IsMade};
-ghost use Rattle.xm_program.specs.Places.{AreFree, AreOtherFiles, IsFree, IsOtherFile};
+ghost use Rattle.xm_program.specs.Places.{AreFree, AreOtherFiles, AreSeparate, IsFree, IsOtherFile, IsSeparate};
 ghost use Rattle.xm_program.specs.Requests.{inputs, named_day, outputs};
 
 use crate::places::{Place, is_one_file, is_statements};
@@ -69,20 +69,21 @@ pub(crate) fn make_files<
 >(lies: &L, makes: &M, request: &DayRequest<'_>) -> io::Result<TextFiles<F>>
     requires lies { L.IsAlwaysCallable lies.now }
     requires makes { M.IsAlwaysCallable makes.now }
-    ensures free { OnOk result (AreFree (λ path place. FnReturnsAt L.Fn lies.now path (Ok place)) (inputs (named_day request.now)) (outputs (named_day request.now))) }
-    ensures made { IfOk result (AreMade (λ path file. FnReturnsAt M.Fn makes.now path (Ok file)) (named_day request.now)) }
+    ensures free { OnOk result (AreFree (FnReturnsAt L.Fn lies.now) (inputs (named_day request.now)) (outputs (named_day request.now))) }
+    ensures apart { OnOk result (AreSeparate (FnReturnsAt L.Fn lies.now) [] (outputs (named_day request.now))) }
+    ensures made { IfOk result (AreMade (FnReturnsAt M.Fn makes.now) (named_day request.now)) }
 {
     let paths = request.outputs();
     check_free(lies, &paths, &request.inputs())?;
     let [answers, trades, depth, carry] = paths;
     let answers_file = make_file(lies, makes, answers, &[])?;
     let trades_file = make_file(lies, makes, trades, &[answers])?;
-    let depth_file = make_file(lies, makes, depth, &[answers, trades])?;
+    let depth_file = make_file(lies, makes, depth, &[trades, answers])?;
     Ok(TextFiles {
         answers: answers_file,
         trades: trades_file,
         depth: depth_file,
-        carry: make_file(lies, makes, carry, &[answers, trades, depth])?,
+        carry: make_file(lies, makes, carry, &[depth, trades, answers])?,
     })
 }
 
@@ -95,7 +96,8 @@ fn make_file<F, L: Fn(&str) -> io::Result<Option<Place>>, M: Fn(&str) -> io::Res
 ) -> io::Result<Output<F>>
     requires lies { L.IsAlwaysCallable lies.now }
     requires makes { M.IsAlwaysCallable makes.now }
-    ensures { IfOk result (IsMade (λ path file. FnReturnsAt M.Fn makes.now path (Ok file)) (option_map (λ s. s.now) path.entry)) }
+    ensures apart { OnOk result (IsSeparate (FnReturnsAt L.Fn lies.now) (map (option_map (λ s. s.now)) made.now) (option_map (λ s. s.now) path.entry)) }
+    ensures made { IfOk result (IsMade (FnReturnsAt M.Fn makes.now) (option_map (λ s. s.now) path.entry)) }
 {
     let Some(path) = path else {
         return Ok(Output::Unasked);
@@ -111,7 +113,7 @@ fn check_free<L: Fn(&str) -> io::Result<Option<Place>>>(
     inputs: &[Option<&str>],
 ) -> io::Result<()>
     requires { L.IsAlwaysCallable lies.now }
-    ensures { OnOk result (AreFree (λ path place. FnReturnsAt L.Fn lies.now path (Ok place)) (map (option_map (λ s. s.now)) inputs.now) (map (option_map (λ s. s.now)) paths.now)) }
+    ensures { OnOk result (AreFree (FnReturnsAt L.Fn lies.now) (map (option_map (λ s. s.now)) inputs.now) (map (option_map (λ s. s.now)) paths.now)) }
 {
     match paths {
         [] => Ok(()),
@@ -131,7 +133,7 @@ fn check_path<L: Fn(&str) -> io::Result<Option<Place>>>(
     inputs: &[Option<&str>],
 ) -> io::Result<()>
     requires { L.IsAlwaysCallable lies.now }
-    ensures { OnOk result (IsFree (λ path place. FnReturnsAt L.Fn lies.now path (Ok place)) (map (option_map (λ s. s.now)) inputs.now) path.now) }
+    ensures { OnOk result (IsFree (FnReturnsAt L.Fn lies.now) (map (option_map (λ s. s.now)) inputs.now) path.now) }
 {
     let place = lies(path)?;
     let descriptors = lies(DESCRIPTORS)?;
@@ -150,7 +152,7 @@ fn check_apart<L: Fn(&str) -> io::Result<Option<Place>>>(
     others: &[Option<&str>],
 ) -> io::Result<()>
     requires { L.IsAlwaysCallable lies.now }
-    ensures { OnOk result (AreOtherFiles (λ path place. FnReturnsAt L.Fn lies.now path (Ok place)) path.now place.now (map (option_map (λ s. s.now)) others.now)) }
+    ensures { OnOk result (AreOtherFiles (FnReturnsAt L.Fn lies.now) path.now place.now (map (option_map (λ s. s.now)) others.now)) }
 {
     match others {
         [] => Ok(()),
@@ -172,7 +174,7 @@ fn check_other<L: Fn(&str) -> io::Result<Option<Place>>>(
     other: &str,
 ) -> io::Result<()>
     requires { L.IsAlwaysCallable lies.now }
-    ensures { OnOk result (IsOtherFile (λ path place. FnReturnsAt L.Fn lies.now path (Ok place)) path.now place.now other.now) }
+    ensures { OnOk result (IsOtherFile (FnReturnsAt L.Fn lies.now) path.now place.now other.now) }
 {
     let found = if place.is_some() { lies(other)? } else { None };
     if is_one_file(path, place, other, &found) {
