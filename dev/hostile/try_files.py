@@ -155,7 +155,8 @@ def run_least(program, room, day, most):
     if day.orders is not None:
         with open(orders, "w", encoding="ascii", newline="") as text:
             text.write(day.orders)
-        words = [program, "run", segment, orders, *day.words]
+        one_thread = () if "--threads" in day.words or "--workers" in day.words else ("--threads", "1")
+        words = [program, "run", segment, orders, *day.words, *one_thread]
     least = run_once(words, room, most)
     for _ in range(2):
         if least.seconds * 3 < most:

@@ -123,10 +123,11 @@ fn command_line(rt: &(impl Abort + AllocGlobal), words: &[&str]) -> Vec<String> 
     line
 }
 
-/// How rows are taken, as a word and a number.
+/// How rows are taken, as a word and a number: 0 for as many threads as the program chooses.
 fn taken(concurrency: Concurrency) -> (&'static str, u32) {
     match concurrency {
-        Concurrency::Threads(threads) => ("on", threads.get()),
+        Concurrency::Threads(None) => ("on", 0),
+        Concurrency::Threads(Some(threads)) => ("on", threads.get()),
         Concurrency::Workers(workers) => ("by", workers.get()),
     }
 }
@@ -187,19 +188,19 @@ macro_rules! untold {
     };
 }
 
-const RUNS: [Answered; 20] = [
+const RUNS: [Answered; 21] = [
     (
         &["run", "day.toml", "day.csv"],
-        untold!("run day.toml and day.csv on 1"),
+        untold!("run day.toml and day.csv on 0"),
     ),
     (
         &["run", "--", "-s", "--orders"],
-        untold!("run -s and --orders on 1"),
+        untold!("run -s and --orders on 0"),
     ),
-    (&["run", "a day", ""], untold!("run a day and  on 1")),
+    (&["run", "a day", ""], untold!("run a day and  on 0")),
     (
         &["run", "day.toml", "day.csv", "--workers", "1"],
-        untold!("run day.toml and day.csv on 1"),
+        untold!("run day.toml and day.csv on 0"),
     ),
     (
         &["run", "--workers", "64", "day.toml", "day.csv"],
@@ -208,6 +209,10 @@ const RUNS: [Answered; 20] = [
     (
         &["run", "day.toml", "--workers=+08", "day.csv"],
         untold!("run day.toml and day.csv by 8"),
+    ),
+    (
+        &["run", "day.toml", "day.csv", "--threads", "1"],
+        untold!("run day.toml and day.csv on 1"),
     ),
     (
         &["run", "day.toml", "day.csv", "--threads", "64"],
@@ -228,7 +233,7 @@ const RUNS: [Answered; 20] = [
     (
         &["run", "day.toml", "day.csv", "--answers", "a file"],
         Printed::Text(
-            "run day.toml and day.csv on 1, answers to a file, trades to nowhere, levels to nowhere",
+            "run day.toml and day.csv on 0, answers to a file, trades to nowhere, levels to nowhere",
         ),
     ),
     (
@@ -248,7 +253,7 @@ const RUNS: [Answered; 20] = [
     (
         &["run", "day.toml", "day.csv", "--depth", "a", "--answers=b"],
         Printed::Text(
-            "run day.toml and day.csv on 1, answers to b, trades to nowhere, levels to a",
+            "run day.toml and day.csv on 0, answers to b, trades to nowhere, levels to a",
         ),
     ),
     (
@@ -299,7 +304,7 @@ const RUNS: [Answered; 20] = [
 const CARRIES: [Answered; 8] = [
     (
         &["carry", "day.toml", "in.csv", "day.csv", "out.csv"],
-        untold!("carry day.toml, in.csv and day.csv to out.csv on 1"),
+        untold!("carry day.toml, in.csv and day.csv to out.csv on 0"),
     ),
     (
         &[
@@ -628,14 +633,13 @@ fn tell_day(
     let storage = Storage::with_fixed_seed(rt.alloc());
     let (mut segment, mut orders) = (SEGMENT.as_bytes(), CASCADE.as_bytes());
     let mut carried = NONE_LEFT.as_bytes();
-    let alone = Concurrency::Threads(Count::new(1).expect(rt, "a number of threads"));
     carry_over(
         rt,
         storage,
         &mut segment,
         &mut carried,
         &mut orders,
-        alone,
+        Concurrency::Threads(None),
         asked,
         out,
         files,

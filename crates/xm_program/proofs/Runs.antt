@@ -23,7 +23,7 @@ use Rattle.xm_program.specs.declared.requests.Failure.TheVariants.{Day}
 use Rattle.xm_program.specs.declared.requests.Request.{Request}
 use Rattle.xm_program.specs.declared.requests.Request.TheVariants as request
 use Rattle.xm_program.specs.declared.requests.Request.TheVariants.{Check, Help}
-use Rattle.xm_program.specs.Requests.{AnswersWords, Asked, AskedDay, Asks, AsksDay, IsCount, IsOfWords, IsRequest, Meets, answer_at, answer_of, asked_in, asked_of, can_write, check, concurrency_of, count_in, count_rule, day, day_app, day_in, file_rule, is_mistake, is_plain_path, is_plain_word, option_words, path_words}
+use Rattle.xm_program.specs.Requests.{AnswersWords, Asked, AskedDay, Asks, AsksDay, IsCount, IsOfWords, IsRequest, Meets, answer_at, answer_of, asked_in, asked_of, can_write, check, concurrency_of, count_in, count_rule, day, day_app, day_in, file_rule, is_mistake, is_plain_path, is_plain_word, option_words, path_words, threads_in}
 use Rattle.xm_program.proofs.Numbers.{number-text}
 use Rattle.xm_program.proofs.Walks.{Gathered, IsOption, IsPlain, IsWalked, Stands, Steps, and-then, both-true, default-else, defaults-at, further, or_default, or_else, row, row_at, rows_in, step, walked_over, with_row}
 
@@ -106,8 +106,14 @@ taken-by name shape s program behind end asked w ends is =
 abbrev file_option : Text → Rule
 file_option id = filled (file_rule id)
 
-abbrev count_option : Text → Rule
-count_option id = filled (count_rule id)
+abbrev count_option : Text → List Text → Rule
+count_option id defaults = filled (record (count_rule id) { defaults = defaults })
+
+abbrev workers_option : Rule
+workers_option = count_option (codes "workers") (codes "1" ∷ [])
+
+abbrev threads_option : Rule
+threads_option = count_option (codes "threads") []
 
 -- the number that is read where none is given
 abbrev one : Text → Row
@@ -123,13 +129,13 @@ record IsDayShape (shape : Shape) : Type 0 where
   answers : IsOption shape (codes "--answers") (file_option (codes "answers"))
   trades : IsOption shape (codes "--trades") (file_option (codes "trades"))
   depth : IsOption shape (codes "--depth") (file_option (codes "depth"))
-  workers : IsOption shape (codes "--workers") (count_option (codes "workers"))
-  threads : IsOption shape (codes "--threads") (count_option (codes "threads"))
+  workers : IsOption shape (codes "--workers") workers_option
+  threads : IsOption shape (codes "--threads") threads_option
   no_answers : default_of shape (codes "answers") ≡ None
   no_trades : default_of shape (codes "trades") ≡ None
   no_depth : default_of shape (codes "depth") ≡ None
+  no_threads : default_of shape (codes "threads") ≡ None
   one_worker : default_of shape (codes "workers") ≡ Some (one (codes "workers"))
-  one_thread : default_of shape (codes "threads") ≡ Some (one (codes "threads"))
   defaults : list_all default_passes shape.rules ≡ true
 
 -- what stands before the options of a day: the paths that these words are
@@ -154,9 +160,9 @@ plain-file : (id : Text) (path : Option Text) → is_plain_path path ≡ true �
 plain-file id None h text e = absurd (cc)
 plain-file id (Some path) h text e = let same : path ≡ text = cc in rw (sym same) (plain path h, refl)
 
-plain-count : (id : Text) (number : Option ℕ) → IfSome number IsCount → (text : Text) → option_map decimal number ≡ Some text → IsPlain text × (value_passes (count_option id) text ≡ true)
-plain-count id None h text e = absurd (cc)
-plain-count id (Some number) h text e =
+plain-count : (id : Text) (defaults : List Text) (number : Option ℕ) → IfSome number IsCount → (text : Text) → option_map decimal number ≡ Some text → IsPlain text × (value_passes (count_option id defaults) text ≡ true)
+plain-count id defaults None h text e = absurd (cc)
+plain-count id defaults (Some number) h text e =
     let same : decimal number ≡ text = cc in
     let is = number-text number h.0 h.1 in
     rw (sym same) (plain (decimal number) is.is_plain, is.passes)
@@ -173,13 +179,13 @@ record IsFine (d : AskedDay) (w n : Option ℕ) : Type 0 where
   depth : is_plain_path d.depth ≡ true
   workers : IfSome w IsCount
   threads : IfSome n IsCount
-  concurrency : concurrency_of (unwrap_or w 1) (unwrap_or n 1) ≡ Some d.concurrency
+  concurrency : concurrency_of (unwrap_or w 1) n ≡ Some d.concurrency
   can : can_write d ≡ true
 
 module _ (name : Text) (shape : Shape) (command : IsSubcommand name shape) (is : IsDayShape shape) (words : List Text) (d : AskedDay) (of : HasPaths name shape words d) (w n : Option ℕ) (fine : IsFine d w n) where
   abbrev at_end : Text → Option Row
   at_end =
-      with_row (count_option (codes "threads")) (option_map decimal n) (with_row (count_option (codes "workers")) (option_map decimal w) (with_row (file_option (codes "depth")) d.depth
+      with_row threads_option (option_map decimal n) (with_row workers_option (option_map decimal w) (with_row (file_option (codes "depth")) d.depth
       (with_row (file_option (codes "trades")) d.trades (with_row (file_option (codes "answers")) d.answers (λ k. row_at k of.rows)))))
 
   steps : Steps shape of.paths of.gathered (options d w n) at_end
@@ -187,8 +193,8 @@ module _ (name : Text) (shape : Shape) (command : IsSubcommand name shape) (is :
       let a = step of.paths d.answers of.stands is.answers of.answers (plain-file (codes "answers") d.answers fine.answers) in
       let t = step of.paths d.trades a.stands is.trades (rw of.trades refl) (plain-file (codes "trades") d.trades fine.trades) in
       let l = step of.paths d.depth t.stands is.depth (rw of.depth refl) (plain-file (codes "depth") d.depth fine.depth) in
-      let m = step of.paths (option_map decimal w) l.stands is.workers (rw of.workers refl) (plain-count (codes "workers") w fine.workers) in
-      let o = step of.paths (option_map decimal n) m.stands is.threads (rw of.threads refl) (plain-count (codes "threads") n fine.threads) in
+      let m = step of.paths (option_map decimal w) l.stands is.workers (rw of.workers refl) (plain-count (codes "workers") (codes "1" ∷ []) w fine.workers) in
+      let o = step of.paths (option_map decimal n) m.stands is.threads (rw of.threads refl) (plain-count (codes "threads") [] n fine.threads) in
       and-then a (and-then t (and-then l (and-then m o)))
 
   abbrev values : List Row
@@ -218,11 +224,11 @@ module _ (name : Text) (shape : Shape) (command : IsSubcommand name shape) (is :
       let text = number-text k h.0 h.1 in
       rw (value-at (codes "workers"), of.workers, is.one_worker, e) (ap count_in text.as_it_stands ∙ text.is_in)
 
-  threads-read : (o : Option ℕ) → n ≡ o → IfSome o IsCount → option_and_then count_in (one_of (codes "threads") values) ≡ Some (unwrap_or o 1)
-  threads-read None e h = rw (value-at (codes "threads"), of.threads, is.one_thread, e) refl
+  threads-read : (o : Option ℕ) → n ≡ o → IfSome o IsCount → threads_in values ≡ Some o
+  threads-read None e h = rw (value-at (codes "threads"), of.threads, is.no_threads, e) refl
   threads-read (Some k) e h =
       let text = number-text k h.0 h.1 in
-      rw (value-at (codes "threads"), of.threads, is.one_thread, e) (ap count_in text.as_it_stands ∙ text.is_in)
+      rw (value-at (codes "threads"), of.threads, is.no_threads, e) (ap (option_map Some) (ap count_in text.as_it_stands ∙ text.is_in))
 
   -- the day that these values ask for
   day-read : day_in d.carrying values ≡ Some d
@@ -264,13 +270,13 @@ run-shape = record {
   answers = option-of run_shape (codes "--answers") (codes "answers") (file_option (codes "answers")) refl refl refl refl refl refl refl refl;
   trades = option-of run_shape (codes "--trades") (codes "trades") (file_option (codes "trades")) refl refl refl refl refl refl refl refl;
   depth = option-of run_shape (codes "--depth") (codes "depth") (file_option (codes "depth")) refl refl refl refl refl refl refl refl;
-  workers = option-of run_shape (codes "--workers") (codes "workers") (count_option (codes "workers")) refl refl refl refl refl refl refl refl;
-  threads = option-of run_shape (codes "--threads") (codes "threads") (count_option (codes "threads")) refl refl refl refl refl refl refl refl;
+  workers = option-of run_shape (codes "--workers") (codes "workers") workers_option refl refl refl refl refl refl refl refl;
+  threads = option-of run_shape (codes "--threads") (codes "threads") threads_option refl refl refl refl refl refl refl refl;
   no_answers = refl;
   no_trades = refl;
   no_depth = refl;
+  no_threads = refl;
   one_worker = refl;
-  one_thread = refl;
   defaults = refl;
 }
 
@@ -283,13 +289,13 @@ carry-shape = record {
   answers = option-of carry_shape (codes "--answers") (codes "answers") (file_option (codes "answers")) refl refl refl refl refl refl refl refl;
   trades = option-of carry_shape (codes "--trades") (codes "trades") (file_option (codes "trades")) refl refl refl refl refl refl refl refl;
   depth = option-of carry_shape (codes "--depth") (codes "depth") (file_option (codes "depth")) refl refl refl refl refl refl refl refl;
-  workers = option-of carry_shape (codes "--workers") (codes "workers") (count_option (codes "workers")) refl refl refl refl refl refl refl refl;
-  threads = option-of carry_shape (codes "--threads") (codes "threads") (count_option (codes "threads")) refl refl refl refl refl refl refl refl;
+  workers = option-of carry_shape (codes "--workers") (codes "workers") workers_option refl refl refl refl refl refl refl refl;
+  threads = option-of carry_shape (codes "--threads") (codes "threads") threads_option refl refl refl refl refl refl refl refl;
   no_answers = refl;
   no_trades = refl;
   no_depth = refl;
+  no_threads = refl;
   one_worker = refl;
-  one_thread = refl;
   defaults = refl;
 }
 

@@ -1,9 +1,12 @@
 -- What was written before all of it was sent out, and what goes out one text after the other.
-use Rattle.std.proofs.Common.{◌≡◌, ◌⊎◌, ℕ, List, [], ◌∷◌, length, Option, Result, Ok, Err, OnOk, inl, inr, subst, sym, arith, IfErr}
+use Rattle.std.proofs.Common.{◌≡◌, ◌⊎◌, ℕ, List, [], ◌∷◌, length, Option, None, Some, Result, Ok, Err, OnOk, inl, inr, subst, sym, arith, IfErr}
 use Rattle.std.proofs.Math.Seq.{take-length}
 use Rattle.std.specs.Io.KnownBytes.{Appends, Keeps}
 use Rattle.xm_day.proofs.Written.{appended}
 use Rattle.xm_day.specs.Answers.{InFileOrder}
+use Rattle.xm_day.specs.Days.{DayFiles}
+use Rattle.xm_day.specs.declared.value.HandsOn.{HandsOn}
+use Rattle.xm_texts.specs.declared.asked.AskedTexts.{AskedTexts}
 use Rattle.xm_config.specs.Day.{Day}
 use Rattle.xm_replay.specs.declared.faults.DayFault.{DayFault}
 use Rattle.xm_replay.specs.declared.faults.DayFault.TheVariants.{WriteFailed}
@@ -11,7 +14,7 @@ use Rattle.xm_config.specs.declared.config.SegmentConfig.{SegmentConfig}
 use Rattle.xm_config.specs.declared.rows.Row.{Row}
 use Rattle.xm_ticks.specs.Writing.{AppendsPrefix}
 use Rattle.xm_workers.specs.Workers.{IsShared}
-use Rattle.xm_program.specs.Days.{AppendsBeginning, EndsBy, Sending, SendingEnds}
+use Rattle.xm_program.specs.Days.{AppendsBeginning, DayCallEnds, DayOutputs, EndsBy, IsChosen, Sending, SendingEnds}
 use Rattle.xm_program.specs.declared.concurrency.Concurrency.{Concurrency}
 use Rattle.xm_program.specs.declared.concurrency.Concurrency.TheVariants.{Threads, Workers}
 
@@ -27,6 +30,14 @@ ends-by (Workers workers) Before After follows ends = record {
 pub ends-anyhow : (concurrency : Concurrency) (After : (SegmentConfig → List Row → Day → Type 0) → Type 0) → ((days : SegmentConfig → List Row → Day → Type 0) → After days) → EndsBy concurrency After
 ends-anyhow (Threads threads) After holds = holds InFileOrder
 ends-anyhow (Workers workers) After holds = record { alone = λ one. holds InFileOrder; shared = λ more. holds (IsShared workers) }
+
+-- a day ended so, on whatever number of threads where none is said
+pub ends-said : {asked : AskedTexts} {handing : HandsOn} {files : DayFiles} {out : DayOutputs} {result : Result (Unit {0}) DayFault} (said chosen : Concurrency) → IsChosen said chosen
+    → DayCallEnds chosen asked handing files out result → DayCallEnds said asked handing files out result
+ends-said (Threads None) (Threads threads) is ends = record { made = ends.made; is_day = ends.is_day; is_sent = ends.is_sent }
+ends-said (Threads None) (Workers workers) is ends = absurd is
+ends-said {asked} {handing} {files} {out} {result} (Threads (Some threads)) chosen is ends = subst (λ (c : Concurrency). DayCallEnds c asked handing files out result) is ends
+ends-said {asked} {handing} {files} {out} {result} (Workers workers) chosen is ends = subst (λ (c : Concurrency). DayCallEnds c asked handing files out result) is ends
 
 -- ---- texts
 

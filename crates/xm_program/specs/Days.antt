@@ -1,5 +1,5 @@
 -- How a day and a check end, as the program tells it.
-use Rattle.std.specs.Prelude.{◌≡◌, ◌≢◌, ◌≤◌, ◌⊎◌, ℕ, Bool, true, false, List, [], ◌∷◌, length, take, Option, is_some, Result, Ok, Err, Vec}
+use Rattle.std.specs.Prelude.{◌≡◌, ◌≢◌, ◌≤◌, ◌⊎◌, ℕ, Bool, true, false, List, [], ◌∷◌, length, take, Option, None, is_some, Result, Ok, Err, ⊤, Vec}
 use Rattle.std.specs.Global.{Global}
 use Rattle.std.specs.Io.KnownBytes.{Appends}
 use Rattle.xm_day.specs.Answers.{InFileOrder}
@@ -29,6 +29,12 @@ pub record EndsByWorkers (workers : ℕ) (Ends : (SegmentConfig → List Row →
 abbrev pub EndsBy : Concurrency → ((SegmentConfig → List Row → Day → Type 0) → Type 0) → Type 0
 EndsBy (Threads threads) Ends = Ends InFileOrder
 EndsBy (Workers workers) Ends = EndsByWorkers workers Ends
+
+-- rows are taken so where that is said of them: on any number of threads where none is
+abbrev pub IsChosen : Concurrency → Concurrency → Type 0
+IsChosen (Threads None) (Threads threads) = ⊤
+IsChosen (Threads None) (Workers workers) = ⊥
+IsChosen said chosen = chosen ≡ said
 
 -- the texts that go with rows that are taken so: workers tell nothing of them
 abbrev pub asked_with : Concurrency → AskedTexts → AskedTexts

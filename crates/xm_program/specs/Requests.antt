@@ -34,15 +34,18 @@ use Rattle.xm_program.specs.declared.requests.Failure.TheVariants.{Day, Words}
 abbrev pub path_rule : Text → Rule
 path_rule id = record (new_rule id) { required = true; action = Some Set }
 
--- `--workers N` or `--threads N`, a number from 1 on, which is 1 where the words give none
+-- `--workers N` or `--threads N`, a number from 1 on, which may be left out
 abbrev pub count_rule : Text → Rule
 count_rule id = record (new_rule id) {
   long = Some id;
   action = Some Set;
   value_names = 1;
-  defaults = codes "1" ∷ [];
   parser = Some (Signed (pos 1) (pos max_workers));
 }
+
+-- `--workers N`, which is 1 where the words give none
+abbrev pub workers_rule : Rule
+workers_rule = record (count_rule (codes "workers")) { defaults = codes "1" ∷ [] }
 
 -- `--answers FILE`, `--trades FILE` or `--depth FILE`, which may be left out
 abbrev pub file_rule : Text → Rule
@@ -51,7 +54,7 @@ file_rule id = record (new_rule id) { long = Some id; action = Some Set; value_n
 -- how the rows of a day are taken, and the texts beside its statement: `--workers N --threads N --answers FILE --trades FILE --depth FILE`
 abbrev pub with_options : App → App
 with_options app =
-    with_rule (with_rule (with_rule (with_rule (with_rule app (count_rule (codes "workers"))) (count_rule (codes "threads")))
+    with_rule (with_rule (with_rule (with_rule (with_rule app workers_rule) (count_rule (codes "threads")))
     (file_rule (codes "answers"))) (file_rule (codes "trades"))) (file_rule (codes "depth"))
 
 -- `run SEGMENT ORDERS`, with these options
@@ -100,15 +103,20 @@ pub data Asked : Type 0 where
 abbrev pub count_in : Text → Option ℕ
 count_in text = if is_unsigned_in 1 max_workers text then Some (digits_value 10 (without_leading_plus text)) else None
 
--- how so many workers take the rows, on so many threads: one worker in the order of the file, several side by side, each on one
--- thread
-abbrev pub concurrency_of : ℕ → ℕ → Option Concurrency
-concurrency_of workers threads = if workers == 1 then Some (Threads threads) else (if threads == 1 then Some (Workers workers) else None)
+-- how so many workers take the rows, on so many threads where the words say it: one worker in the order of the file, several side by
+-- side, each on one thread
+abbrev pub concurrency_of : ℕ → Option ℕ → Option Concurrency
+concurrency_of workers threads = if workers == 1 then Some (Threads threads) else (if unwrap_or threads 1 == 1 then Some (Workers workers) else None)
+
+-- on how many threads, if the words say it
+abbrev pub threads_in : List Row → Option (Option ℕ)
+threads_in rows =
+    if is_some (first_of (codes "threads") rows) then option_map Some (option_and_then count_in (one_of (codes "threads") rows)) else Some None
 
 -- how rows are taken, by these values
 abbrev pub concurrency_in : List Row → Option Concurrency
 concurrency_in rows =
-    option_and_then (λ workers. option_and_then (concurrency_of workers) (option_and_then count_in (one_of (codes "threads") rows)))
+    option_and_then (λ workers. option_and_then (concurrency_of workers) (threads_in rows))
     (option_and_then count_in (one_of (codes "workers") rows))
 
 -- a path is not that of standard output
@@ -215,7 +223,7 @@ pub record AsksDay (words : List Text) (d : AskedDay) : Type 0 where
       ++ (option_words (codes "--workers") (option_map decimal workers) ++ option_words (codes "--threads") (option_map decimal threads))))))
   pub are_plain : list_all is_plain_path (Some d.segment ∷ Some d.orders ∷ option_map (λ c. c.0) d.carrying ∷ outputs d) ≡ true
   pub are_counts : IfSome workers IsCount × IfSome threads IsCount
-  pub concurrency_is : concurrency_of (unwrap_or workers 1) (unwrap_or threads 1) ≡ Some d.concurrency
+  pub concurrency_is : concurrency_of (unwrap_or workers 1) threads ≡ Some d.concurrency
   pub is_writable : can_write d ≡ true
 
 -- the words are the program's name, `check` and a path

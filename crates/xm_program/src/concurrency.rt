@@ -7,21 +7,21 @@ use crate::count::Count;
 /// How the rows of a day are taken.
 #[derive(Clone, Copy, PartialEq, Eq, Debug)]
 pub enum Concurrency {
-    /// In the order of the file, on so many threads: what is written is what one thread writes.
-    Threads(Count),
+    /// In the order of the file, on so many threads, if these are said: what is written is what one thread writes.
+    Threads(Option<Count>),
     /// By so many workers, side by side, each the rows of its members in their order.
     Workers(Count),
 }
 
-/// How so many workers take the rows, on so many threads. Several of the ones go with one of the others alone.
-pub(crate) fn concurrency_of(workers: Count, threads: Count) -> Option<Concurrency>
+/// How so many workers take the rows, on so many threads, if these are said. Several of the ones go with one of the others alone.
+pub(crate) fn concurrency_of(workers: Count, threads: Option<Count>) -> Option<Concurrency>
     ensures { result ≡ concurrency_of workers threads }
 {
     if workers.get() == 1 {
-        Some(Concurrency::Threads(threads))
-    } else if threads.get() == 1 {
-        Some(Concurrency::Workers(workers))
-    } else {
-        None
+        return Some(Concurrency::Threads(threads));
+    }
+    match threads {
+        Some(threads) if threads.get() != 1 => None,
+        _ => Some(Concurrency::Workers(workers)),
     }
 }

@@ -33,6 +33,13 @@ impl Count {
         }
     }
 
+    /// So many, or the nearest number in range.
+    pub(crate) fn nearest(number: usize) -> Count {
+        Count {
+            number: number.clamp(1, MAX_WORKERS as usize) as u32,
+        }
+    }
+
     /// The number.
     pub fn get(self) -> u32
         ensures value { result ≡ self }

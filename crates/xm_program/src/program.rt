@@ -4,13 +4,14 @@ ghost use Rattle.std.specs.Io.KnownBytes.{Appends};
 ghost use Rattle.std.specs.Process.{exit_status};
 ghost use Rattle.clap.specs.Words.{fault_of};
 ghost use Rattle.xm_day.specs.Days.{TakesFile};
-ghost use Rattle.xm_program.specs.Days.{AppendsBeginning, CheckCallEnds, DayCallEnds, DayIsSent, EndsBy, IsDayBy, SendingEnds, asked_with, sendings};
+ghost use Rattle.xm_program.specs.Days.{AppendsBeginning, CheckCallEnds, DayCallEnds, DayIsSent, EndsBy, IsChosen, IsDayBy, SendingEnds, asked_with, sendings};
 ghost use Rattle.xm_program.specs.Ends.{AskedEnds, CallEnds, IsDone, IsToldAs};
 ghost use Rattle.xm_program.specs.Outputs.{outputs_of};
 ghost use Rattle.xm_program.specs.Requests.{RefusesBytes, asked_of, day, day_app, named_day, end_status};
 
 use crate::complaints::Complaints;
 use crate::concurrency::Concurrency;
+use crate::count::Count;
 use crate::fault_lines::fault_line;
 use crate::outputs::TextFiles;
 use crate::places::place_in;
@@ -24,7 +25,7 @@ use std::random::RandomSource;
 use std::rt::{Env, Files};
 use std::sync::Wait;
 use std::thread::Threads;
-use std::{env, fs, io};
+use std::{env, fs, io, thread};
 use xm_config::SegmentConfig;
 use xm_day::{
     AskedTexts, DayFault, DayTexts, HandsOn, TakenDay, day_texts, open_carried_files, open_files,
@@ -35,6 +36,9 @@ use xm_memory::OutOfMemory;
 use xm_name_index::{Seed, Storage};
 use xm_segment::NoGate;
 use xm_ticks::write_whole;
+
+/// The least bytes of an order file that is worth several threads: those of some 20,000 rows.
+const LONG_FILE: u64 = 700_000;
 
 /// Does what the command line asks for, tells on standard error where it can't, and gives the status to end with.
 pub fn run_program<
@@ -94,7 +98,7 @@ fn write_day<R: AllocGlobal + Files + RandomSource + Threads + Wait + Sync, W: W
         Ok(files) => files,
         Err(_) => return Err(DayFault::WriteFailed),
     };
-    let (concurrency, asked) = (request.concurrency, request.asked());
+    let (concurrency, asked) = (chosen(rt, request), request.asked());
     let mut segment = inputs::open_input(|path| fs::open(rt, path), request.segment);
     match &request.carrying {
         None => {
@@ -125,6 +129,33 @@ fn write_day<R: AllocGlobal + Files + RandomSource + Threads + Wait + Sync, W: W
                 &mut files,
             )
         }
+    }
+}
+
+/// How the rows of a day are taken: as the words say it, and on as many threads as they are worth where these say none.
+fn chosen<R: Files + Threads>(rt: &R, request: &DayRequest<'_>) -> Concurrency
+    ensures { IsChosen request.now.concurrency result }
+{
+    match request.concurrency {
+        Concurrency::Threads(None) => Concurrency::Threads(Some(threads_for(rt, request.orders))),
+        Concurrency::Threads(Some(threads)) => Concurrency::Threads(Some(threads)),
+        Concurrency::Workers(workers) => Concurrency::Workers(workers),
+    }
+}
+
+/// On how many threads the rows of an order file are taken where the words don't say it: on as many as there are processors, and on one
+/// where the file is short, or where the system tells no length of it, as of a pipe.
+fn threads_for<R: Files + Threads>(rt: &R, orders: &str) -> Count {
+    let length = match fs::metadata(rt, orders) {
+        Ok(found) => found.len(),
+        Err(_) => 0,
+    };
+    if length < LONG_FILE {
+        return Count::nearest(1);
+    }
+    match thread::available_parallelism(rt) {
+        Ok(processors) => Count::nearest(processors.get()),
+        Err(_) => Count::nearest(1),
     }
 }
 
@@ -260,7 +291,11 @@ fn take_rows<R: Threads + Wait + Sync, O: Read>(
 {
     match concurrency {
         Concurrency::Threads(threads) => {
-            take_on_threads(rt, threads.get(), storage, config, names, orders, asked)
+            let threads = match threads {
+                Some(threads) => threads.get(),
+                None => 1,
+            };
+            take_on_threads(rt, threads, storage, config, names, orders, asked)
         }
         Concurrency::Workers(workers) => {
             take_shared(rt, &NoGate, workers.get(), storage, config, names, orders)

@@ -4,7 +4,7 @@ ghost use Rattle.std.specs.List.{list_any};
 ghost use Rattle.clap.specs.Words.{app_of, fault_of, first_of, found_of, kind_of, new_app, one_of, rows_of, rule_of, subcommand_rows_of, takes};
 ghost use Rattle.clap.specs.declared.builder.command.Command.TheViews.{out-Command as fields_of};
 ghost use Rattle.clap.specs.declared.error.kind.ErrorKind.TheVariants as kind;
-ghost use Rattle.xm_program.specs.Requests.{AnswersWords, Asked, Asks, IsGranted, IsOfWords, IsRequest, IsTold, IsUnread, Meets, answer_of, are_apart, asked_in, asked_of, asked_texts, can_write, carried_by, carried_day_in, carry_app, check_app, concurrency_in, count_in, count_rule, day, day_app, day_in, inputs, named_day, failure_status, file_rule, is_file, is_one_path, outputs, path_rule, run_app, top_app, with_options};
+ghost use Rattle.xm_program.specs.Requests.{AnswersWords, Asked, Asks, IsGranted, IsOfWords, IsRequest, IsTold, IsUnread, Meets, answer_of, are_apart, asked_in, asked_of, asked_texts, can_write, carried_by, carried_day_in, carry_app, check_app, concurrency_in, count_in, count_rule, day, day_app, day_in, inputs, named_day, failure_status, file_rule, is_file, is_one_path, outputs, path_rule, run_app, threads_in, top_app, with_options, workers_rule};
 
 use crate::concurrency::{Concurrency, concurrency_of};
 use crate::count::Count;
@@ -172,9 +172,10 @@ const THREADS_SHORT: &str = "On how many threads the rows are taken, in the orde
 const THREADS_HELP: &str =
     "On how many threads the rows are taken, in the order of the file: 1 to 64
 
-For a replay: as many as there are processors. What is written is what one thread writes, byte for
-byte. Each thread takes the rows of securities of its own while the file is read ahead of it, so a
-day of one security gains from the reading alone. It goes with one worker.";
+By default on as many as there are processors where ORDERS has 700,000 bytes or more, some 20,000
+rows, and else on one. What is written is what one thread writes, byte for byte. Each thread takes
+the rows of securities of its own while the file is read ahead of it, so a day of one security
+gains from the reading alone. It goes with one worker.";
 
 const CHECK_SHORT: &str = "Checks a segment file and writes how many securities and members it has";
 
@@ -431,7 +432,7 @@ fn why_not(matches: &ArgMatches<'_>) -> &'static str {
         Some((_, values)) => {
             if concurrency_in(values).is_none() {
                 CANNOT_SHARE
-            } else if is_file(path_in(values, KEEP)) {
+            } else if is_file(text_in(values, KEEP)) {
                 CANNOT_TELL
             } else {
                 CANNOT_KEEP
@@ -450,7 +451,7 @@ fn request_in<'a>(matches: &ArgMatches<'a>) -> Option<Request<'a>>
         RUN => day_in(values, &None),
         CARRY => carried_day_in(values),
         CHECK => Some(Request::Check {
-            segment: path_in(values, SEGMENT)?,
+            segment: text_in(values, SEGMENT)?,
         }),
         _ => None,
     }
@@ -461,14 +462,14 @@ fn day_in<'a>(values: &ArgMatches<'a>, carrying: &Option<Carrying<'a>>) -> Optio
     ensures { Meets (option_map day (day_in (option_map carried_by carrying.now) (rows_of (found_of values.now)))) result }
 {
     let day = DayRequest {
-        segment: path_in(values, SEGMENT)?,
-        orders: path_in(values, ORDERS)?,
+        segment: text_in(values, SEGMENT)?,
+        orders: text_in(values, ORDERS)?,
         carrying: *carrying,
         concurrency: concurrency_in(values)?,
         texts: TextPaths {
-            answers: path_in(values, ANSWERS),
-            trades: path_in(values, TRADES),
-            depth: path_in(values, DEPTH),
+            answers: text_in(values, ANSWERS),
+            trades: text_in(values, TRADES),
+            depth: text_in(values, DEPTH),
         },
     };
     if day.can_be_written() {
@@ -482,13 +483,13 @@ fn day_in<'a>(values: &ArgMatches<'a>, carrying: &Option<Carrying<'a>>) -> Optio
 fn carried_day_in<'a>(values: &ArgMatches<'a>) -> Option<Request<'a>>
     ensures { Meets (option_map day (carried_day_in (rows_of (found_of values.now)))) result }
 {
-    let from = path_in(values, CARRIED)?;
-    let to = path_in(values, KEEP)?;
+    let from = text_in(values, CARRIED)?;
+    let to = text_in(values, KEEP)?;
     day_in(values, &Some(Carrying { from, to }))
 }
 
-/// The path that has this name among the values of a subcommand.
-fn path_in<'a>(values: &ArgMatches<'a>, name: &str) -> Option<&'a str>
+/// The text that has this name among the values of a subcommand.
+fn text_in<'a>(values: &ArgMatches<'a>, name: &str) -> Option<&'a str>
     ensures { option_map (λ s. s.now) result ≡ first_of name.now (rows_of (found_of values.now)) }
 {
     values.get_str(name)
@@ -542,8 +543,18 @@ fn concurrency_in(values: &ArgMatches<'_>) -> Option<Concurrency>
     ensures { result ≡ concurrency_in (rows_of (found_of values.now)) }
 {
     let workers = count_in(values, WORKERS)?;
-    let threads = count_in(values, THREADS)?;
+    let threads = threads_in(values)?;
     concurrency_of(workers, threads)
+}
+
+/// On how many threads rows are taken, if the values of a run say it.
+fn threads_in(values: &ArgMatches<'_>) -> Option<Option<Count>>
+    ensures { result ≡ threads_in (rows_of (found_of values.now)) }
+{
+    if text_in(values, THREADS).is_none() {
+        return Some(None);
+    }
+    Some(Some(count_in(values, THREADS)?))
 }
 
 /// The number that stands behind an option of a run.
@@ -628,7 +639,7 @@ fn with_options<'a>(alloc: Global, command: Command<'a>) -> Result<Command<'a>, 
     ensures local { IfOk result (λ with. (fields_of with).has_globals ≡ false) }
 {
     let command = command
-        .arg(count(alloc, WORKERS, WORKERS_SHORT, WORKERS_HELP))?
+        .arg(workers(alloc))?
         .arg(count(alloc, THREADS, THREADS_SHORT, THREADS_HELP))?
         .arg(file(alloc, ANSWERS, ANSWERS_SHORT, ANSWERS_HELP))?
         .arg(file(alloc, TRADES, TRADES_SHORT, TRADES_HELP))?
@@ -667,6 +678,14 @@ fn path<'a>(alloc: Global, name: &'a str, help: &'a str) -> Arg<'a>
         .help(help)
 }
 
+/// The number of workers, which is 1 where it is left out.
+fn workers<'a>(alloc: Global) -> Arg<'a>
+    ensures rule { rule_of result ≡ workers_rule }
+    ensures local { result.global ≡ false }
+{
+    count(alloc, WORKERS, WORKERS_SHORT, WORKERS_HELP).default_value("1")
+}
+
 /// A number of workers or of threads, which may be left out, with its help in short and at length.
 fn count<'a>(alloc: Global, name: &'a str, short: &'a str, long: &'a str) -> Arg<'a>
     ensures rule { rule_of result ≡ count_rule name.entry.now }
@@ -677,7 +696,6 @@ fn count<'a>(alloc: Global, name: &'a str, short: &'a str, long: &'a str) -> Arg
         .value_name("N")
         .action(ArgAction::Set)
         .value_parser(value_parser!(u32).range(1..=i64::from(MAX_WORKERS)))
-        .default_value("1")
         .help(short)
         .long_help(long)
 }
