@@ -21,6 +21,9 @@ use xm_memory::OutOfMemory;
 /// How many bytes of a file are read at once by all threads together, where it has so many left.
 const AT_ONCE: usize = 2_097_152;
 
+/// How many rows all threads together have of it, but for the last lines: a line of a phase gives each security one.
+const ROWS_AT_ONCE: usize = 131_072;
+
 /// Where fewer bytes of a file are left, threads aren't worth their start.
 pub(crate) const LEAST_BESIDE: usize = 65_536;
 
@@ -36,7 +39,8 @@ const BLOCK: usize = 64;
 /// A part of an order file: the lines from one place to another.
 #[derive(Drop)]
 pub(crate) struct FilePart {
-    // How many bytes of the file are left where it begins, with the line feed before its first record, and where it ends.
+    // How many bytes of the file are left where it begins, with the line feed before its first record, and where it ends: once it is
+    // read, where it was left.
     from: usize,
     to: usize,
     // The number of its first record, and of the first one behind it, once it is read.
@@ -44,19 +48,24 @@ pub(crate) struct FilePart {
     next: u32,
     // Its rows, once it is read.
     batch: Batch,
-    // Whether all of it was read.
+    // Whether it was read.
     is_whole: bool,
 }
 
 /// Room for the rows of as many parts of an order file as are read side by side.
 pub struct FileParts {
     parts: Vec<FilePart>,
+    // How many bytes a part has at most.
+    size: usize,
 }
 
 // In a function of its own, so that whoever drops them proves one call.
 impl Drop for FileParts {
     fn drop(self) {
-        let FileParts { parts: _parts } = self;
+        let FileParts {
+            parts: _parts,
+            size: _,
+        } = self;
     }
 }
 
@@ -82,7 +91,10 @@ impl FileParts {
                 is_whole: false,
             })?;
         }
-        Ok(FileParts { parts })
+        Ok(FileParts {
+            parts,
+            size: AT_ONCE,
+        })
     }
 
     /// Adds the rows of the lines behind the line feed that a text begins with, of which the first has this number, as far as parts were
@@ -103,7 +115,17 @@ impl FileParts {
         ensures earlier { IfOk result (λ _. batch.new.earlier ≡ batch.old.earlier) }
     {
         self.cut(text, first);
-        read_apart(rt, self.parts.as_mut_slice(), text, format, names, config);
+        let most = ROWS_AT_ONCE / self.parts.len().max(1);
+        read_apart(
+            rt,
+            self.parts.as_mut_slice(),
+            most,
+            text,
+            format,
+            names,
+            config,
+        );
+        self.size = next_size(self.size, self.parts.as_slice(), most);
         let mut left = text.len();
         let mut line = first;
         for part in self.parts.iter() {
@@ -123,13 +145,19 @@ impl FileParts {
     /// Guesses where the parts of a text begin and end.
     fn cut(&mut self, text: &[u8], first: u32) {
         let count = self.parts.len().max(1);
-        let size = (text.len().min(AT_ONCE) / count).max(LEAST);
+        let size = (text.len().min(AT_ONCE) / count).min(self.size).max(LEAST);
         let mut from = text.len();
         let mut line = first;
+        let mut is_end = false;
         for part in self.parts.iter_mut() {
             part.from = from;
             part.first = line;
-            part.to = end_of_part(text, from, size);
+            part.to = if is_end {
+                from
+            } else {
+                end_of_part(text, from, size)
+            };
+            is_end = part.to == from;
             line = line.wrapping_add(line_feeds(between(text, from, part.to)));
             from = part.to;
         }
@@ -137,9 +165,10 @@ impl FileParts {
 }
 
 impl FilePart {
-    /// Reads all of the part of a text, or not.
+    /// Reads the part of a text, up to the line with which it has so many rows, or not.
     fn read(
         &mut self,
+        most: usize,
         text: &[u8],
         format: OrderFormat,
         names: &SegmentNames,
@@ -153,8 +182,9 @@ impl FilePart {
             return;
         }
         let own = last_bytes(text, self.from);
-        if let Some(next) = add_lines_to(
+        if let Some((next, left)) = add_lines_to(
             self.to,
+            most,
             &mut self.batch,
             own,
             format,
@@ -163,11 +193,12 @@ impl FilePart {
             config,
         ) {
             self.next = next;
+            self.to = left;
             self.is_whole = true;
         }
     }
 
-    /// Whether all of the part was read, it begins where so many bytes are left, with this number, and a batch may have its rows.
+    /// Whether the part was read, it begins where so many bytes are left, with this number, and a batch may have its rows.
     fn follows(&self, left: usize, line: u32, batch: &Batch) -> bool
         ensures whole { result ≡ true → self.now.is_whole ≡ true }
         ensures begins { result ≡ true → (self.now.from ≡ left) × (self.now.first ≡ line) }
@@ -180,10 +211,27 @@ impl FilePart {
     }
 }
 
+/// How many bytes the next parts have at most, where these had so many: fewer where the first one has as many rows as a part may have, and
+/// more where it has few.
+fn next_size(size: usize, parts: &[FilePart], most: usize) -> usize {
+    let [part, ..] = parts else {
+        return size;
+    };
+    let rows = part.batch.len();
+    if rows >= most {
+        part.from.saturating_sub(part.to) / 2
+    } else if rows < most / 4 {
+        size.saturating_mul(2).min(AT_ONCE)
+    } else {
+        size
+    }
+}
+
 /// Reads each part of a text in a thread of its own, where one can be started.
 fn read_apart<T: Threads + Sync>(
     rt: &T,
     parts: &mut [FilePart],
+    most: usize,
     text: &[u8],
     format: OrderFormat,
     names: &SegmentNames,
@@ -196,24 +244,27 @@ fn read_apart<T: Threads + Sync>(
         rt,
         parts,
         threads,
-        &|_place, part| part.read(text, format, names, config),
+        &|_place, part| part.read(most, text, format, names, config),
     );
 }
 
-/// Adds the rows of the lines behind the line feed that a text begins with, of which the first has this number, up to the line feed with
-/// which so many bytes are left. Answers the number of the next record. It is `None` where no line ends there, where a line has a quote, a
-/// carriage return, another number of fields than the format has columns, or a fault, and where memory is wanting.
+/// Adds the rows of the lines behind the line feed that a text begins with, of which the first has this number, up to the first line feed
+/// with which no more than so many bytes are left, or there are so many rows. Answers the number of the next record, and how many bytes are
+/// left. It is `None` where a line has a quote, a carriage return, another number of fields than the format has columns, or a fault, and
+/// where memory is wanting.
 fn add_lines_to(
     end: usize,
+    most: usize,
     batch: &mut Batch,
     text: &[u8],
     format: OrderFormat,
     first: u32,
     names: &SegmentNames,
     config: &SegmentConfig,
-) -> Option<u32>
+) -> Option<(u32, usize)>
     requires { batch.old.rows ≡ [] }
-    ensures { IfSome result (λ next. LinesGive names.now config.now format text.now first (last_bytes end text.now) next batch.new.rows) }
+    ensures gives { IfSome result (λ read. LinesGive names.now config.now format text.now first (last_bytes read.1 text.now) read.0 batch.new.rows) }
+    ensures within { IfSome result (λ read. read.1 ≤ length text.now) }
 {
     if first as usize + text.len() > MAX_LINES as usize {
         return None;
@@ -229,8 +280,8 @@ fn add_lines_to(
         }
         line += 1;
         let left = marks.left().len();
-        if left <= end {
-            return if left == end { Some(line) } else { None };
+        if left <= end || batch.len() >= most {
+            return Some((line, left));
         }
     }
 }
@@ -248,8 +299,8 @@ fn between(text: &[u8], from: usize, to: usize) -> &[u8] {
     &begin[..from.saturating_sub(to).min(begin.len())]
 }
 
-/// How many bytes are left where a part may end that begins where so many are left, and is to have at least so many bytes: from the first
-/// line feed behind them on. It is where the part begins, where the end of the text is too near.
+/// How many bytes are left where a part may end that begins where so many are left, and is to have at most so many bytes: from the last
+/// line feed among them on, or, where a line has more, from its end. It is where the part begins, where the end of the text is too near.
 fn end_of_part(text: &[u8], from: usize, size: usize) -> usize {
     let begin = text.len().saturating_sub(from);
     let aim = begin
@@ -257,6 +308,11 @@ fn end_of_part(text: &[u8], from: usize, size: usize) -> usize {
         .min(text.len().saturating_sub(TAIL));
     if aim <= begin {
         return from;
+    }
+    for place in (begin + 1..aim).rev() {
+        if text[place] == b'\n' {
+            return text.len() - place;
+        }
     }
     for place in aim..text.len() {
         if text[place] == b'\n' {

@@ -1,4 +1,4 @@
-use Rattle.std.proofs.Common.{◌≡◌, ℕ, ◌+◌, ◌-◌, List, drop, length, sym, ap, subst, ◌∙◌, arith}
+use Rattle.std.proofs.Common.{ℕ, ◌+◌, ◌-◌, List, length, length-drop, ap, subst, ◌∙◌, arith}
 use Rattle.xm_files.proofs.InParts.{as-last, part-begins, part-ends, part-more}
 use Rattle.xm_files.proofs.LineRecords.{line-shorter}
 use Rattle.xm_files.specs.InParts.{LinesGive, last_bytes}
@@ -15,8 +15,8 @@ loop-batch-init c = record {
   format = c.empty-fields.ensures;
 }
 
-pub returns-then-left-end-2 : goal.returns-then-left-end-2
-returns-then-left-end-2 c =
+pub returns-then-left-end-clause-gives : goal.returns-then-left-end-clause-gives
+returns-then-left-end-clause-gives c =
     let read = c.in_ok-read_line in
     let kept = c.loop-batch.invariant in
     let fields = c.read_line.new.self in
@@ -27,10 +27,17 @@ returns-then-left-end-2 c =
     c.in-Ok.ensures.earlier c.in-Ok.ensures.ok in
     let gives = part-ends c.args.names.now c.args.config.now c.args.format c.args.text.now (left_of c.read_line.new.line) more c.args.first (c.loop-batch.line + 1) c.add_record.new.batch.rows lines read.ensures.behind in
     let text = read.ensures.text ∙ kept.text in
-    let size : c.args.end ≡ length (drop (c.read_line.new.line.at - 1) c.read_line.new.line.text) = sym c.if-left-end-2.true ∙ ap length c.left-left.ensures in
+    let size = ap length c.left-left.ensures in
     let some = ap length read.ensures.behind in
-    let last = as-last c.read_line.new.line.text (c.read_line.new.line.at - 1) c.args.end size (omega (arith, size, some)) ∙ ap (last_bytes c.args.end) text in
+    let last = as-last c.read_line.new.line.text (c.read_line.new.line.at - 1) _ size (omega (arith, size, some)) ∙ ap (last_bytes _) text in
     subst (λ (left : List ℕ). LinesGive c.args.names.now c.args.config.now c.args.format c.args.text.now c.args.first left (c.loop-batch.line + 1) c.add_record.new.batch.rows) last gives
+
+pub returns-then-left-end-clause-within : goal.returns-then-left-end-clause-within
+returns-then-left-end-clause-within c =
+    let text = ap length (c.in_ok-read_line.ensures.text ∙ c.loop-batch.invariant.text) in
+    let size = ap length c.left-left.ensures in
+    let left = length-drop (c.read_line.new.line.at - 1) c.read_line.new.line.text in
+    omega (arith, text, size ∙ left)
 
 pub loop-batch-smaller : goal.loop-batch-smaller
 loop-batch-smaller c =
