@@ -147,10 +147,16 @@ def one_byte(byte, promise, begin=""):
     return Day(segment(), begin + byte * (MOST_BYTES - len(begin)), promise)
 
 
-def openings(records):
-    """Records of a phase for eight securities, of which the first is accepted."""
+def openings(records, threads=1):
+    """Records of a phase for eight securities, of which the first is accepted, on so many threads."""
     promise = counts(8, 8 * (records - 1)) if records <= 125_000 else fault(125_002, "TooManyRows")
-    return Day(segment(8), HEADER + phase("open") * records, promise)
+    return Day(segment(8), HEADER + phase("open") * records, promise, ["--threads", str(threads)])
+
+
+def long_last_line(threads):
+    """Rows, and then a line that is longer than all of them, and never ends, on so many threads."""
+    rows = HEADER + phase("open") + "".join(enter(number, "buy", 100_000) for number in range(40_000))
+    return Day(segment(), rows + "A" * (MOST_BYTES - len(rows)), fault(40_003, "Syntax"), ["--threads", str(threads)])
 
 
 def shortest_rows():

@@ -22,20 +22,23 @@ END_TIMES = 10
 
 
 class Trial:
-    """A file made to hurt: what makes it, the title of the ordinary one, and how many times the time of this it may take."""
+    """A file made to hurt: what makes it, the title of the ordinary one, how many times the time of this it may take, and how many
+    megabytes, if that is bounded."""
 
-    def __init__(self, title, make, ordinary="a day", most=MOST_TIMES):
+    def __init__(self, title, make, ordinary="a day", most=MOST_TIMES, megabytes=None):
         self.title = title
         self.make = make
         self.ordinary = ordinary
         self.most = most
+        self.megabytes = megabytes
 
 
 class Run:
-    """What a run took, and the last line that it wrote."""
+    """What a run took, of time and of memory, and the last line that it wrote."""
 
-    def __init__(self, seconds, line):
+    def __init__(self, seconds, megabytes, line):
         self.seconds = seconds
+        self.megabytes = megabytes
         self.line = line
 
 
@@ -106,6 +109,8 @@ def days():
     yield Trial("unknown orders", lambda: files.unknown_orders(100_000))
     yield Trial("orders that end with the day", files.day_ended)
     yield Trial("an interruption at each order", files.interruptions)
+    yield Trial("125,000 records of eight securities on threads", lambda: files.openings(125_000, 4), megabytes=40)
+    yield Trial("a long last line on 64 threads", lambda: files.long_last_line(64))
 
 
 def dear_days():
@@ -143,7 +148,7 @@ def run_once(words, room, most):
         line = f"no end after {most} seconds"
     else:
         line = f"an end by signal {-child.returncode}"
-    return Run(seconds, line)
+    return Run(seconds, used.ru_maxrss / 1024, line)
 
 
 def run_least(program, room, day, most):
@@ -206,6 +211,8 @@ def attempt(program, room, trial, time):
     wrong = ""
     if run.seconds > most():
         wrong = f"wrong: more than {trial.most} times {trial.ordinary}"
+    if trial.megabytes and run.megabytes > trial.megabytes:
+        wrong = f"wrong: {run.megabytes:.0f} MB, and {trial.megabytes} are the most"
     if run.line != day.promise:
         wrong = f"wrong: {run.line} in place of {day.promise}"
     show(trial.title, size, run, time * size, wrong)
