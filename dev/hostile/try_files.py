@@ -7,12 +7,14 @@ Usage: try_files.py PROGRAM ROOM [WORD..]
 ROOM is a folder for a while, with the program `collide` in it. Of the files those are tried whose titles have one of the words.
 Prints a table, and adds a line with the counts to ROOM/table."""
 import os
-import resource
+import pathlib
 import subprocess
 import sys
 
 import hurtful_files as files
 
+# What runs the program.
+MEASURE = str(pathlib.Path(__file__).with_name("measure.py"))
 # Seconds of processor time that are never too many, so that what else the machine does decides nothing.
 FLOOR = 0.2
 # Times the processor time of the ordinary file that a run may take, where no other bound stands beside it, and times the bound
@@ -133,22 +135,16 @@ def last_line(path):
 def run_once(words, room, most):
     """Runs the program, for at most so many seconds of processor time."""
     out, err = f"{room}/out", f"{room}/err"
-
-    def limit():
-        resource.setrlimit(resource.RLIMIT_CPU, (most, most))
-
-    with open(out, "wb") as output, open(err, "wb") as error:
-        child = subprocess.Popen(words, stdin=subprocess.DEVNULL, stdout=output, stderr=error, preexec_fn=limit)
-        _, status, used = os.wait4(child.pid, 0)
-    child.returncode = os.waitstatus_to_exitcode(status)
-    seconds = used.ru_utime + used.ru_stime
-    if child.returncode >= 0:
-        line = last_line(out if child.returncode == 0 else err)
+    measured = subprocess.run([sys.executable, "-S", MEASURE, str(most), out, err, *words], capture_output=True, check=True, text=True)
+    status, seconds, kilobytes = measured.stdout.split()
+    status, seconds = int(status), float(seconds)
+    if status >= 0:
+        line = last_line(out if status == 0 else err)
     elif seconds > most - 1:
         line = f"no end after {most} seconds"
     else:
-        line = f"an end by signal {-child.returncode}"
-    return Run(seconds, used.ru_maxrss / 1024, line)
+        line = f"an end by signal {-status}"
+    return Run(seconds, int(kilobytes) / 1024, line)
 
 
 def run_least(program, room, day, most):
