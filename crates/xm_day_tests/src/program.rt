@@ -43,7 +43,7 @@ use std::process::Abort;
 use std::sync::Wait;
 use std::thread::Threads;
 use std::{fs, io};
-use xm_config::OpenFault;
+use xm_config::{MAX_WORKERS, OpenFault};
 use xm_day::{AskedTexts, DayFault};
 use xm_files::{FileCause, FileFault};
 use xm_name_index::Storage;
@@ -125,11 +125,15 @@ fn command_line(rt: &(impl Abort + AllocGlobal), words: &[&str]) -> Vec<String> 
 
 /// How rows are taken, as a word and a number: 0 for as many threads as the program chooses.
 fn taken(concurrency: Concurrency) -> (&'static str, u32) {
-    match concurrency {
-        Concurrency::Threads(None) => ("on", 0),
-        Concurrency::Threads(Some(threads)) => ("on", threads.get()),
-        Concurrency::Workers(workers) => ("by", workers.get()),
+    if let Concurrency::Workers(workers) = concurrency {
+        return ("by", workers.get());
     }
+    for number in 0..=MAX_WORKERS {
+        if concurrency == Concurrency::Threads(Count::new(number)) {
+            return ("on", number);
+        }
+    }
+    ("on", MAX_WORKERS + 1)
 }
 
 /// What a command line asks for, as a text.
