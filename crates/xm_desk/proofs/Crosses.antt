@@ -13,6 +13,8 @@ use Rattle.xm_desk.specs.contracts.tape.Tape as Tape
 use Rattle.xm_desk.specs.contracts.unsettled.Unsettled as Unsettled
 use Rattle.xm_desk.specs.contracts.unsettled.market.Market as Market
 use Rattle.xm_desk.specs.contracts.desk.Desk as Desk
+use Rattle.xm_desk.specs.contracts.journal.UnkeptJournal as UnkeptJournal
+use Rattle.xm_desk.specs.contracts.journal.UnkeptJournalJournaling.TheImpl.{ghosts as unkept}
 
 tape-send : IsSend (Tape.the_field heap ghosts).row
 tape-send = let a = trades-send in search (sendable, crosses) depth 30
@@ -32,5 +34,8 @@ unsettled-send = let a = book-send in let b = stops-send in let c = pending-send
 market-send : IsSend (Market.the_field heap ghosts).row
 market-send = let a = unsettled-send in search (sendable, crosses) depth 20
 
-pub desk-send : IsSend (Desk.the_field heap ghosts).row
-desk-send = let a = market-send in let b = positions-send in search (sendable, crosses) depth 30
+unkept-send : IsSend UnkeptJournal.the_field.row
+unkept-send = search (sendable, crosses) depth 30
+
+pub desk-send : IsSend (Desk.the_field heap UnkeptJournal.the_row ghosts unkept).row
+desk-send = let a = market-send in let b = positions-send in let c = unkept-send in search (sendable, crosses) depth 30

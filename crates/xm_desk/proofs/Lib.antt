@@ -1,14 +1,15 @@
+mod AcceptedSoFar
 mod Actions
 mod CallsEnd
+mod Changing
 mod Entering
 mod Frames
-mod Changing
-mod Shorter
 mod Leaving
 mod Making
 mod Named
 mod Opens
 mod Recording
+mod Shorter
 mod Stepping
 mod Sweeping
 mod Tapes

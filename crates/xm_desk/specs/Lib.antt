@@ -3,6 +3,7 @@ pub mod Entries
 pub mod Frame
 pub mod Growth
 pub mod Incoming
+pub mod Journals
 pub mod Made
 pub mod Settled
 pub mod Shown

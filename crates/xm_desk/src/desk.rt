@@ -12,6 +12,7 @@ ghost use Rattle.xm_rules.specs.Step.{is_lawful, new_trades, replay, reply};
 ghost use Rattle.xm_rules.specs.Sums.{AreWithinLimits, cash, has_traded, net, total_money, total_quantity};
 ghost use Rattle.xm_ticks.specs.declared.numbers.TheConstants.{MAX_QUANTITY};
 
+use crate::journal::{Journaling, KeptJournal, UnkeptJournal};
 use crate::unsettled::market::Market;
 use std::alloc::Allocator;
 use std::marker::Model;
@@ -26,15 +27,16 @@ use xm_rules::{
 use xm_ticks::Price;
 
 /// One security. A clause sees it as its journal: the settings that it was opened with, and the
-/// commands that it accepted. The journal is lawful, and the state is its replay.
-pub struct Desk<A: Allocator + Copy> {
+/// commands that it accepted. The journal is lawful, and the state is its replay. Its commands are kept where a desk with a
+/// `KeptJournal` is asked for, and else are known to clauses alone.
+pub struct Desk<A: Allocator + Copy, J: Journaling = UnkeptJournal> {
     market: Market<A>,
-    journal: Vec<Command, A>,
+    journal: J,
     positions: Positions<A>,
 }
 
 // In a function of its own, so that whoever drops one proves one call.
-impl<A: Allocator + Copy> Drop for Desk<A> {
+impl<A: Allocator + Copy, J: Journaling> Drop for Desk<A, J> {
     fn drop(self) {
         let Desk {
             market: _market,
@@ -44,30 +46,31 @@ impl<A: Allocator + Copy> Drop for Desk<A> {
     }
 }
 
-impl<A: Allocator + Copy> Model for Desk<A> {
+impl<A: Allocator + Copy, J: Journaling> Model for Desk<A, J> {
     ghost use Rattle.std.specs.Prelude.{◌≡◌, true};
     ghost use Rattle.xm_desk.specs.declared.unsettled.Ready.TheVariants.{Nothing};
     ghost use Rattle.xm_rules.specs.Step.{Journal, is_lawful, replay};
 
     ghost Value = { Journal };
 
-    ghost view = { λ d. record { settings = d.market.state.settings; commands = d.journal.items } };
+    ghost view = { λ d. record { settings = d.market.state.settings; commands = J.commands d.journal } };
 
     ghost invariant = { λ d. record {
-      replayed : d.market.state ≡ replay (record { settings = d.market.state.settings; commands = d.journal.items });
-      lawful : is_lawful (record { settings = d.market.state.settings; commands = d.journal.items }) ≡ true;
+      replayed : d.market.state ≡ replay (record { settings = d.market.state.settings; commands = J.commands d.journal });
+      lawful : is_lawful (record { settings = d.market.state.settings; commands = J.commands d.journal }) ≡ true;
       ready : d.market.ready ≡ Nothing;
       positions : d.positions ≡ record { members = d.market.state.settings.members; trades = d.market.state.trades };
     } };
 }
 
-impl<A: Allocator + Copy> Desk<A> {
-    /// A desk before the day, with the orders and stops of its settings that are still valid.
-    ///
-    /// More than 1,000 members are `TooMany`. A width outside 1 to `MAX_WIDTH` thousandths, or a dynamic
-    /// one that is not below the wide one, is `BadWidths`. Orders and stops that earlier days can't have left are `BadCarried`.
-    /// Where a growth is refused, it is `OutOfMemory`. The settings are given up then.
-    pub fn open(storage: Storage<A>, settings: DeskSettings) -> Result<Desk<A>, OpenFault>
+impl<A: Allocator + Copy, J: Journaling> Desk<A, J> {
+    /// A desk before the day, with what it keeps of the commands to come.
+    fn before_day(
+        storage: Storage<A>,
+        settings: DeskSettings,
+        journal: J,
+    ) -> Result<Desk<A, J>, OpenFault>
+        requires { J.commands journal ≡ [] }
         ensures opened { IfOk result (λ desk. desk ≡ record { settings = settings; commands = [] }) }
         ensures sound { OnOk result (open_fault settings ≡ None) }
         ensures refused { IfErr result (λ fault. fault ≢ OpenFault.OutOfMemory tt → open_fault settings ≡ Some fault) }
@@ -79,7 +82,7 @@ impl<A: Allocator + Copy> Desk<A> {
         let positions = Positions::new(storage.alloc, settings.members)?;
         Ok(Desk {
             market: Market::open(storage, settings)?,
-            journal: Vec::new(storage.alloc),
+            journal,
             positions,
         })
     }
@@ -114,7 +117,7 @@ impl<A: Allocator + Copy> Desk<A> {
         ensures { self.new ≡ self.old }
     {
         let most = self.market.settings().limit.get() as usize + PHASE_COMMANDS_MORE as usize;
-        let commands = commands.min(most.saturating_sub(self.journal.len()));
+        let commands = commands.min(most.saturating_sub(self.market.accepted() as usize));
         self.journal.reserve(commands)?;
         self.market.make_room(commands)
     }
@@ -136,13 +139,13 @@ impl<A: Allocator + Copy> Desk<A> {
             Ok(accepted) => accepted,
             Err(refusal) => return Err(refusal),
         };
-        self.journal.reserve(1).map_err(OutOfMemory::from)?;
+        self.journal.reserve(1)?;
         self.market.reserve(&accepted)?;
         let first_trade = self.market.trades().len();
         self.market.step(&accepted);
         let _ = self.market.trades(); // The range of their prices is known where they are asked for.
         let reply = self.market.record_from(first_trade, &mut self.positions);
-        self.journal.push_reserved(*command);
+        self.journal.add(command);
         Ok(reply)
     }
 
@@ -261,12 +264,12 @@ impl<A: Allocator + Copy> Desk<A> {
         self.positions.totals()
     }
 
-    /// The commands that the desk accepted. Each was lawful when it came.
-    pub fn journal(&self) -> &[Command]
-        ensures commands { result.now ≡ self.now.commands }
+    /// How many commands the desk accepted. Each was lawful when it came.
+    pub fn accepted(&self) -> u64
+        ensures count { result ≡ length self.now.commands }
         ensures lawful { IsTrue (is_lawful self.now) }
     {
-        self.journal.as_slice()
+        self.market.accepted()
     }
 
     /// Why a command would be refused, memory aside: the first of its checks that fails.
@@ -277,5 +280,44 @@ impl<A: Allocator + Copy> Desk<A> {
             Ok(_accepted) => None,
             Err(refusal) => Some(refusal),
         }
+    }
+}
+
+impl<A: Allocator + Copy> Desk<A> {
+    /// A desk before the day, with the orders and stops of its settings that are still valid.
+    ///
+    /// More than 1,000 members are `TooMany`. A width outside 1 to `MAX_WIDTH` thousandths, or a dynamic
+    /// one that is not below the wide one, is `BadWidths`. Orders and stops that earlier days can't have left are `BadCarried`.
+    /// Where a growth is refused, it is `OutOfMemory`. The settings are given up then.
+    pub fn open(storage: Storage<A>, settings: DeskSettings) -> Result<Desk<A>, OpenFault>
+        ensures opened { IfOk result (λ desk. desk ≡ record { settings = settings; commands = [] }) }
+        ensures sound { OnOk result (open_fault settings ≡ None) }
+        ensures refused { IfErr result (λ fault. fault ≢ OpenFault.OutOfMemory tt → open_fault settings ≡ Some fault) }
+        ensures memory { result ≡ Err (OpenFault.OutOfMemory tt) → open_fault settings ≡ None }
+    {
+        Desk::before_day(storage, settings, UnkeptJournal::new())
+    }
+}
+
+impl<A: Allocator + Copy> Desk<A, KeptJournal<A>> {
+    /// A desk as `open` gives it, which keeps its commands.
+    pub fn open_kept(
+        storage: Storage<A>,
+        settings: DeskSettings,
+    ) -> Result<Desk<A, KeptJournal<A>>, OpenFault>
+        ensures opened { IfOk result (λ desk. desk ≡ record { settings = settings; commands = [] }) }
+        ensures sound { OnOk result (open_fault settings ≡ None) }
+        ensures refused { IfErr result (λ fault. fault ≢ OpenFault.OutOfMemory tt → open_fault settings ≡ Some fault) }
+        ensures memory { result ≡ Err (OpenFault.OutOfMemory tt) → open_fault settings ≡ None }
+    {
+        Desk::before_day(storage, settings, KeptJournal::new(storage.alloc))
+    }
+
+    /// The commands that the desk accepted. Each was lawful when it came.
+    pub fn journal(&self) -> &[Command]
+        ensures commands { result.now ≡ self.now.commands }
+        ensures lawful { IsTrue (is_lawful self.now) }
+    {
+        self.journal.as_slice()
     }
 }

@@ -9,8 +9,8 @@
 //! for one trade, and each trade lowers by one how many are still possible (`possible_trades`). A stop holds a place in the book from
 //! its entry on, until it is deleted or its order leaves no rest. The invariant `IsFramed` says that this room is there.
 //!
-//! - `desk`: the journal, the market and the positions. `desks`: those of a segment. `open_entries`: book and stops filled with what
-//!   earlier days left.
+//! - `desk`: the journal, the market and the positions. `journal`: what is kept of it. `desks`: those of a segment. `open_entries`: book
+//!   and stops filled with what earlier days left.
 //! - `accepted`, `entries`: `Accepted` and its `Action`; the fields of an entry.
 //! - `tape`: the trades with the last price and the last auction price; here a call is allotted and an order swept.
 //! - `unsettled`: a security in the middle of a command, with its pending stops and what is `Ready`. All that changes orders, trades
@@ -23,10 +23,12 @@ mod accepted;
 mod desk;
 mod desks;
 mod entries;
+mod journal;
 mod open_entries;
 mod tape;
 mod unsettled;
 
 pub use crate::desk::Desk;
 pub use crate::desks::{desks_of, open_desks};
+pub use crate::journal::{Journaling, KeptJournal, UnkeptJournal};
 pub use crate::tape::MAX_TRADES;

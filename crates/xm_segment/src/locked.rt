@@ -121,7 +121,7 @@ impl<S: Naming, const K: usize> Locked<S, K> {
             pen: _pen,
         } = self;
         books.audit(shares);
-        let _ = desk.journal();
+        let _ = desk.accepted();
         Box::into_inner(desk)
     }
 }
@@ -136,7 +136,7 @@ fn take(desk: &mut Desk<Global>, command: &Command) -> Result<Reply, Refusal>
     ensures counted { ledger_sums desk.new ≡ with_answer (ledger_sums desk.old) result }
     ensures within { (ledger_sums desk.new).quantity ≤ MAX_TRADED_QUANTITY }
 {
-    let _ = desk.journal(); // It is lawful.
+    let _ = desk.accepted(); // It is lawful.
     let answer = desk.apply(command);
     let _ = desk.totals(); // They are within the limits of a day.
     answer
@@ -156,7 +156,7 @@ fn publish<N: BoardNaming>(
     ensures pen { pen.new ≡ grown pen.old (entry_of watch.old.number command.now) }
     ensures watch { watch.new ≡ known_by watch.old.number pen.new (watch.old.own_entries ++ (version_of pen.old + 1, entry_of watch.old.number command.now) ∷ []) }
 {
-    let _ = desk.journal(); // It is lawful.
+    let _ = desk.accepted(); // It is lawful.
     let quote = desk.quote();
     board.publish(pen, watch.number(), command, &quote);
     board.tell(pen, watch, true);

@@ -298,7 +298,7 @@ fn commands_in(desks: &[Desk<Global>]) -> u64
 {
     let mut count = 0;
     for desk in desks {
-        count += desk.journal().len() as u64;
+        count += desk.accepted();
     }
     count
 }

@@ -3,7 +3,7 @@ use std::alloc::Allocator;
 use std::marker::Model;
 use std::process::Abort;
 use xm_config::OpenFault;
-use xm_desk::Desk;
+use xm_desk::{Desk, KeptJournal};
 use xm_memory::OutOfMemory;
 use xm_name_index::Storage;
 use xm_rules::{
@@ -38,7 +38,7 @@ pub fn lacks_memory(answer: &Result<Reply, Refusal>) -> bool {
 /// A desk under test. A clause sees nothing of it: the proof of a test is long where it follows what
 /// each call promises.
 pub struct Day<A: Allocator + Copy> {
-    desk: Desk<A>,
+    desk: Desk<A, KeptJournal<A>>,
 }
 
 // In a function of its own, so that whoever drops one proves one call.
@@ -62,7 +62,7 @@ impl<A: Allocator + Copy> Day<A> {
 
     /// A day with these settings before the opening.
     pub fn opened(alloc: A, settings: DeskSettings) -> Result<Day<A>, OpenFault> {
-        match Desk::open(Storage::with_fixed_seed(alloc), settings) {
+        match Desk::open_kept(Storage::with_fixed_seed(alloc), settings) {
             Ok(desk) => Ok(Day { desk }),
             Err(fault) => Err(fault),
         }

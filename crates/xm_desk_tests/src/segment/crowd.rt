@@ -174,18 +174,11 @@ impl Model for Crowd {
 }
 
 impl Crowd {
-    /// Each worker's commands stand in the journal at the versions that it was answered, and each quote is that of the journal's
-    /// replay at its version.
+    /// The commands at the versions that their workers were answered give what the desk holds, and each quote is that of their replay
+    /// at its version.
     fn is_one_history<R: AllocGlobal + Abort>(&self, rt: &R) {
         let desk = self.gathered.desks.get(0).expect(rt, "a desk");
-        for accepted in self.accepted.as_slice() {
-            for (version, command) in accepted.as_slice() {
-                let before = version.checked_sub(1).expect(rt, "a version of a command");
-                let entry = desk.journal().get(before as usize);
-                assert!(rt; *entry.expect(rt, "an entry") == *command);
-            }
-        }
-        let replayed = replayed(rt, desk);
+        let replayed = replayed(rt, desk, self.history(rt).as_slice());
         for quotes in self.quotes.as_slice() {
             for quote in quotes.as_slice() {
                 let at = replayed.get(quote.version as usize).expect(rt, "a version");
@@ -193,20 +186,48 @@ impl Crowd {
             }
         }
     }
+
+    /// The accepted commands of all workers, of which each has a version of its own, and each version one.
+    fn history<R: AllocGlobal + Abort>(&self, rt: &R) -> Vec<Command> {
+        let mut by_version = Vec::new(rt.alloc());
+        for _version in 0..LAST {
+            by_version.push(None).ok().expect(rt, "memory");
+        }
+        for accepted in self.accepted.as_slice() {
+            for (version, command) in accepted.as_slice() {
+                let before = version.checked_sub(1).expect(rt, "a version of a command");
+                let place = by_version.get_mut(before as usize).expect(rt, "a version");
+                assert!(rt; place.is_none(), "at {version}");
+                *place = Some(*command);
+            }
+        }
+        let mut history = Vec::new(rt.alloc());
+        for command in by_version {
+            let command = command.expect(rt, "a command of each version");
+            history.push(command).ok().expect(rt, "memory");
+        }
+        history
+    }
 }
 
-/// The quote of each version of a desk's journal.
-fn replayed<R: AllocGlobal + Abort>(rt: &R, desk: &Desk<Global>) -> Vec<Quote> {
+/// The quote of each version of a history, whose replay shows what a desk shows.
+fn replayed<R: AllocGlobal + Abort>(
+    rt: &R,
+    desk: &Desk<Global>,
+    history: &[Command],
+) -> Vec<Quote> {
     let storage = Storage::with_fixed_seed(rt.alloc());
     let settings = desk.settings().copied().expect(rt, "memory");
-    let again = Desk::open(storage, settings);
-    let mut again = again.ok().expect(rt, "a desk");
+    let mut again: Desk<Global> = Desk::open(storage, settings).ok().expect(rt, "a desk");
     let mut quotes = Vec::new(rt.alloc());
     quotes.push(again.quote()).ok().expect(rt, "memory");
-    for command in desk.journal() {
+    for command in history {
         again.apply(command).ok().expect(rt, "a lawful command");
         quotes.push(again.quote()).ok().expect(rt, "memory");
     }
+    let (orders, others) = (desk.orders(), again.orders());
+    assert!(rt; orders.expect(rt, "memory").as_slice() == others.expect(rt, "memory").as_slice());
+    assert!(rt; desk.trades() == again.trades());
     quotes
 }
 

@@ -3,11 +3,13 @@
 ghost use Rattle.xm_segment.specs.Names.{NamesSegment};
 
 use super::running::{Left, gathered, one_security};
+use std::alloc::Global;
 use std::marker::Brand;
 use std::process::Abort;
 use std::sync::Wait;
 use std::thread::{self, Threads};
 use xm_config::Row;
+use xm_desk::Desk;
 use xm_rules::{Command, Condition, Kind, Restriction, Side, Validity};
 use xm_segment::{MAX_ROWS, Naming, NoGate, Opened, Seat, Segment, WorkerReport};
 
@@ -139,7 +141,7 @@ fn run_named<S: Naming + Send + Sync, R: AllocGlobal + Threads + Wait + Abort + 
     assert!(rt; give(rt, &segment, &mut seats, &after) == version);
     let ended = gathered(rt, rt.alloc(), segment, seats, &mut rows);
     ended.leaves(rt, &[load.left]);
-    let found = found(rt, ended.desk(rt, 0).journal(), load.orders);
+    let found = found(rt, ended.desk(rt, 0), load.orders);
     add_up(rt, load, reports.as_slice(), &found);
 }
 
@@ -198,20 +200,54 @@ fn rows<R: AllocGlobal + Abort>(rt: &R, worker: u32, load: &Load) -> Vec<Row> {
     rows
 }
 
-/// How many orders of each worker stand in a journal: those that it entered first, in the order in which it entered them.
-fn found<R: Abort>(rt: &R, journal: &[Command], orders: Orders) -> [u32; WORKERS] {
+/// How many orders of each worker a desk took, each of one unit: those that it entered first traded, or rest, in the order in which it
+/// entered them.
+fn found<R: Abort>(rt: &R, desk: &Desk<Global>, orders: Orders) -> [u32; WORKERS] {
     let mut found = [0; WORKERS];
-    for command in journal {
-        if let Command::Enter { member, .. } = command {
-            let next = found.get_mut(*member as usize).expect(rt, "a member");
-            assert!(rt; *command == orders.order(*member, *next));
-            *next = next.wrapping_add(1);
-        }
+    for trade in desk.trades() {
+        find(
+            rt,
+            &mut found,
+            orders,
+            Side::Buy,
+            (trade.buyer, trade.buy_ref),
+        );
+        find(
+            rt,
+            &mut found,
+            orders,
+            Side::Sell,
+            (trade.seller, trade.sell_ref),
+        );
+    }
+    for order in desk.orders().expect(rt, "memory").as_slice() {
+        find(
+            rt,
+            &mut found,
+            orders,
+            order.side,
+            (order.member, order.reference),
+        );
     }
     found
 }
 
-/// The workers' reports have what their journal has, and add up to what is expected of a load.
+/// Finds the next order of a worker, by its member and its reference, on this side.
+fn find<R: Abort>(
+    rt: &R,
+    found: &mut [u32; WORKERS],
+    orders: Orders,
+    on: Side,
+    (member, reference): (u32, u32),
+) {
+    let next = found.get_mut(member as usize).expect(rt, "a member");
+    assert!(rt; reference == *next);
+    let entered = orders.order(member, reference);
+    assert!(rt; matches!(entered, Command::Enter { side, .. } if side == on));
+    *next = next.wrapping_add(1);
+}
+
+/// The workers' reports have what their desk took, and add up to what is expected of a load.
 fn add_up<R: Abort>(rt: &R, load: &Load, reports: &[WorkerReport], found: &[u32; WORKERS]) {
     let (mut accepted, mut refused, mut quantity) = (0u64, 0u64, 0u64);
     for (worker, report) in reports.iter().enumerate() {

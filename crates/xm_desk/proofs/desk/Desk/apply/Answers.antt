@@ -38,11 +38,11 @@ invariant_of-self-2 g c =
     let s = c.self.inside.market.state in
     let command = c.args.command.now in
     let i = c.self.invariant in
-    let j = journal_of s.settings c.self.inside.journal.items in
+    let j = journal_of s.settings (g.J.Journaling.commands c.self.inside.journal) in
     let more = j.commands ++ command ∷ [] in
     let t = c.step.new.self.state in
     let took : t ≡ step s command = search rules in
-    let items : c.push_reserved.new.self.items ≡ more = cc in
+    let items : g.J.Journaling.commands c.add.new.self ≡ more = cc in
     let passed : refusal_of s command ≡ None = search rules in
     let same : t.settings ≡ s.settings = ap (λ (u : State). u.settings) took ∙ step-settings s command in
     let journal = ap (λ (settings : DeskSettings). journal_of settings more) (sym same) ∙ ap (λ (cs : List Command). journal_of t.settings cs) (sym items) in
@@ -59,11 +59,11 @@ invariant_of-self-2 g c =
 pub returns-clause-journal : goal.returns-clause-journal
 returns-clause-journal g c =
     let s = c.self.inside.market.state in
-    let commands = c.self.inside.journal.items in
+    let commands = (g.J.Journaling.commands c.self.inside.journal) in
     let took : c.step.new.self.state ≡ step s c.args.command.now = search rules in
-    let items : c.push_reserved.new.self.items ≡ commands ++ c.args.command.now ∷ [] = cc in
+    let items : g.J.Journaling.commands c.add.new.self ≡ commands ++ c.args.command.now ∷ [] = cc in
     let same = ap (λ (t : State). t.settings) took ∙ step-settings s c.args.command.now in
-    ap (λ (settings : DeskSettings). journal_of settings c.push_reserved.new.self.items) same
+    ap (λ (settings : DeskSettings). journal_of settings (g.J.Journaling.commands c.add.new.self)) same
     ∙ ap (λ (cs : List Command). journal_of s.settings cs) items
     ∙ ap (λ (j : Journal). journal_of j.settings (j.commands ++ c.args.command.now ∷ [])) c.self.view_is
 
@@ -97,7 +97,7 @@ record_from-reply-requires-clause-members g c =
     let i = c.self.invariant in
     let took : c.step.new.self.state ≡ step s command = search rules in
     let passed : refusal_of s command ≡ None = search rules in
-    let between = are_between (journal_of s.settings c.self.inside.journal.items) command i.lawful (subst (λ (t : State). refusal_of t command ≡ None) i.replayed passed) in
+    let between = are_between (journal_of s.settings (g.J.Journaling.commands c.self.inside.journal)) command i.lawful (subst (λ (t : State). refusal_of t command ≡ None) i.replayed passed) in
     let first = length c.trades-first_trade.result.now in
     let all : All (IsBetweenMembers s.settings.members) c.step.new.self.state.trades =
     subst (All (IsBetweenMembers s.settings.members)) (ap (λ (t : State). (step t command).trades) (sym i.replayed) ∙ ap (λ (t : State). t.trades) (sym took)) between in
@@ -111,7 +111,7 @@ record_from-reply-requires-clause-limits g c =
     let t = c.step.new.self.state in
     let took : t ≡ step s command = search rules in
     let passed : refusal_of s command ≡ None = search rules in
-    let j = journal_of s.settings c.self.inside.journal.items in
+    let j = journal_of s.settings (g.J.Journaling.commands c.self.inside.journal) in
     let stepped : t ≡ step (replay j) command = took ∙ ap (λ (u : State). step u command) i.replayed in
     let limited : s.settings.limit ≤ MAX_JOURNAL_LIMIT = search rules in
     let priced : ArePriced t = subst (All (λ (x : Trade). x.price ≤ MAX_PRICE)) c.trades.ensures.trades c.trades.ensures.priced in

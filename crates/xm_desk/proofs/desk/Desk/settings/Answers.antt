@@ -6,4 +6,4 @@ use Rattle.xm_desk.proofs.desk.Desk.settings.Goals as goal
 pub returns-clause-carriable : goal.returns-clause-carriable
 returns-clause-carriable g c =
     let d = c.self.inside in
-    ap are_carriable c.settings.ensures ∙ carries (journal_of d.market.state.settings d.journal.items) c.self.invariant.lawful
+    ap are_carriable c.settings.ensures ∙ carries (journal_of d.market.state.settings (g.J.Journaling.commands d.journal)) c.self.invariant.lawful

@@ -1,4 +1,4 @@
-use Rattle.std.proofs.Common.{◌≡◌, ◌∙◌, ◌+◌, ◌++◌, List, [], length, append-nil, subst, sym, ap, ap₂, arith}
+use Rattle.std.proofs.Common.{◌≡◌, ◌∙◌, ◌++◌, List, [], length, append-nil, subst, sym, ap, ap₂, arith}
 use Rattle.xm_book.specs.Places.{SamePlaces}
 use Rattle.xm_book.specs.declared.places.Place.{Place}
 use Rattle.xm_rules.proofs.Opening.{opening-is}
