@@ -1,8 +1,8 @@
 -- The marks of a text, block by block.
-use Rattle.std.proofs.Common.{◌≡◌, ℕ, ◌+◌, ◌-◌, ◌*◌, ◌%◌, ◌^◌, ◌<◌, ◌≤◌, Bool, true, false, List, take, drop, get_or, length, refl, ap, ◌∙◌, inl, inr, arith, w64, bit_and, ◌⊎◌, ◌==◌, cond, eqb, map, bit_or}
-use Rattle.std.specs.Int.{bit_at, bit_not, trailing_zeros}
+use Rattle.std.proofs.Common.{◌≡◌, ℕ, zero, suc, ◌+◌, ◌-◌, ◌%◌, ◌/◌, ◌^◌, ◌<◌, ◌≤◌, Bool, true, false, List, take, drop, get_or, length, refl, sym, ap, ◌∙◌, inl, inr, arith, w64, bit_and, ◌⊎◌, ◌==◌, cond, eqb, map, bit_or}
+use Rattle.std.specs.Int.{bit_at, trailing_zeros}
 use Rattle.std.proofs.lemmas.Bool.{cases_lt, eqb-true, or_cases}
-use Rattle.std.proofs.lemmas.Nat.Bits.{bit_at-zero, bit_at-trailing_zeros, bit_at_clear_same, bit_at_clear_other}
+use Rattle.std.proofs.lemmas.Nat.Bits.{bit_at-zero, bit_at-trailing_zeros, bit_at_and, bit_at_lowest, bit_at-suc}
 use Rattle.std.proofs.lemmas.List.{get_or-drop, get_or-map, get_or-take, length-map}
 use Rattle.std.proofs.lemmas.Simd.{bit_mask_l, get_or-chunk, mask_l-mod}
 use lib.Lanes.{chunk, mask_l, top}
@@ -107,35 +107,58 @@ next-mark text at block bits m some small =
           omega (arith, is.1, clear));
     }
 
--- no bit is left up to the lowest one
-cleared : (bits bit k : ℕ) → bit < 64 → k ≤ bit → ((i : ℕ) → i < bit → bit_at bits i ≡ 0) → bit_at (bit_and bits (bit_not w64 (1 * 2 ^ bit % 2 ^ 64))) k ≡ 1 → ⊥
-cleared bits bit k within low lower set =
-    elim (cases_lt k bit) [
-      | inl less ↦ let other = bit_at_clear_other w64 bits bit within k (omega arith) (λ same. omega arith) in let none = lower k less in omega (arith, other, none, set)
-      | inr same ↦
-          let is : k ≡ bit = omega arith in
-          let none = bit_at_clear_same w64 bits bit within in
-          let here = ap (bit_at (bit_and bits (bit_not w64 (1 * 2 ^ bit % 2 ^ 64)))) is in
-          omega (arith, none, here, set)
-    ]
+-- one less than a number has none of its bits up to the lowest one, and all above it
+lowered : (bit n : ℕ) → 0 < n → bit_at n bit ≡ 1 → ((i : ℕ) → i < bit → bit_at n i ≡ 0) → (bit_at (n - 1) bit ≡ 0) × ((i : ℕ) → bit < i → bit_at (n - 1) i ≡ bit_at n i)
+lowered zero n some set lower =
+    let odd : n % 2 ≡ 1 = sym (bit_at_lowest n) ∙ set in
+    let half : (n - 1) / 2 ≡ n / 2 = omega (arith, odd) in
+    (bit_at_lowest (n - 1) ∙ omega (arith, odd), above)
+  where
+    above : (i : ℕ) → 0 < i → bit_at (n - 1) i ≡ bit_at n i
+    above zero before = absurd (omega arith)
+    above (suc i) before =
+        let odd : n % 2 ≡ 1 = sym (bit_at_lowest n) ∙ set in
+        let half : (n - 1) / 2 ≡ n / 2 = omega (arith, odd) in
+        bit_at-suc (n - 1) i ∙ ap (λ (m : ℕ). bit_at m i) half ∙ sym (bit_at-suc n i)
+lowered (suc bit) n some set lower =
+    let rest = lowered bit (n / 2) (omega (arith, even, some)) (sym (bit_at-suc n bit) ∙ set) (λ i below. sym (bit_at-suc n i) ∙ lower (suc i) (omega (arith, below))) in
+    (bit_at-suc (n - 1) bit ∙ ap (λ (m : ℕ). bit_at m bit) half ∙ rest.0, above rest.1)
+  where
+    even : n % 2 ≡ 0
+    even = sym (bit_at_lowest n) ∙ lower 0 (omega arith)
+
+    half : (n - 1) / 2 ≡ n / 2 - 1
+    half = omega (arith, even, some)
+
+    above : ((i : ℕ) → bit < i → bit_at (n / 2 - 1) i ≡ bit_at (n / 2) i) → (i : ℕ) → suc bit < i → bit_at (n - 1) i ≡ bit_at n i
+    above rest zero before = absurd (omega arith)
+    above rest (suc i) before = bit_at-suc (n - 1) i ∙ ap (λ (m : ℕ). bit_at m i) half ∙ rest i (omega arith) ∙ sym (bit_at-suc n i)
 
 -- what is left behind it
 pub read-on : (text : List ℕ) (at block bits : ℕ) → IsMarked text at block bits → 0 < bits → bits < 2 ^ 64
-    → IsMarked text (block + trailing_zeros w64 bits + 1) block (bit_and bits (bit_not w64 (1 * 2 ^ trailing_zeros w64 bits % 2 ^ 64)))
+    → IsMarked text (block + trailing_zeros w64 bits + 1) block (bit_and bits (bits - 1))
 read-on text at block bits m some small =
     let bit = trailing_zeros w64 bits in
     let lowest = bit_at-trailing_zeros w64 bits some small in
+    let without = lowered bit bits some lowest.1 lowest.2 in
     let unread = m.unread bit lowest.1 in
     let below = lowest.0 in
     record {
       ahead = omega (arith, below);
       within = m.within;
       unread = λ k set.
+          let both = bit_at_and bits (bits - 1) k in
           elim (cases_lt bit k) [
             | inl above ↦ omega (arith, above)
-            | inr low ↦ absurd (cleared bits bit k below low lowest.2 set)
+            | inr low ↦
+                elim (cases_lt k bit) [
+                  | inl less ↦ let none = lowest.2 k less in absurd (omega (arith, both, none, set))
+                  | inr same ↦ let is : k ≡ bit = omega arith in let none = ap (bit_at (bits - 1)) is ∙ without.0 in absurd (omega (arith, both, none, set))
+                ]
           ];
       marks = λ k from before mark.
           let is = m.marks k (omega (arith, from, unread)) before mark in
-          (is.0, bit_at_clear_other w64 bits bit below (k - block) (omega (arith, is.0, before)) (λ same. omega (arith, same, from, is.0)) ∙ is.1);
+          let both = bit_at_and bits (bits - 1) (k - block) in
+          let other = without.1 (k - block) (omega (arith, is.0, from)) in
+          (is.0, omega (arith, both, other, is.1));
     }

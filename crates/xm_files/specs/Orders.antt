@@ -1,9 +1,10 @@
 -- What an order file gives: its rows, or its first fault.
-use Rattle.std.specs.Prelude.{◌≡◌, ℕ, ◌+◌, true, not, if◌then◌else◌, nat_lt, ◌==◌, List, [], ◌∷◌, ◌++◌, length, Option, Some, None, Result, Ok, Err}
+use Rattle.std.specs.Prelude.{◌≡◌, ℕ, ◌+◌, true, not, if◌then◌else◌, nat_lt, ◌==◌, List, [], ◌∷◌, ◌++◌, length, Option, Some, None, option_map, Result, Ok, Err}
 use Rattle.csv.specs.Reading.{default_config, records, strip_bom}
 use Rattle.xm_files.specs.FileFaults.{fault_at, max_bytes, result_then}
 use Rattle.xm_files.specs.Names.{NameLists}
-use Rattle.xm_files.specs.Rows.{columns_of, is_header, rows_of_record}
+use Rattle.xm_files.specs.Rows.{columns_of, is_header, rows_of_entry, rows_of_record}
+use Rattle.xm_files.specs.declared.entries.RecordEntry.{RecordEntry}
 use Rattle.xm_files.specs.declared.order_format.OrderFormat.{OrderFormat}
 use Rattle.xm_files.specs.declared.order_format.OrderFormat.TheVariants.{First, Second}
 use Rattle.xm_config.specs.declared.config.SegmentConfig.{SegmentConfig}
@@ -27,6 +28,10 @@ records_in text = records default_config (strip_bom text)
 abbrev pub with_rows : ℕ → List Row → Option (List Row) → Result (List Row) FileFault
 with_rows line rows None = Err (fault_at line BadField)
 with_rows line rows (Some more) = if nat_lt max_rows (length rows + length more) then Err (fault_at line TooManyRows) else Ok (rows ++ more)
+
+-- these rows and those of an entry that stands in this line, if it is lawful, in a segment of so many securities
+abbrev pub with_entry : ℕ → ℕ → List Row → Option RecordEntry → Result (List Row) FileFault
+with_entry line count rows entry = with_rows line rows (option_map (rows_of_entry line count) entry)
 
 -- the format that has this header
 abbrev pub format_of : List (List ℕ) → Option OrderFormat

@@ -1,7 +1,7 @@
 //! What one record of the order file says.
 ghost use Rattle.std.specs.Prelude.{◌≡◌};
 ghost use Rattle.xm_files.specs.declared.columns.Column.TheVariants as column;
-ghost use Rattle.xm_files.specs.Rows.{cancel_all_entry, cancel_entry, change_command, change_entry, condition_in, enter_entry, record_entry, field, given_limit, limit_in, market_in, name_index, names_members_command, kind_in_record, order_command, phase_entry, stop_limit_in, stop_market_in, texts_of, tick_of, word_of};
+ghost use Rattle.xm_files.specs.Rows.{cancel_all_entry, cancel_entry, change_command, change_entry, condition_in, enter_entry, field, given_limit, limit_in, market_in, name_index, names_members_command, kind_in_record, order_command, phase_entry, stop_limit_in, stop_market_in, texts_of, tick_of, word_of};
 
 use crate::columns::Column;
 use crate::fields::{MAX_TEXT, condition, is_word, price, restriction, side, validity, whole};
@@ -40,30 +40,6 @@ pub(crate) fn names_members_command(text: &[u8]) -> bool
     match parse_word(text) {
         Some(Word::Enter | Word::Change | Word::Cancel | Word::CancelAll) => true,
         _ => false,
-    }
-}
-
-/// What a record says, if each of its fields is lawful.
-pub(crate) fn parse_entry(
-    fields: &Fields,
-    names: &SegmentNames,
-    config: &SegmentConfig,
-) -> Option<RecordEntry>
-    ensures { result ≡ record_entry fields.now.format names.now config.now.securities (texts_of fields.now) }
-{
-    if fields.text(Column::Text).len() > MAX_TEXT {
-        return None;
-    }
-    match fields.format().kind_in(fields.text(Column::Command))? {
-        Word::Enter => enter(fields, names, config.securities.as_slice()),
-        Word::Change => change(fields, names, config.securities.as_slice()),
-        Word::Cancel => cancel(fields, names),
-        Word::CancelAll => cancel_all(fields, names),
-        Word::Open => phase(fields, names, &Command::StartOpening),
-        Word::Intraday => phase(fields, names, &Command::StartIntraday),
-        Word::Close => phase(fields, names, &Command::StartClosing),
-        Word::Uncross => phase(fields, names, &Command::Uncross),
-        Word::End => phase(fields, names, &Command::EndDay),
     }
 }
 
@@ -120,7 +96,8 @@ pub(crate) fn security(fields: &Fields, names: &SegmentNames) -> Option<u32>
 }
 
 /// The order that a record enters.
-fn enter(
+#[inline(always)]
+pub(crate) fn enter(
     fields: &Fields,
     names: &SegmentNames,
     securities: &[SecurityConfig],
@@ -144,6 +121,7 @@ pub(crate) fn tick(securities: &[SecurityConfig], security: u32) -> TickSize
 }
 
 /// The order that a member enters in a security with this tick.
+#[inline(always)]
 pub(crate) fn order(fields: &Fields, member: u32, tick: TickSize) -> Option<Command>
     ensures { result ≡ order_command fields.now.format tick member (texts_of fields.now) }
 {
@@ -167,6 +145,7 @@ pub(crate) fn order(fields: &Fields, member: u32, tick: TickSize) -> Option<Comm
 }
 
 /// The condition that a text names, if orders of a format may have it.
+#[inline(always)]
 fn condition_in(format: OrderFormat, text: &[u8]) -> Option<Condition>
     ensures { result ≡ condition_in format text.now }
 {
@@ -237,7 +216,8 @@ fn limit(fields: &Fields, tick: TickSize) -> Option<Kind>
 }
 
 /// The change of an order that a record is.
-fn change(
+#[inline(always)]
+pub(crate) fn change(
     fields: &Fields,
     names: &SegmentNames,
     securities: &[SecurityConfig],
@@ -300,7 +280,8 @@ const CANCEL_BLANK: [Column; 8] = [
 ];
 
 /// The cancellation that a record is.
-fn cancel(fields: &Fields, names: &SegmentNames) -> Option<RecordEntry>
+#[inline(always)]
+pub(crate) fn cancel(fields: &Fields, names: &SegmentNames) -> Option<RecordEntry>
     ensures { result ≡ cancel_entry names.now (texts_of fields.now) }
 {
     if !fields.are_empty(&CANCEL_BLANK) {
@@ -313,7 +294,8 @@ fn cancel(fields: &Fields, names: &SegmentNames) -> Option<RecordEntry>
 }
 
 /// The cancellation of all orders of a member that a record is.
-fn cancel_all(fields: &Fields, names: &SegmentNames) -> Option<RecordEntry>
+#[inline(always)]
+pub(crate) fn cancel_all(fields: &Fields, names: &SegmentNames) -> Option<RecordEntry>
     ensures { result ≡ cancel_all_entry names.now (texts_of fields.now) }
 {
     if !fields.are_empty(&[Column::Reference]) || !fields.are_empty(&CANCEL_BLANK) {
@@ -325,7 +307,8 @@ fn cancel_all(fields: &Fields, names: &SegmentNames) -> Option<RecordEntry>
 }
 
 /// The phase command that a record gives to one security, or by `*` to each.
-fn phase(fields: &Fields, names: &SegmentNames, command: &Command) -> Option<RecordEntry>
+#[inline(always)]
+pub(crate) fn phase(fields: &Fields, names: &SegmentNames, command: &Command) -> Option<RecordEntry>
     ensures { result ≡ phase_entry command.now names.now (texts_of fields.now) }
 {
     if !fields.are_empty(&[Column::Member, Column::Reference]) || !fields.are_empty(&CANCEL_BLANK) {

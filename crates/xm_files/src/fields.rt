@@ -10,11 +10,12 @@ use xm_ticks::{PriceFault, TickSize, read_number, read_price};
 /// The most bytes of the free text of a record.
 pub(crate) const MAX_TEXT: usize = 64;
 
-/// Whether a field is this word.
+/// Whether a field is this word. It is written out where it is called, where the word is known.
+#[inline(always)]
 pub(crate) fn is_word(text: &[u8], word: &str) -> bool
     ensures { result ≡ bytes_eq text.now word.now }
 {
-    text == word.as_bytes()
+    text.len() == word.len() && text.starts_with(word.as_bytes())
 }
 
 /// The number that one to ten digits write, if 32 bits hold it.
@@ -62,6 +63,7 @@ fn date(text: &[u8]) -> Option<u32>
 }
 
 /// How long an order is valid; an empty text is the day.
+#[inline(always)]
 pub(crate) fn validity(text: &[u8]) -> Option<Validity>
     ensures { result ≡ validity_of text.now }
 {
@@ -75,6 +77,7 @@ pub(crate) fn validity(text: &[u8]) -> Option<Validity>
 }
 
 /// The restriction of an order; an empty text is none.
+#[inline(always)]
 pub(crate) fn restriction(text: &[u8]) -> Option<Restriction>
     ensures { result ≡ restriction_of text.now }
 {
@@ -92,6 +95,7 @@ pub(crate) fn restriction(text: &[u8]) -> Option<Restriction>
 }
 
 /// The condition of an order; an empty text is none.
+#[inline(always)]
 pub(crate) fn condition(text: &[u8]) -> Option<Condition>
     ensures { result ≡ condition_of text.now }
 {

@@ -77,10 +77,9 @@ impl<'a> Marks<'a> {
         ensures read { IfSome result (λ at. self.new ≡ record self.old { at = at + 1 }) }
     {
         let (block, bits) = self.ahead()?;
-        let bit = bits.trailing_zeros() as usize;
-        let at = block + bit;
+        let at = block + bits.trailing_zeros() as usize;
         self.block = block;
-        self.bits = bits & !(1 << bit);
+        self.bits = bits & (bits - 1); // The lowest bit is read.
         self.at = at + 1;
         Some(at)
     }

@@ -6,16 +6,18 @@ ghost use Rattle.csv.specs.Records.{fields_of};
 ghost use Rattle.xm_files.specs.Batches.{rows_from, rows_so_far, text_left};
 ghost use Rattle.xm_files.specs.FileFaults.{is_from_outside};
 ghost use Rattle.xm_files.specs.Names.{NameLists};
-ghost use Rattle.xm_files.specs.Orders.{IsHeaded, NoHeader, orders_of, records_in, rows_after, with_record, with_rows};
+ghost use Rattle.xm_files.specs.Orders.{IsHeaded, NoHeader, orders_of, records_in, rows_after, with_entry, with_record, with_rows};
 ghost use Rattle.xm_files.specs.Parts.{IsFull, IsRound, ends_before, is_so_far};
 ghost use Rattle.xm_files.specs.Plain.{IsBehind, rest_of};
-ghost use Rattle.xm_files.specs.Rows.{columns_of, command_in, rows_of_entry, rows_of_record};
+ghost use Rattle.xm_files.specs.Rows.{columns_of, command_in, entry_with, phase_entry, rows_of_entry, rows_of_record, texts_of};
 ghost use Rattle.xm_files.specs.Unread.{csv_left};
 
 use crate::batch::Batch;
 use crate::bytes::{MAX_BYTES, read_whole};
+use crate::columns::Column;
 use crate::csv_records::CsvRecords;
-use crate::entries::{RecordEntry, parse_entry};
+use crate::entries::{RecordEntry, Word, cancel, cancel_all, change, enter, phase};
+use crate::fields::MAX_TEXT;
 use crate::file_faults::{FileCause, FileFault};
 use crate::file_parts::{FileParts, LEAST_BESIDE};
 use crate::headers::{csv_behind_header, header_line};
@@ -30,7 +32,7 @@ use std::alloc::Global;
 use std::io::Read;
 use std::marker::Model;
 use std::thread::Threads;
-use xm_config::{Row, SegmentConfig};
+use xm_config::{Row, SecurityConfig, SegmentConfig};
 use xm_memory::OutOfMemory;
 use xm_rules::Command;
 
@@ -524,11 +526,93 @@ pub(crate) fn add_record(
     ensures err { IfErr result (λ fault. fault.cause ≢ FileCause.OutOfMemory tt → with_rows line (rows_so_far batch.old) (rows_of_record fields.now.format names.now config.now line fields.now.in_order) ≡ Err fault) }
     ensures memory { IfErr result (λ fault. OnTrue (is_from_outside fault.cause) (fault.line ≡ 0)) }
 {
-    let entry = parse_entry(fields, names, config).ok_or(fault_at(line, FileCause::BadField))?;
-    if MAX_ROWS - batch.total() < count_of(entry, names.securities()) as usize {
+    if fields.text(Column::Text).len() > MAX_TEXT {
+        return Err(fault_at(line, FileCause::BadField));
+    }
+    let kind = fields.format().kind_in(fields.text(Column::Command));
+    add_kind(
+        batch,
+        line,
+        kind,
+        fields,
+        names,
+        config.securities.as_slice(),
+    )
+}
+
+/// Adds the rows of a record with this number whose command word is this kind's. Each kind has a branch, so that a row is built
+/// where it is kept.
+#[inline(always)]
+fn add_kind(
+    batch: &mut Batch,
+    line: u32,
+    kind: Option<Word>,
+    fields: &Fields,
+    names: &SegmentNames,
+    securities: &[SecurityConfig],
+) -> Result<(), FileFault>
+    ensures ok { OnOk result (with_entry line (length names.now.securities) (rows_so_far batch.old) (entry_with fields.now.format kind names.now securities.now (texts_of fields.now)) ≡ Ok (rows_so_far batch.new)) }
+    ensures earlier { OnOk result (batch.new.earlier ≡ batch.old.earlier) }
+    ensures err { IfErr result (λ fault. fault.cause ≢ FileCause.OutOfMemory tt → with_entry line (length names.now.securities) (rows_so_far batch.old) (entry_with fields.now.format kind names.now securities.now (texts_of fields.now)) ≡ Err fault) }
+    ensures memory { IfErr result (λ fault. OnTrue (is_from_outside fault.cause) (fault.line ≡ 0)) }
+{
+    let count = names.securities();
+    match kind {
+        Some(Word::Enter) => add_parsed(batch, line, enter(fields, names, securities), count),
+        Some(Word::Change) => add_parsed(batch, line, change(fields, names, securities), count),
+        Some(Word::Cancel) => add_parsed(batch, line, cancel(fields, names), count),
+        Some(Word::CancelAll) => add_parsed(batch, line, cancel_all(fields, names), count),
+        Some(Word::Open) => add_phase(batch, line, fields, names, &Command::StartOpening),
+        Some(Word::Intraday) => add_phase(batch, line, fields, names, &Command::StartIntraday),
+        Some(Word::Close) => add_phase(batch, line, fields, names, &Command::StartClosing),
+        Some(Word::Uncross) => add_phase(batch, line, fields, names, &Command::Uncross),
+        Some(Word::End) => add_phase(batch, line, fields, names, &Command::EndDay),
+        None => Err(fault_at(line, FileCause::BadField)),
+    }
+}
+
+/// Adds the rows of a record with this number that gives a phase command.
+#[inline(never)]
+fn add_phase(
+    batch: &mut Batch,
+    line: u32,
+    fields: &Fields,
+    names: &SegmentNames,
+    command: &Command,
+) -> Result<(), FileFault>
+    ensures ok { OnOk result (with_entry line (length names.now.securities) (rows_so_far batch.old) (phase_entry command.now names.now (texts_of fields.now)) ≡ Ok (rows_so_far batch.new)) }
+    ensures earlier { OnOk result (batch.new.earlier ≡ batch.old.earlier) }
+    ensures err { IfErr result (λ fault. fault.cause ≢ FileCause.OutOfMemory tt → with_entry line (length names.now.securities) (rows_so_far batch.old) (phase_entry command.now names.now (texts_of fields.now)) ≡ Err fault) }
+    ensures memory { IfErr result (λ fault. OnTrue (is_from_outside fault.cause) (fault.line ≡ 0)) }
+{
+    add_parsed(
+        batch,
+        line,
+        phase(fields, names, command),
+        names.securities(),
+    )
+}
+
+/// Adds the rows of what a record with this number says, if it is lawful, in a segment of so many securities.
+#[inline(always)]
+fn add_parsed(
+    batch: &mut Batch,
+    line: u32,
+    entry: Option<RecordEntry>,
+    securities: u32,
+) -> Result<(), FileFault>
+    ensures ok { OnOk result (with_entry line securities (rows_so_far batch.old) entry ≡ Ok (rows_so_far batch.new)) }
+    ensures earlier { OnOk result (batch.new.earlier ≡ batch.old.earlier) }
+    ensures err { IfErr result (λ fault. fault.cause ≢ FileCause.OutOfMemory tt → with_entry line securities (rows_so_far batch.old) entry ≡ Err fault) }
+    ensures memory { IfErr result (λ fault. OnTrue (is_from_outside fault.cause) (fault.line ≡ 0)) }
+{
+    let Some(entry) = entry else {
+        return Err(fault_at(line, FileCause::BadField));
+    };
+    if MAX_ROWS - batch.total() < count_of(entry, securities) as usize {
         return Err(fault_at(line, FileCause::TooManyRows));
     }
-    add_entry(batch, line, entry, names.securities())?;
+    add_entry(batch, line, entry, securities)?;
     Ok(())
 }
 

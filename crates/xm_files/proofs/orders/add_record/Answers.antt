@@ -1,32 +1,29 @@
-use Rattle.std.proofs.Common.{◌≡◌, ℕ, ◌+◌, ◌≤◌, ◌++◌, ◌∙◌, length, Some, Ok, sym, ap, arith, rules}
-use Rattle.std.specs.Prelude.{option_map}
-use Rattle.xm_files.proofs.Batches.{joined}
-use Rattle.xm_files.proofs.Progress.{rows-fit}
-use Rattle.xm_files.specs.Batches.{rows_so_far}
-use Rattle.xm_files.specs.Orders.{with_rows}
-use Rattle.xm_files.specs.Rows.{rows_of_entry, texts_of}
+use Rattle.std.proofs.Common.{◌≡◌, Bool, true, if◌then◌else◌, List, Option, None, ap, ap₂, sym, rules, ◌∙◌}
+use Rattle.xm_config.specs.declared.config.SecurityConfig.{SecurityConfig}
+use Rattle.xm_files.specs.Rows.{entry_with, field, has_short_text, kind_in, record_entry, texts_of}
+use Rattle.xm_files.specs.declared.columns.Column.TheVariants as column
+use Rattle.xm_files.specs.declared.entries.Word.{Word}
 use Rattle.xm_files.proofs.orders.add_record.Goals as goal
 
-pub returns-in_err-entry-clause-err : goal.returns-in_err-entry-clause-err
+pub returns-then-text-gt-MAX_TEXT-clause-err : goal.returns-then-text-gt-MAX_TEXT-clause-err
 unfolding texts_of
-returns-in_err-entry-clause-err c = search rules
+returns-then-text-gt-MAX_TEXT-clause-err c = search rules
 
-pub returns-then-total-count_of-clause-err : goal.returns-then-total-count_of-clause-err
-unfolding texts_of
-returns-then-total-count_of-clause-err c = search rules
+-- what the record says
+parsed : (c : goal.After-add_kind) → entry_with c.args.fields.now.format c.kind_in-kind.result c.args.names.now c.as_slice.result.now (texts_of c.args.fields.now) ≡ record_entry c.args.fields.now.format c.args.names.now c.args.config.now.securities (texts_of c.args.fields.now)
+parsed c =
+    let format = c.args.fields.now.format in
+    let names = c.args.names.now in
+    let fields = texts_of c.args.fields.now in
+    let short : has_short_text fields ≡ true = search rules in
+    let kind : c.kind_in-kind.result ≡ kind_in format (field column.Command fields) = search rules in
+    ap₂ (λ (w : Option Word) (securities : List SecurityConfig). entry_with format w names securities fields) kind c.as_slice.ensures
+    ∙ ap (λ (t : Bool). if t then entry_with format (kind_in format (field column.Command fields)) names c.args.config.now.securities fields else None) (sym short)
 
 pub returns-clause-ok : goal.returns-clause-ok
 unfolding texts_of
-returns-clause-ok c =
-    let rows = rows_so_far c.args.batch.now in
-    let entry = c.in_ok-entry.entry in
-    let parsed : c.parse_entry.result ≡ Some entry = search rules in
-    let more = rows_of_entry c.args.line (length c.args.names.now.securities) entry in
-    let count : c.count_of.result ≡ length more = c.count_of.ensures c.args.line ∙ ap (λ (n : ℕ). length (rows_of_entry c.args.line n entry)) c.securities.ensures in
-    let fits : length rows + length more ≤ 1000000 = omega (arith, count, c.total.ensures.total, c.total.ensures.few, c.if-total-count_of.false) in
-    let old = c.args.batch.now in
-    let added : rows_so_far c.add_entry.new.batch ≡ rows ++ more =
-    ap rows_so_far c.in_ok-add_entry.ensures ∙ ap (λ (n : ℕ). rows_so_far (record old { rows = old.rows ++ rows_of_entry c.args.line n entry })) c.securities-2.ensures ∙ joined old more in
-    ap (λ parsed. with_rows c.args.line rows (option_map (rows_of_entry c.args.line (length c.args.names.now.securities)) parsed)) (sym c.parse_entry.ensures ∙ parsed)
-    ∙ rows-fit c.args.line rows more fits
-    ∙ ap Ok (sym added)
+returns-clause-ok c = rw (parsed c) at c.add_kind.ensures.ok
+
+pub returns-clause-err : goal.returns-clause-err
+unfolding texts_of
+returns-clause-err c = rw (parsed c) at c.add_kind.ensures.err
