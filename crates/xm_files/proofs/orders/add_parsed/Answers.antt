@@ -1,5 +1,4 @@
-use Rattle.std.proofs.Common.{◌≡◌, ℕ, ◌+◌, ◌≤◌, ◌++◌, ◌∙◌, length, Some, Ok, sym, ap, arith, rules}
-use Rattle.std.specs.Prelude.{option_map}
+use Rattle.std.proofs.Common.{◌≡◌, ◌+◌, ◌≤◌, ◌++◌, ◌∙◌, length, Ok, sym, ap, arith}
 use Rattle.xm_files.proofs.Batches.{joined}
 use Rattle.xm_files.proofs.Progress.{rows-fit}
 use Rattle.xm_files.specs.Batches.{rows_so_far}
