@@ -1,3 +1,4 @@
+mod FewDigits
 mod StatementLines
 mod CashSums
 mod Leaving

@@ -41,7 +41,7 @@ pub(crate) fn tell_answer<A: Allocator + Copy>(
         return Ok(());
     };
     texts.read(row.line)?;
-    push_answer(text, names, desks, row, texts.text(), answer)?;
+    push_answer(text, names, desks, row, texts.text(), *answer)?;
     Ok(())
 }
 
@@ -53,7 +53,7 @@ pub fn begun_answers(alloc: Global, asked: bool) -> Result<Option<Vec<u8>>, OutO
     begun(alloc, asked, HEADER)
 }
 
-/// The line of a row, whose record has this free text.
+/// The line of a row, whose record has this free text. The answer comes by value, so that it is written down only where it is told.
 #[inline(never)]
 fn push_answer<A: Allocator, B: Allocator + Copy>(
     text: &mut Vec<u8, A>,
@@ -61,13 +61,13 @@ fn push_answer<A: Allocator, B: Allocator + Copy>(
     desks: &[Desk<B>],
     row: &Row,
     own: &[u8],
-    answer: &Result<Reply, Refusal>,
+    answer: Result<Reply, Refusal>,
 ) -> Result<(), OutOfMemory>
-    ensures { OnOk result (text.new.items ≡ text.old.items ++ answer_line names.now row.now own.now answer.now (slice_get (map replay desks.now) row.now.security)) }
+    ensures { OnOk result (text.new.items ≡ text.old.items ++ answer_line names.now row.now own.now answer (slice_get (map replay desks.now) row.now.security)) }
 {
     push_number(text, u64::from(row.line))?;
     push_comma(text)?;
-    push_security(text, names, desks, row, answer)?;
+    push_security(text, names, desks, row, &answer)?;
     push_comma(text)?;
     push_field(text, own)?;
     push_line_feed(text)?;

@@ -1,5 +1,5 @@
 //! The pieces that the lines of the statement and of the carry file are put together from.
-ghost use Rattle.std.specs.Prelude.{◌≡◌, ◌++◌, Ok, OnOk, codes};
+ghost use Rattle.std.specs.Prelude.{◌≡◌, ◌+◌, ◌/◌, ◌%◌, ◌<◌, ◌++◌, ◌∷◌, [], Ok, OnOk, codes};
 ghost use Rattle.std.specs.Fmt.{decimal};
 ghost use Rattle.xm_texts.specs.Statement.{name_at, party_text};
 ghost use Rattle.xm_ticks.specs.Writing.{money_text, price_text};
@@ -11,12 +11,54 @@ use xm_files::SegmentNames;
 use xm_memory::OutOfMemory;
 use xm_ticks::{Price, TickSize, write_money, write_price};
 
-/// A number.
+/// A number. Most have four digits or less, which are written where they stand.
 pub fn push_number<A: Allocator>(text: &mut Vec<u8, A>, number: u64) -> Result<(), OutOfMemory>
+    ensures { OnOk result (text.new.items ≡ text.old.items ++ decimal number) }
+{
+    if number < 10 {
+        return push_digit(text, number);
+    }
+    if number < 100 {
+        return push_pair(text, number);
+    }
+    if number < 1_000 {
+        push_digit(text, number / 100)?;
+        return push_pair(text, number % 100);
+    }
+    if number < 10_000 {
+        push_pair(text, number / 100)?;
+        return push_pair(text, number % 100);
+    }
+    push_long(text, number)
+}
+
+/// A number, whatever its length.
+#[inline(never)]
+fn push_long<A: Allocator>(text: &mut Vec<u8, A>, number: u64) -> Result<(), OutOfMemory>
     ensures { OnOk result (text.new.items ≡ text.old.items ++ decimal number) }
 {
     let mut digits = Buffer::new();
     push_text(text, digits.format(number))
+}
+
+/// Two digits.
+#[inline(always)]
+fn push_pair<A: Allocator>(text: &mut Vec<u8, A>, number: u64) -> Result<(), OutOfMemory>
+    requires { number < 100 }
+    ensures { OnOk result (text.new.items ≡ text.old.items ++ (48 + number / 10) ∷ (48 + number % 10) ∷ []) }
+{
+    push_digit(text, number / 10)?;
+    push_digit(text, number % 10)
+}
+
+/// A digit.
+#[inline(always)]
+fn push_digit<A: Allocator>(text: &mut Vec<u8, A>, digit: u64) -> Result<(), OutOfMemory>
+    requires { digit < 10 }
+    ensures { OnOk result (text.new.items ≡ text.old.items ++ (48 + digit) ∷ []) }
+{
+    text.push(b'0' + digit as u8)?;
+    Ok(())
 }
 
 /// A price in euros.

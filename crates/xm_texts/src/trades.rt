@@ -46,11 +46,11 @@ pub(crate) fn tell_trades<A: Allocator + Copy>(
     if index >= desks.len() {
         return Ok(());
     }
-    push_trades(text, names, texts, &desks[index], row, answer)?;
+    push_trades(text, names, texts, &desks[index], row, *answer)?;
     Ok(())
 }
 
-/// The line of each trade of a row that was answered so by this desk, which has taken it.
+/// The line of each trade of a row that was answered so by this desk, which has taken it. The answer comes by value, as in `answers`.
 #[inline(never)]
 fn push_trades<A: Allocator, B: Allocator + Copy>(
     text: &mut Vec<u8, A>,
@@ -58,12 +58,12 @@ fn push_trades<A: Allocator, B: Allocator + Copy>(
     texts: &mut RecordTexts<'_>,
     desk: &Desk<B>,
     row: &Row,
-    answer: &Result<Reply, Refusal>,
+    answer: Result<Reply, Refusal>,
 ) -> Result<(), OutOfMemory>
-    ensures told { OnOk result (text.new.items ≡ text.old.items ++ trade_lines names.now row.now (text_of_record texts.old.orders row.now.line) answer.now (Some (replay desk.now))) }
+    ensures told { OnOk result (text.new.items ≡ text.old.items ++ trade_lines names.now row.now (text_of_record texts.old.orders row.now.line) answer (Some (replay desk.now))) }
     ensures texts { texts.new.orders ≡ texts.old.orders }
 {
-    let trades = trades_by(desk.trades(), answer);
+    let trades = trades_by(desk.trades(), &answer);
     if trades.is_empty() {
         return Ok(());
     }

@@ -20,10 +20,10 @@ returns-clause-told g c =
     let own = text_of_record c.args.texts.now.orders row.line in
     let own_is = c.text.ensures ∙ ap (λ (t : TextsRead). t.text) c.in_ok-read.ensures.read in
     let tick_is = ap (λ (s : DeskSettings). s.tick) c.settings.ensures.kept in
-    let trades_are = c.trades_by-trades.ensures ∙ ap (trades_by c.args.answer.now) c.trades.ensures.trades in
+    let trades_are = c.trades_by-trades.ensures ∙ ap (trades_by c.args.answer) c.trades.ensures.trades in
     let lines = λ (text : List ℕ) (n : ℕ) (ts : List Trade). flat_map (λ (t : Trade). record_line row text (trade_fields names row n t)) ts in
     let same = ap (λ (text : List ℕ). lines text tick trades) own_is
     ∙ ap (λ (n : ℕ). lines own n trades) tick_is
     ∙ ap (lines own state.settings.tick) trades_are
-    ∙ sym (flat_map-map (record_line row own) (trade_fields names row state.settings.tick) (trades_by c.args.answer.now state.trades)) in
+    ∙ sym (flat_map-map (record_line row own) (trade_fields names row state.settings.tick) (trades_by c.args.answer state.trades)) in
     ok-then c.push_lines.result c.push_lines.ensures (λ pushed. pushed ∙ ap (λ (more : List ℕ). c.args.text.now.items ++ more) same)
