@@ -12,7 +12,7 @@ overflow_add-count c =
     let within : i < length desks = omega arith in
     let one = sum_by_more (λ (j : Journal). length j.commands) desks i c.desk-item.result within in
     let most = sum_by-take-le (λ (j : Journal). length j.commands) desks (i + 1) in
-    omega (arith, c.loop-desk.invariant, one, most, c.requires, c.accepted.ensures.count, ap (λ (j : Journal). length j.commands) c.desk-item.is)
+    omega (arith, c.loop-desk.invariant, one, most, c.requires, c.accepted-count.ensures.count, ap (λ (j : Journal). length j.commands) c.desk-item.is)
 
 pub loop-desk-preserved : goal.loop-desk-preserved
 loop-desk-preserved c =
@@ -20,7 +20,7 @@ loop-desk-preserved c =
     let i = c.loop-desk.desk-index in
     let within : i < length desks = omega arith in
     let one = sum_by_more (λ (j : Journal). length j.commands) desks i c.desk-item.result within in
-    omega (arith, c.loop-desk.invariant, one, c.accepted.ensures.count, ap (λ (j : Journal). length j.commands) c.desk-item.is)
+    omega (arith, c.loop-desk.invariant, one, c.accepted-count.ensures.count, ap (λ (j : Journal). length j.commands) c.desk-item.is)
 
 pub returns : goal.returns
 returns c = c.loop-desk.invariant ∙ ap commands_in (take_all c.loop-desk.desk-index c.args.desks.now (omega arith))
