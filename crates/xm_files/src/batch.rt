@@ -131,7 +131,8 @@ impl Batch {
         requires { length (rows_so_far self.old) < MAX_ROWS }
         ensures { OnOk result (self.new ≡ record self.old { rows = self.old.rows ++ row ∷ [] }) }
     {
-        self.rows.push(row)?;
+        self.rows.reserve(1)?;
+        self.rows.push_reserved(row);
         Ok(())
     }
 

@@ -72,6 +72,7 @@ pub(crate) fn parse_word(text: &[u8]) -> Option<Word>
 }
 
 /// The index of the member in a record; an unknown name has the number of names as its index.
+#[inline(always)]
 pub(crate) fn member(fields: &Fields, names: &SegmentNames) -> Option<u32>
     ensures { result ≡ name_index names.now.members (field column.Member (texts_of fields.now)) }
 {
@@ -84,6 +85,7 @@ pub(crate) fn member(fields: &Fields, names: &SegmentNames) -> Option<u32>
 }
 
 /// The index of the security in a record; an unknown name has the number of names as its index.
+#[inline(always)]
 pub(crate) fn security(fields: &Fields, names: &SegmentNames) -> Option<u32>
     ensures { result ≡ name_index names.now.securities (field column.Security (texts_of fields.now)) }
 {
@@ -158,6 +160,7 @@ fn condition_in(format: OrderFormat, text: &[u8]) -> Option<Condition>
 }
 
 /// The kind of an order or a stop with its prices.
+#[inline(always)]
 fn kind(fields: &Fields, tick: TickSize) -> Option<Kind>
     ensures { result ≡ kind_in_record tick (texts_of fields.now) }
 {
@@ -206,6 +209,7 @@ fn market(fields: &Fields) -> Option<Kind>
 }
 
 /// The kind of a limit order.
+#[inline(always)]
 fn limit(fields: &Fields, tick: TickSize) -> Option<Kind>
     ensures { result ≡ limit_in tick (texts_of fields.now) }
 {
@@ -216,7 +220,6 @@ fn limit(fields: &Fields, tick: TickSize) -> Option<Kind>
 }
 
 /// The change of an order that a record is.
-#[inline(always)]
 pub(crate) fn change(
     fields: &Fields,
     names: &SegmentNames,
@@ -294,7 +297,6 @@ pub(crate) fn cancel(fields: &Fields, names: &SegmentNames) -> Option<RecordEntr
 }
 
 /// The cancellation of all orders of a member that a record is.
-#[inline(always)]
 pub(crate) fn cancel_all(fields: &Fields, names: &SegmentNames) -> Option<RecordEntry>
     ensures { result ≡ cancel_all_entry names.now (texts_of fields.now) }
 {

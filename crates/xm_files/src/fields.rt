@@ -10,15 +10,16 @@ use xm_ticks::{PriceFault, TickSize, read_number, read_price};
 /// The most bytes of the free text of a record.
 pub(crate) const MAX_TEXT: usize = 64;
 
-/// Whether a field is this word. It is written out where it is called, where the word is known.
+/// Whether a field is this word.
 #[inline(always)]
 pub(crate) fn is_word(text: &[u8], word: &str) -> bool
     ensures { result ≡ bytes_eq text.now word.now }
 {
-    text.len() == word.len() && text.starts_with(word.as_bytes())
+    text == word.as_bytes()
 }
 
 /// The number that one to ten digits write, if 32 bits hold it.
+#[inline(always)]
 pub(crate) fn whole(text: &[u8]) -> Option<u32>
     ensures { result ≡ whole_of text.now }
 {
@@ -43,6 +44,7 @@ pub(crate) fn price(text: &[u8], tick: TickSize) -> Option<u32>
 }
 
 /// The side that a text names.
+#[inline(always)]
 pub(crate) fn side(text: &[u8]) -> Option<Side>
     ensures { result ≡ side_named text.now }
 {

@@ -278,6 +278,7 @@ impl SegmentNames {
     }
 
     /// The index of the member with this name, or the number of members where none has it.
+    #[inline(always)]
     pub(crate) fn member_index(&self, name: &[u8]) -> u32
         ensures { result ≡ position_or_len (bytes_eq name.now) self.now.members }
     {
@@ -285,6 +286,7 @@ impl SegmentNames {
     }
 
     /// The index of the security with this name, or the number of securities where none has it.
+    #[inline(always)]
     pub(crate) fn security_index(&self, name: &[u8]) -> u32
         ensures { result ≡ position_or_len (bytes_eq name.now) self.now.securities }
     {

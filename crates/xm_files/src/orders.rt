@@ -627,6 +627,7 @@ fn count_of(entry: RecordEntry, securities: u32) -> u32
 }
 
 /// Adds the rows of an entry that stands in this line, in a segment of so many securities.
+#[inline(always)]
 fn add_entry(
     batch: &mut Batch,
     line: u32,
@@ -650,6 +651,7 @@ fn add_entry(
 }
 
 /// Adds one row per security.
+#[inline(never)]
 fn add_each(
     batch: &mut Batch,
     line: u32,
