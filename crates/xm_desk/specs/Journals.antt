@@ -4,9 +4,9 @@ use Rattle.xm_desk.specs.declared.journal.LastAccepted.{LastAccepted, LastAccept
 use Rattle.xm_desk.specs.declared.journal.LastAccepted.TheOpen.{Nothing, Accepted}
 use Rattle.xm_rules.specs.declared.commands.Command.{Command}
 
-abbrev pub with_last : LastAccepted-F (List Command) → List Command
-with_last Nothing = []
-with_last (Accepted command before) = before.value ++ command.value ∷ []
+abbrev pub with_last_accepted : LastAccepted-F (List Command) → List Command
+with_last_accepted Nothing = []
+with_last_accepted (Accepted command before) = before.value ++ command.value ∷ []
 
 unfoldable pub accepted_so_far : LastAccepted → List Command
-accepted_so_far last = fold-LastAccepted (List Command) with_last last
+accepted_so_far last = fold-LastAccepted (List Command) with_last_accepted last

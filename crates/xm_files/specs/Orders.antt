@@ -30,8 +30,8 @@ with_rows line rows None = Err (fault_at line BadField)
 with_rows line rows (Some more) = if nat_lt max_rows (length rows + length more) then Err (fault_at line TooManyRows) else Ok (rows ++ more)
 
 -- these rows and those of an entry that stands in this line, if it is lawful, in a segment of so many securities
-abbrev pub with_entry : ℕ → ℕ → List Row → Option RecordEntry → Result (List Row) FileFault
-with_entry line count rows entry = with_rows line rows (option_map (rows_of_entry line count) entry)
+abbrev pub with_entry_rows : ℕ → ℕ → List Row → Option RecordEntry → Result (List Row) FileFault
+with_entry_rows line count rows entry = with_rows line rows (option_map (rows_of_entry line count) entry)
 
 -- the format that has this header
 abbrev pub format_of : List (List ℕ) → Option OrderFormat

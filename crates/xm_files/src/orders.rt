@@ -6,7 +6,7 @@ ghost use Rattle.csv.specs.Records.{fields_of};
 ghost use Rattle.xm_files.specs.Batches.{rows_from, rows_so_far, text_left};
 ghost use Rattle.xm_files.specs.FileFaults.{is_from_outside};
 ghost use Rattle.xm_files.specs.Names.{NameLists};
-ghost use Rattle.xm_files.specs.Orders.{IsHeaded, NoHeader, orders_of, records_in, rows_after, with_entry, with_record, with_rows};
+ghost use Rattle.xm_files.specs.Orders.{IsHeaded, NoHeader, orders_of, records_in, rows_after, with_entry_rows, with_record, with_rows};
 ghost use Rattle.xm_files.specs.Parts.{IsFull, IsRound, ends_before, is_so_far};
 ghost use Rattle.xm_files.specs.Plain.{IsBehind, rest_of};
 ghost use Rattle.xm_files.specs.Rows.{columns_of, command_in, entry_with, phase_entry, rows_of_entry, rows_of_record, texts_of};
@@ -551,9 +551,9 @@ fn add_kind(
     names: &SegmentNames,
     securities: &[SecurityConfig],
 ) -> Result<(), FileFault>
-    ensures ok { OnOk result (with_entry line (length names.now.securities) (rows_so_far batch.old) (entry_with fields.now.format kind names.now securities.now (texts_of fields.now)) ≡ Ok (rows_so_far batch.new)) }
+    ensures ok { OnOk result (with_entry_rows line (length names.now.securities) (rows_so_far batch.old) (entry_with fields.now.format kind names.now securities.now (texts_of fields.now)) ≡ Ok (rows_so_far batch.new)) }
     ensures earlier { OnOk result (batch.new.earlier ≡ batch.old.earlier) }
-    ensures err { IfErr result (λ fault. fault.cause ≢ FileCause.OutOfMemory tt → with_entry line (length names.now.securities) (rows_so_far batch.old) (entry_with fields.now.format kind names.now securities.now (texts_of fields.now)) ≡ Err fault) }
+    ensures err { IfErr result (λ fault. fault.cause ≢ FileCause.OutOfMemory tt → with_entry_rows line (length names.now.securities) (rows_so_far batch.old) (entry_with fields.now.format kind names.now securities.now (texts_of fields.now)) ≡ Err fault) }
     ensures memory { IfErr result (λ fault. OnTrue (is_from_outside fault.cause) (fault.line ≡ 0)) }
 {
     let count = names.securities();
@@ -580,9 +580,9 @@ fn add_phase(
     names: &SegmentNames,
     command: &Command,
 ) -> Result<(), FileFault>
-    ensures ok { OnOk result (with_entry line (length names.now.securities) (rows_so_far batch.old) (phase_entry command.now names.now (texts_of fields.now)) ≡ Ok (rows_so_far batch.new)) }
+    ensures ok { OnOk result (with_entry_rows line (length names.now.securities) (rows_so_far batch.old) (phase_entry command.now names.now (texts_of fields.now)) ≡ Ok (rows_so_far batch.new)) }
     ensures earlier { OnOk result (batch.new.earlier ≡ batch.old.earlier) }
-    ensures err { IfErr result (λ fault. fault.cause ≢ FileCause.OutOfMemory tt → with_entry line (length names.now.securities) (rows_so_far batch.old) (phase_entry command.now names.now (texts_of fields.now)) ≡ Err fault) }
+    ensures err { IfErr result (λ fault. fault.cause ≢ FileCause.OutOfMemory tt → with_entry_rows line (length names.now.securities) (rows_so_far batch.old) (phase_entry command.now names.now (texts_of fields.now)) ≡ Err fault) }
     ensures memory { IfErr result (λ fault. OnTrue (is_from_outside fault.cause) (fault.line ≡ 0)) }
 {
     add_parsed(
@@ -601,9 +601,9 @@ fn add_parsed(
     entry: Option<RecordEntry>,
     securities: u32,
 ) -> Result<(), FileFault>
-    ensures ok { OnOk result (with_entry line securities (rows_so_far batch.old) entry ≡ Ok (rows_so_far batch.new)) }
+    ensures ok { OnOk result (with_entry_rows line securities (rows_so_far batch.old) entry ≡ Ok (rows_so_far batch.new)) }
     ensures earlier { OnOk result (batch.new.earlier ≡ batch.old.earlier) }
-    ensures err { IfErr result (λ fault. fault.cause ≢ FileCause.OutOfMemory tt → with_entry line securities (rows_so_far batch.old) entry ≡ Err fault) }
+    ensures err { IfErr result (λ fault. fault.cause ≢ FileCause.OutOfMemory tt → with_entry_rows line securities (rows_so_far batch.old) entry ≡ Err fault) }
     ensures memory { IfErr result (λ fault. OnTrue (is_from_outside fault.cause) (fault.line ≡ 0)) }
 {
     let Some(entry) = entry else {

@@ -2,7 +2,7 @@ use Rattle.std.proofs.Common.{◌≡◌, ◌+◌, ◌≤◌, ◌++◌, ◌∙◌
 use Rattle.xm_files.proofs.Batches.{joined}
 use Rattle.xm_files.proofs.Progress.{rows-fit}
 use Rattle.xm_files.specs.Batches.{rows_so_far}
-use Rattle.xm_files.specs.Orders.{with_entry}
+use Rattle.xm_files.specs.Orders.{with_entry_rows}
 use Rattle.xm_files.specs.Rows.{rows_of_entry}
 use Rattle.xm_files.proofs.orders.add_parsed.Goals as goal
 
@@ -16,6 +16,6 @@ returns-clause-ok c =
     let old = c.args.batch.now in
     let added : rows_so_far c.add_entry.new.batch ≡ rows ++ more =
     ap rows_so_far c.in_ok-add_entry.ensures ∙ joined old more in
-    ap (with_entry c.args.line c.args.securities rows) c.in-Some.is
+    ap (with_entry_rows c.args.line c.args.securities rows) c.in-Some.is
     ∙ rows-fit c.args.line rows more fits
     ∙ ap Ok (sym added)
