@@ -1,4 +1,4 @@
--- Levels may go to another thread, if what stands at them may.
+-- Levels may go to another thread, if what stands at them may, and so may sums.
 use denote.RattleType.{RattleType}
 use denote.Param.Send.{IsSend, sendable}
 use Rattle.std.proofs.Crossing.{crosses}
@@ -8,6 +8,7 @@ use Rattle.xm_price_maps.specs.contracts.set.PriceSet as PriceSet
 use Rattle.xm_price_maps.specs.contracts.bounded.BoundedSet as BoundedSet
 use Rattle.xm_price_maps.specs.contracts.map.PriceMap as PriceMap
 use Rattle.xm_price_maps.specs.contracts.levels.Levels as Levels
+use Rattle.xm_price_maps.specs.contracts.sums.PriceSums as PriceSums
 
 set-send : IsSend (PriceSet.the_field heap ghosts).row
 set-send = search (sendable, crosses) depth 20
@@ -20,3 +21,6 @@ map-send V v = search (sendable, crosses) depth 20
 
 pub levels-send : (L : RattleType) → IsSend L → IsSend (Levels.the_field L heap ghosts).row
 levels-send L l = let a = bounded-send in search (sendable, crosses, map-send) depth 60
+
+pub sums-send : IsSend (PriceSums.the_field heap ghosts).row
+sums-send = search (sendable, crosses) depth 20

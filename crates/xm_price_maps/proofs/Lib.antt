@@ -8,4 +8,5 @@ mod Paging
 mod Places
 mod Rooms
 mod Stored
+mod Summing
 pub mod Crosses

@@ -4,4 +4,5 @@ pub mod Map
 pub mod Marks
 pub mod Set
 pub mod Slots
+pub mod Sums
 pub mod Words

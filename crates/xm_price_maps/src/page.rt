@@ -62,6 +62,15 @@ impl<T: Copy, A: Allocator> Page<T, A> {
         }
     }
 
+    /// What a slot that is there has.
+    #[inline(always)]
+    pub fn known(&self, k: usize) -> T
+        requires { k < length self.now }
+        ensures { (none : T) → result ≡ slice_index_or self.now k none }
+    {
+        self.slots[k]
+    }
+
     /// Puts a value into a slot, and gives the one that was there.
     #[inline(always)]
     pub fn replace(&mut self, k: usize, value: T) -> T
