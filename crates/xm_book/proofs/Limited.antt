@@ -1,17 +1,19 @@
 -- The best limit of the active orders of a side, as the rules say it.
 use Rattle.xm_slots.specs.Listing.{listed_item}
-use Rattle.std.proofs.Common.{◌≡◌, ℕ, ◌+◌, true, ◌&&◌, List, [], ◌∷◌, map, Contains, Option, Some, None, option_map, refl, sym, ap, ◌∙◌, subst}
+use Rattle.std.proofs.Common.{◌≡◌, ℕ, ◌+◌, true, ◌&&◌, List, [], ◌∷◌, filter, map, Contains, Option, Some, None, option_map, refl, sym, ap, ◌∙◌, subst}
 use Rattle.std.proofs.lemmas.Bool.{and_parts, and_from, both_ways, not-false}
-use Rattle.xm_book.specs.Fronts.{IsBestOf, has_worse, is_on, is_worse}
+use Rattle.xm_book.specs.Curves.{worst_within}
+use Rattle.xm_book.specs.Fronts.{IsBestOf, has_worse, is_kind_within, is_on, is_worse, lies_within}
 use Rattle.xm_book.specs.Queues.{level_after, limits_after, units_at}
 use Rattle.xm_book.proofs.Bests.{best-is, best-none}
 use Rattle.xm_book.proofs.Curves.{in_after, of_after}
 use Rattle.xm_slots.specs.declared.listing.Listed.{Listed}
+use Rattle.xm_ladders.specs.Ladder.{is_within}
 use Rattle.xm_slots.proofs.Members.{Contains-filter, Contains-filter_map, Contains-map, IsGiven-filter_map, IsMade-map, Passes-filter}
 use Rattle.xm_rules.specs.Active.{Positioned, active, is_active, is_active_on, limits, positioned_from}
 use Rattle.xm_rules.specs.Orders.{limit_of}
 use Rattle.xm_rules.specs.Priority.{is_better}
-use Rattle.xm_rules.specs.Sides.{best, reaches, same_side}
+use Rattle.xm_rules.specs.Sides.{best, opposite, reaches, same_side}
 use Rattle.xm_rules.specs.declared.orders.Order.{Order}
 use Rattle.xm_rules.specs.declared.orders.OrderKind.{OrderKind}
 use Rattle.xm_rules.specs.declared.orders.OrderKind.TheVariants.{Market, Limit}
@@ -89,3 +91,29 @@ module _ (phase : Phase) (side : Side) (xs : List (Listed Order)) where
 
     pub level-none : None ≡ best side (limits_after side after queue) → None ≡ level_after phase side after (map listed_item xs)
     level-none e = ap (option_map (λ (n : ℕ). let pair : ℕ × ℕ = (n, units_at (Limit n) queue) in pair)) e
+
+  -- ---- the worst limit within a bound
+  module _ (bound : ℕ) where
+    abbrev within : List ℕ
+    within = filter (is_within side bound) (limits queue)
+
+    within-there : (p : ℕ) → Contains within p → (x : Listed Order) × Contains xs x × (is_on phase side (lies_within side bound) x ≡ true) × (x.item.kind ≡ Limit p)
+    within-there p c =
+        let at = Passes-filter (is_within side bound) (limits queue) p c in
+        let x = limit-out p at.contains in
+        (x.0, x.1, and_from (is_active phase x.0.item.restriction && same_side side x.0.item.side) (is_kind_within side bound x.0.item.kind) x.2 (ap (is_kind_within side bound) x.3 ∙ at.passes), x.3)
+
+    pub worst-limit : (o : Option ℕ) → IsBestOf (opposite side) (is_on phase side (lies_within side bound)) xs o → o ≡ worst_within phase side bound (map listed_item xs)
+    worst-limit None none =
+        sym (best-none (opposite side) within (λ p c. let x = within-there p c in both_ways (is_on phase side (lies_within side bound) x.0) (none x.0 x.1) x.2))
+    worst-limit (Some p) first =
+        let x = first.0 in
+        let kind = first.1 in
+        let is = first.2 in
+        let parts = and_parts (is_active phase x.item.restriction && same_side side x.item.side) (is_kind_within side bound x.item.kind) is.passing in
+        sym (best-is (opposite side) within p (record {
+          there = Contains-filter (is_within side bound) (limits queue) p (ap (is_kind_within side bound) (sym kind) ∙ parts.1) (limit-in x p is.contained parts.0 kind);
+          reaches_all = λ q c.
+              let y = within-there q c in
+              not-false (reaches (opposite side) p q) ((λ i. is_better (opposite side) (sym y.3 i) (sym kind i)) ∙ is.none y.0 y.1 y.2);
+        }))

@@ -195,8 +195,8 @@ module _ (phase : Phase) (side : Side) (test : Listed Order → Bool) (xs : List
     pub earliest_free : (o : Option (Entry Order)) → IsFirstOf is_earlier (is_in phase side Free test) xs o → IsFirstOf is_earlier (is_on phase side test) xs o
     earliest_free o first = first_agrees is_earlier (is_in phase side Free test) (is_on phase side test) xs free_alone o first
 
-    pub best_free : (o : Option ℕ) → IsBestOf side (is_in phase side Free test) xs o → IsBestOf side (is_on phase side test) xs o
-    best_free o first = best_agrees side (is_in phase side Free test) (is_on phase side test) xs free_alone o first
+    pub best_free : (toward : Side) (o : Option ℕ) → IsBestOf toward (is_in phase side Free test) xs o → IsBestOf toward (is_on phase side test) xs o
+    best_free toward o first = best_agrees toward (is_in phase side Free test) (is_on phase side test) xs free_alone o first
 
   abbrev early : Listed Order → Bool
   early x = is_in phase side Free test x || is_in phase side OpeningOnly test x
@@ -219,12 +219,12 @@ module _ (phase : Phase) (side : Side) (test : Listed Order → Bool) (xs : List
       (earlier-first (is_in phase side AuctionsOnly test) (is_in phase side ClosingOnly test) xs auctions closing a c))
 
   -- the best limit is the best of four
-  pub best_of_four : (free opening auctions closing : Option ℕ)
-      → IsBestOf side (is_in phase side Free test) xs free → IsBestOf side (is_in phase side OpeningOnly test) xs opening
-      → IsBestOf side (is_in phase side AuctionsOnly test) xs auctions → IsBestOf side (is_in phase side ClosingOnly test) xs closing
-      → IsBestOf side (is_on phase side test) xs (better_of_two side (better_of_two side free opening) (better_of_two side auctions closing))
-  best_of_four free opening auctions closing f o a c =
-      best_agrees side (λ x. early x || late x) (is_on phase side test) xs all_four (better_of_two side (better_of_two side free opening) (better_of_two side auctions closing))
-      (better-best side early late xs (better_of_two side free opening) (better_of_two side auctions closing)
-      (better-best side (is_in phase side Free test) (is_in phase side OpeningOnly test) xs free opening f o)
-      (better-best side (is_in phase side AuctionsOnly test) (is_in phase side ClosingOnly test) xs auctions closing a c))
+  pub best_of_four : (toward : Side) (free opening auctions closing : Option ℕ)
+      → IsBestOf toward (is_in phase side Free test) xs free → IsBestOf toward (is_in phase side OpeningOnly test) xs opening
+      → IsBestOf toward (is_in phase side AuctionsOnly test) xs auctions → IsBestOf toward (is_in phase side ClosingOnly test) xs closing
+      → IsBestOf toward (is_on phase side test) xs (better_of_two toward (better_of_two toward free opening) (better_of_two toward auctions closing))
+  best_of_four toward free opening auctions closing f o a c =
+      best_agrees toward (λ x. early x || late x) (is_on phase side test) xs all_four (better_of_two toward (better_of_two toward free opening) (better_of_two toward auctions closing))
+      (better-best toward early late xs (better_of_two toward free opening) (better_of_two toward auctions closing)
+      (better-best toward (is_in phase side Free test) (is_in phase side OpeningOnly test) xs free opening f o)
+      (better-best toward (is_in phase side AuctionsOnly test) (is_in phase side ClosingOnly test) xs auctions closing a c))

@@ -6,17 +6,18 @@ use Rattle.std.specs.Prelude.{nat_le, slice_get}
 use Rattle.std.proofs.lemmas.Bool.{and_parts, and_from, false≢true, false_from_ne_true, leb-true, le-ltb, not-true}
 use Rattle.std.proofs.lemmas.Bool.Decides.{nat_tests}
 use Rattle.std.proofs.lemmas.List.Elements.{All-contains, Contains-get_or}
-use Rattle.xm_book.specs.Fronts.{IsBestOf, IsFirst, IsFirstOf, has_kind, has_worse, is_earlier, is_in, is_worse}
+use Rattle.xm_book.specs.Fronts.{IsBestOf, IsFirst, IsFirstOf, has_kind, has_limit_in, has_worse, is_earlier, is_in, is_kind_within, is_worse, lies_within}
 use Rattle.xm_slots.specs.Listing.{keys_in, listed_entry, rises, LiesAt}
 use Rattle.xm_book.specs.Queued.{HoldsLevel, IsLevelOf, AreOrdersQueued, is_of_level, orders_of_level, units_in}
 use Rattle.xm_slots.specs.Slots.{SlotsView, get}
 use Rattle.xm_slots.specs.declared.entry.Entry.{Entry}
 use Rattle.xm_slots.specs.declared.listing.Listed.{Listed}
 use Rattle.xm_book.proofs.Joining.{kind-is, units-few}
+use Rattle.xm_book.proofs.LevelSums.{is_of_range}
 use Rattle.xm_slots.proofs.Tests.{length-kept, same_some}
 use Rattle.xm_slots.proofs.Members.{Contains-cases, Contains-filter, Contains-here, Contains-none, IsMade-map, Passes-filter, filter_none}
 use Rattle.xm_book.proofs.Sameness.{left-true, right-true}
-use Rattle.xm_ladders.specs.Ladder.{HasOrder, IsBestLimit, IsNextLimit, limit_level}
+use Rattle.xm_ladders.specs.Ladder.{HasOrder, IsBestLimit, IsNextLimit, IsWorstWithin, is_within, limit_level}
 use Rattle.xm_ladders.specs.Ladders.{ladder_on, level_on, side_of}
 use Rattle.xm_ladders.specs.declared.ladders.Ladders.{Ladders}
 use Rattle.xm_ladders.specs.declared.level.Level.{Level}
@@ -25,7 +26,7 @@ use Rattle.xm_queues.specs.declared.links.Link.{Link}
 use Rattle.xm_rules.specs.Active.{is_active}
 use Rattle.xm_rules.specs.Orders.{same_kind, same_restriction}
 use Rattle.xm_rules.specs.Priority.{is_better}
-use Rattle.xm_rules.specs.Sides.{reaches, same_side}
+use Rattle.xm_rules.specs.Sides.{opposite, reaches, same_side}
 use Rattle.xm_rules.specs.declared.orders.OrderKind.{OrderKind}
 use Rattle.xm_rules.specs.declared.orders.OrderKind.TheVariants.{Market, Limit}
 use Rattle.xm_rules.specs.declared.orders.Restriction.{Restriction}
@@ -66,6 +67,9 @@ none-active phase side r test e x = (λ i. e i && (same_side side x.item.side &&
 -- and where it is, they are those of its level
 pub all-active : (phase : Phase) (side : Side) (r : Restriction) (k : OrderKind) (xs : List (Listed Order)) → is_active phase r ≡ true → filter (is_in phase side r (has_kind k)) xs ≡ orders_of_level side r k xs
 all-active phase side r k xs e = (λ i. filter (λ x. e i && is_of_level side r k x) xs)
+
+pub range-active : (phase : Phase) (side : Side) (r : Restriction) (low n : ℕ) (xs : List (Listed Order)) → is_active phase r ≡ true → filter (is_in phase side r (has_limit_in low n)) xs ≡ filter (is_of_range side r low n) xs
+range-active phase side r low n xs e = (λ i. filter (λ x. e i && is_of_range side r low n x) xs)
 
 -- ---- units
 pub units-inactive : (phase : Phase) (side : Side) (r : Restriction) (test : Listed Order → Bool) (xs : List (Listed Order)) → is_active phase r ≡ false → units_in (filter (is_in phase side r test) xs) ≡ 0
@@ -159,31 +163,27 @@ module _ {A : Type 0} (xs : List (Listed Order)) (entries : SlotsView Order) (li
         let is = level-of links (level_on (side_of side ladders) r k) level (orders_of_level side r k xs) (h.levels side r k) e in
         front-by (orders_of_level side r k xs) refl o key (first links (keys_in (orders_of_level side r k xs)) is.queue) some none
 
-  market-worse : (after : Option ℕ) → is_worse side after Market ≡ false
-  market-worse None = refl
-  market-worse (Some p) = refl
-
-  -- ---- the limits that have a level
-  module _ (after : Option ℕ) where
+  -- ---- the limits that have a level, of which those that pass are looked for
+  module _ (toward : Side) (passes : OrderKind → Bool) (limited : passes Market ≡ false) where
     abbrev stands : Listed Order → Bool
-    stands = is_in phase side r (has_worse side after)
+    stands = is_in phase side r (λ (x : Listed Order). passes x.item.kind)
 
-    at-limit : (y : Listed Order) (k : OrderKind) → y.item.kind ≡ k → stands y ≡ true → (q : ℕ) × (y.item.kind ≡ Limit q) × (is_worse side after (Limit q) ≡ true) × (is_of_level side r (Limit q) y ≡ true)
+    at-limit : (y : Listed Order) (k : OrderKind) → y.item.kind ≡ k → stands y ≡ true → (q : ℕ) × (y.item.kind ≡ Limit q) × (passes (Limit q) ≡ true) × (is_of_level side r (Limit q) y ≡ true)
     at-limit y k e t =
-        let rest = right-true (is_active phase r) (same_side side y.item.side && (same_restriction r y.item.restriction && is_worse side after y.item.kind)) t in
-        let own = left-true (same_side side y.item.side) (same_restriction r y.item.restriction && is_worse side after y.item.kind) rest in
-        let more = right-true (same_side side y.item.side) (same_restriction r y.item.restriction && is_worse side after y.item.kind) rest in
-        let of = left-true (same_restriction r y.item.restriction) (is_worse side after y.item.kind) more in
-        let worse = right-true (same_restriction r y.item.restriction) (is_worse side after y.item.kind) more in
-        limit_by k e own of (sym (ap (is_worse side after) e) ∙ worse)
+        let rest = right-true (is_active phase r) (same_side side y.item.side && (same_restriction r y.item.restriction && passes y.item.kind)) t in
+        let own = left-true (same_side side y.item.side) (same_restriction r y.item.restriction && passes y.item.kind) rest in
+        let more = right-true (same_side side y.item.side) (same_restriction r y.item.restriction && passes y.item.kind) rest in
+        let of = left-true (same_restriction r y.item.restriction) (passes y.item.kind) more in
+        let pass = right-true (same_restriction r y.item.restriction) (passes y.item.kind) more in
+        limit_by k e own of (sym (ap passes e) ∙ pass)
       where
-        limit_by : (k : OrderKind) → y.item.kind ≡ k → same_side side y.item.side ≡ true → same_restriction r y.item.restriction ≡ true → is_worse side after k ≡ true
-            → (q : ℕ) × (y.item.kind ≡ Limit q) × (is_worse side after (Limit q) ≡ true) × (is_of_level side r (Limit q) y ≡ true)
-        limit_by Market e own of worse = absurd (let none = market-worse after in cc)
-        limit_by (Limit q) e own of worse = (
+        limit_by : (k : OrderKind) → y.item.kind ≡ k → same_side side y.item.side ≡ true → same_restriction r y.item.restriction ≡ true → passes k ≡ true
+            → (q : ℕ) × (y.item.kind ≡ Limit q) × (passes (Limit q) ≡ true) × (is_of_level side r (Limit q) y ≡ true)
+        limit_by Market e own of pass = absurd (false≢true (sym limited ∙ pass))
+        limit_by (Limit q) e own of pass = (
           q,
           e,
-          worse,
+          pass,
           and_from (same_side side y.item.side) (same_restriction r y.item.restriction && same_kind (Limit q) y.item.kind) own
               (and_from (same_restriction r y.item.restriction) (same_kind (Limit q) y.item.kind) of (ap (same_kind (Limit q)) e ∙ limit-itself q)),
         )
@@ -194,14 +194,14 @@ module _ {A : Type 0} (xs : List (Listed Order)) (entries : SlotsView Order) (li
         (none-of links (level_on (side_of side ladders) r (Limit q)) (orders_of_level side r (Limit q) xs) (h.levels side r (Limit q)) e)
         (Contains-filter (is_of_level side r (Limit q)) xs y t c))
 
-    pub limit-none : ((q : ℕ) → is_worse side after (Limit q) ≡ true → limit_level (ladder_on r (side_of side ladders)) q ≡ None) → (y : Listed Order) → Contains xs y → stands y ≡ false
+    limit-none : ((q : ℕ) → passes (Limit q) ≡ true → limit_level (ladder_on r (side_of side ladders)) q ≡ None) → (y : Listed Order) → Contains xs y → stands y ≡ false
     limit-none none y c =
         false_from_ne_true (stands y) (λ t. let at = at-limit y y.item.kind refl t in no-level at.0 y c at.3 (none at.0 at.2))
 
-    pub limit-some : is_active phase r ≡ true → (p : ℕ) → HasOrder (limit_level (ladder_on r (side_of side ladders)) p) → is_worse side after (Limit p) ≡ true
-        → ((q : ℕ) → is_worse side after (Limit q) ≡ true → reaches side p q ≡ false → limit_level (ladder_on r (side_of side ladders)) q ≡ None)
-        → IsBestOf side stands xs (Some p)
-    limit-some active p there worse best =
+    limit-some : is_active phase r ≡ true → (p : ℕ) → HasOrder (limit_level (ladder_on r (side_of side ladders)) p) → passes (Limit p) ≡ true
+        → ((q : ℕ) → passes (Limit q) ≡ true → reaches toward p q ≡ false → limit_level (ladder_on r (side_of side ladders)) q ≡ None)
+        → IsBestOf toward stands xs (Some p)
+    limit-some active p there pass best =
         let found = order-of links (level_on (side_of side ladders) r (Limit p)) (orders_of_level side r (Limit p) xs) (h.levels side r (Limit p)) there in
         let x = found.0 in
         let at = in-list (Limit p) x found.1 in
@@ -212,25 +212,32 @@ module _ {A : Type 0} (xs : List (Listed Order)) (entries : SlotsView Order) (li
           kind,
           record {
             contained = at.0;
-            passing = and_from (is_active phase r) (same_side side x.item.side && (same_restriction r x.item.restriction && is_worse side after x.item.kind)) active
-                (and_from (same_side side x.item.side) (same_restriction r x.item.restriction && is_worse side after x.item.kind) parts.0
-                (and_from (same_restriction r x.item.restriction) (is_worse side after x.item.kind) more.0 (ap (is_worse side after) kind ∙ worse)));
+            passing = and_from (is_active phase r) (same_side side x.item.side && (same_restriction r x.item.restriction && passes x.item.kind)) active
+                (and_from (same_side side x.item.side) (same_restriction r x.item.restriction && passes x.item.kind) parts.0
+                (and_from (same_restriction r x.item.restriction) (passes x.item.kind) more.0 (ap passes kind ∙ pass)));
             none = λ y c t. let z = at-limit y y.item.kind refl t in
-                (λ i. is_better side (z.1 i) (kind i))
-                ∙ false_from_ne_true (not (reaches side p z.0)) (λ b. no-level z.0 y c z.3 (best z.0 z.2 (not-true (reaches side p z.0) b)));
+                (λ i. is_better toward (z.1 i) (kind i))
+                ∙ false_from_ne_true (not (reaches toward p z.0)) (λ b. no-level z.0 y c z.3 (best z.0 z.2 (not-true (reaches toward p z.0) b)));
           },
         )
 
   -- the best limit of a ladder, and the best that is worse than another
   pub limit-best : is_active phase r ≡ true → (o : Option ℕ) → IfSome o (IsBestLimit side (ladder_on r (side_of side ladders)))
       → IfNone o ((p : ℕ) → limit_level (ladder_on r (side_of side ladders)) p ≡ None) → IsBestOf side (is_in phase side r (has_worse side None)) xs o
-  limit-best active None some none = limit-none None (λ q w. none q)
-  limit-best active (Some p) some none = limit-some None active p some.there refl (λ q w. some.best q)
+  limit-best active None some none = limit-none side (is_worse side None) refl (λ q w. none q)
+  limit-best active (Some p) some none = limit-some side (is_worse side None) refl active p some.there refl (λ q w. some.best q)
 
   pub limit-next : is_active phase r ≡ true → (a : ℕ) (o : Option ℕ) → IfSome o (IsNextLimit side a (ladder_on r (side_of side ladders)))
       → IfNone o ((p : ℕ) → reaches side p a ≡ false → limit_level (ladder_on r (side_of side ladders)) p ≡ None) → IsBestOf side (is_in phase side r (has_worse side (Some a))) xs o
-  limit-next active a None some none = limit-none (Some a) (λ q w. none q (not-true (reaches side q a) w))
-  limit-next active a (Some p) some none = limit-some (Some a) active p some.there (ap not some.worse) (λ q w. some.best q (not-true (reaches side q a) w))
+  limit-next active a None some none = limit-none side (is_worse side (Some a)) refl (λ q w. none q (not-true (reaches side q a) w))
+  limit-next active a (Some p) some none = limit-some side (is_worse side (Some a)) refl active p some.there (ap not some.worse) (λ q w. some.best q (not-true (reaches side q a) w))
+
+  -- the worst that lies within a bound
+  pub limit-worst : is_active phase r ≡ true → (bound : ℕ) (o : Option ℕ) → IfSome o (IsWorstWithin side bound (ladder_on r (side_of side ladders)))
+      → IfNone o ((p : ℕ) → is_within side bound p ≡ true → limit_level (ladder_on r (side_of side ladders)) p ≡ None)
+      → IsBestOf (opposite side) (is_in phase side r (lies_within side bound)) xs o
+  limit-worst active bound None some none = limit-none (opposite side) (is_kind_within side bound) refl none
+  limit-worst active bound (Some p) some none = limit-some (opposite side) (is_kind_within side bound) refl active p some.there some.within some.worst
 
 -- ---- the order of a key
 module _ {A : Type 0} (xs : List (Listed Order)) (entries : SlotsView Order) (links : List Link) (ladders : Ladders A) (h : AreOrdersQueued xs entries links ladders) (key : ℕ) where

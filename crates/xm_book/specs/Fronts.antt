@@ -1,6 +1,7 @@
 -- What the queues answer of the active orders: which is the first of some in time or in priority, and which limit is the best.
-use Rattle.std.specs.Prelude.{◌≡◌, ℕ, Bool, true, false, ◌&&◌, if◌then◌else◌, nat_lt, List, ◌++◌, Contains, Option, Some, None, option_map}
+use Rattle.std.specs.Prelude.{◌≡◌, ℕ, Bool, true, false, ◌&&◌, if◌then◌else◌, ◌+◌, nat_le, nat_lt, List, ◌++◌, Contains, Option, Some, None, option_map}
 use Rattle.std.specs.Option.{option_to_list}
+use Rattle.xm_ladders.specs.Ladder.{is_within}
 use Rattle.xm_slots.specs.Listing.{listed_entry}
 use Rattle.xm_slots.specs.declared.entry.Entry.{Entry}
 use Rattle.xm_slots.specs.declared.listing.Listed.{Listed}
@@ -39,6 +40,24 @@ is_worse side after kind = is_better side (kind_at after) kind
 -- with a limit that is worse
 abbrev pub has_worse : Side → Option ℕ → Listed Order → Bool
 has_worse side after x = is_worse side after x.item.kind
+
+-- a limit above a price, and not above another that is so much higher
+abbrev pub is_limited_in : ℕ → ℕ → OrderKind → Bool
+is_limited_in low n Market = false
+is_limited_in low n (Limit p) = nat_lt low p && nat_le p (low + n)
+
+-- of an order with such a limit
+abbrev pub has_limit_in : ℕ → ℕ → Listed Order → Bool
+has_limit_in low n x = is_limited_in low n x.item.kind
+
+-- a kind whose limit lies within a bound
+abbrev pub is_kind_within : Side → ℕ → OrderKind → Bool
+is_kind_within side bound Market = false
+is_kind_within side bound (Limit p) = is_within side bound p
+
+-- of an order with such a limit
+abbrev pub lies_within : Side → ℕ → Listed Order → Bool
+lies_within side bound x = is_kind_within side bound x.item.kind
 
 -- an active order of a side that passes a test
 abbrev pub is_on : Phase → Side → (Listed Order → Bool) → Listed Order → Bool

@@ -1,10 +1,13 @@
 //! The book of one security.
-ghost use Rattle.std.specs.Prelude.{◌≡◌, ◌+◌, ◌++◌, ◌∷◌, ◌<◌, ◌≤◌, ◌^◌, [], Contains, IsTrue, filter, length, find, false, option_copied, IfOk, IfSome, OnErr, OnOk};
+ghost use Rattle.std.specs.Prelude.{◌≡◌, ◌+◌, ◌++◌, ◌∷◌, ◌*◌, ◌<◌, ◌≤◌, ◌^◌, [], Contains, IsTrue, filter, length, find, false, option_copied, IfOk, IfSome, OnErr, OnOk};
 ghost use Rattle.std.specs.Option.{option_map};
 ghost use Rattle.xm_book.specs.declared.places.TheConstants.{MAX_PLACES};
+ghost use Rattle.xm_book.specs.Curves.{units_between, worst_within};
 ghost use Rattle.xm_book.specs.Places.{SamePlaces, place_of};
 ghost use Rattle.xm_book.specs.Queues.{best_order, level_after, market_sum, next_order, taken_from};
 ghost use Rattle.xm_book.specs.TimeList.{IsBook, Reserves, is_known, is_reserved, references_of};
+ghost use Rattle.xm_price_maps.specs.Sums.{groups_of, places_of};
+ghost use Rattle.xm_price_maps.specs.declared.marks.TheConstants.{PRICES};
 ghost use Rattle.xm_rules.specs.Active.{active, limits};
 ghost use Rattle.xm_rules.specs.Commands.{is_in_range, outlasts};
 ghost use Rattle.xm_rules.specs.declared.orders.Order.{Order};
@@ -18,6 +21,7 @@ use std::alloc::Allocator;
 use std::marker::Model;
 use xm_memory::OutOfMemory;
 use xm_name_index::{Names, Storage};
+use xm_price_maps::GroupWidth;
 use xm_rules::{Order, OrderKind, Phase, Side};
 use xm_slots::Entry;
 use xm_ticks::Price;
@@ -284,5 +288,23 @@ impl<A: Allocator + Copy> Book<A> {
         let limit = self.queues.limit_after(side, phase, &after)?;
         let units = self.queues.units_at(side, phase, &OrderKind::Limit(limit));
         Some((limit, units))
+    }
+
+    /// The units of a side's active orders with a limit in a group of prices: one of those above `group * places`, as many as a
+    /// group of this width has places.
+    pub fn units_between(&self, side: Side, phase: Phase, width: GroupWidth, group: u32) -> u64
+        requires { group < groups_of width }
+        ensures { result ≡ units_between phase side (group * places_of width) (places_of width) self.now.orders }
+    {
+        self.queues.units_between(side, phase, width, group)
+    }
+
+    /// The worst limit of a side's active orders that lies within a bound: above it on the buy side, not above it on the sell
+    /// side.
+    pub fn worst_within(&self, side: Side, phase: Phase, bound: u32) -> Option<Price>
+        requires { bound + 1 < PRICES }
+        ensures { result ≡ worst_within phase side bound self.now.orders }
+    {
+        self.queues.worst_within(side, phase, bound)
     }
 }

@@ -14,7 +14,7 @@ ghost use Rattle.xm_rules.specs.declared.orders.Side.{Side};
 
 use crate::places::Place;
 use std::alloc::Allocator;
-use xm_ladders::{Ladder, Ladders, Level};
+use xm_ladders::{Ladder, Ladders, Level, MAX_LEVEL_UNITS};
 use xm_memory::OutOfMemory;
 use xm_queues::Queues;
 use xm_rules::{Order, OrderKind};
@@ -73,6 +73,7 @@ fn level_left<A: Allocator>(links: &Queues<A>, level: &Level, order: &Order, key
 pub fn put_level<A: Allocator + Copy>(ladders: &mut Ladders<A>, order: &Order, level: Level)
     requires kind { HasKind (ladder_on order.now.restriction (side_of order.now.side ladders.old)) order.now.kind }
     requires orders { 0 < level.orders }
+    requires units { level.units ≤ MAX_LEVEL_UNITS }
     requires room { level_for order.now ladders.old ≡ None → HasLevels (ladder_on order.now.restriction (side_of order.now.side ladders.old)) order.now.kind 1 }
     ensures levels { (s : Side) (r : Restriction) (k : OrderKind) → level_on (side_of s ladders.new) r k ≡ (if at_level s r k order.now then Some level else level_on (side_of s ladders.old) r k) }
     ensures kinds_kept { (s : Side) (r : Restriction) (k : OrderKind) → HasKind (ladder_on r (side_of s ladders.old)) k → HasKind (ladder_on r (side_of s ladders.new)) k }
@@ -97,7 +98,7 @@ pub fn join_level<A: Allocator + Copy>(
 ) -> Level
     requires key { key < key_limit links.now }
     requires orders { (level : Level) → IsLevelFound (level_for order.now ladders.old) level → level.orders + 1 < 2 ^ 32 }
-    requires units { (level : Level) → IsLevelFound (level_for order.now ladders.old) level → level.units + order.now.rest < 2 ^ 64 }
+    requires units { (level : Level) → IsLevelFound (level_for order.now ladders.old) level → level.units + order.now.rest ≤ MAX_LEVEL_UNITS }
     requires kind { HasKind (ladder_on order.now.restriction (side_of order.now.side ladders.old)) order.now.kind }
     requires room { level_for order.now ladders.old ≡ None → HasLevels (ladder_on order.now.restriction (side_of order.now.side ladders.old)) order.now.kind 1 }
     ensures found { IsLevelFound (level_for order.now ladders.old) result }
@@ -134,6 +135,7 @@ pub fn leave_level<A: Allocator + Copy>(
     requires key { (level : Level) → IsLevelFound (level_for order.now ladders.old) level → HasKey links.now level.ends key }
     requires orders { (level : Level) → IsLevelFound (level_for order.now ladders.old) level → 1 ≤ level.orders }
     requires units { (level : Level) → IsLevelFound (level_for order.now ladders.old) level → order.now.rest ≤ level.units }
+    requires few { (level : Level) → IsLevelFound (level_for order.now ladders.old) level → level.units ≤ MAX_LEVEL_UNITS }
     requires kind { HasKind (ladder_on order.now.restriction (side_of order.now.side ladders.old)) order.now.kind }
     requires there { IsSome (level_for order.now ladders.old) }
     ensures found { IsLevelFound (level_for order.now ladders.old) result }

@@ -5,16 +5,21 @@ ghost use Rattle.std.specs.Option.{option_map};
 ghost use Rattle.xm_slots.specs.Listing.{is_below, listed_item, is_other_key, keys_in, listed_entry, rises};
 ghost use Rattle.xm_book.specs.declared.places.TheConstants.{MAX_PLACES};
 ghost use Rattle.xm_ticks.specs.declared.numbers.TheConstants.{MAX_QUANTITY};
-ghost use Rattle.xm_book.specs.Fronts.{IsBestOf, IsFirstOf, IsKindOfFirst, better_of_two, earlier_of_two, goes_ahead, has_kind, has_kind_later, has_worse, is_any, is_earlier, is_in, is_on};
+ghost use Rattle.xm_book.specs.Fronts.{IsBestOf, IsFirstOf, IsKindOfFirst, better_of_two, earlier_of_two, goes_ahead, has_kind, has_kind_later, has_limit_in, has_worse, is_any, is_earlier, is_in, is_on, lies_within};
 ghost use Rattle.xm_book.specs.Listing.{order_owner, reduced_at};
 ghost use Rattle.xm_book.specs.Places.{place_of, same_place};
+ghost use Rattle.xm_book.specs.Curves.{units_between};
+ghost use Rattle.xm_book.specs.Queued.{units_in};
 ghost use Rattle.xm_book.specs.Queues.{units_at};
 ghost use Rattle.xm_book.specs.Reserved.{Gains};
 ghost use Rattle.xm_slots.specs.Slots.{is_of};
 ghost use Rattle.xm_slots.specs.declared.listing.Listed.{Listed};
+ghost use Rattle.xm_price_maps.specs.Sums.{groups_of, places_of};
+ghost use Rattle.xm_price_maps.specs.declared.marks.TheConstants.{PRICES};
 ghost use Rattle.xm_queues.specs.Keys.{AreDistinct};
 ghost use Rattle.xm_rules.specs.Active.{active, is_active};
 ghost use Rattle.xm_rules.specs.Commands.{is_in_range};
+ghost use Rattle.xm_rules.specs.Sides.{opposite};
 ghost use Rattle.xm_rules.specs.declared.orders.OrderKind.TheVariants.{Limit};
 
 use crate::items::OrderItems;
@@ -24,6 +29,7 @@ use std::alloc::Allocator;
 use std::marker::Model;
 use xm_ladders::Ladders;
 use xm_memory::OutOfMemory;
+use xm_price_maps::GroupWidth;
 use xm_queues::Queues;
 use xm_rules::{Order, OrderKind, Phase, Restriction, Side};
 use xm_slots::{Entry, Listed, Listing, Slots, hold};
@@ -275,6 +281,32 @@ impl<A: Allocator + Copy> OrderQueues<A> {
         better_of_two(side, early, late)
     }
 
+    /// The units of the active orders of a side with a limit in a group.
+    pub fn units_between(&self, side: Side, phase: Phase, width: GroupWidth, group: u32) -> u64
+        requires { group < groups_of width }
+        ensures { result ≡ units_between phase side (group * places_of width) (places_of width) (map listed_item self.now.orders) }
+    {
+        let free = self.units_between_in(side, phase, Restriction::Free, width, group);
+        let opening = self.units_between_in(side, phase, Restriction::OpeningOnly, width, group);
+        let auctions = self.units_between_in(side, phase, Restriction::AuctionsOnly, width, group);
+        let closing = self.units_between_in(side, phase, Restriction::ClosingOnly, width, group);
+        free + opening + auctions + closing
+    }
+
+    /// The worst limit of the active orders of a side that lies within a bound.
+    pub fn worst_within(&self, side: Side, phase: Phase, bound: u32) -> Option<Price>
+        requires { bound + 1 < PRICES }
+        ensures { IsBestOf (opposite side) (is_on phase side (lies_within side bound)) self.now.orders result }
+    {
+        let free = self.worst_in(side, phase, Restriction::Free, bound);
+        let opening = self.worst_in(side, phase, Restriction::OpeningOnly, bound);
+        let auctions = self.worst_in(side, phase, Restriction::AuctionsOnly, bound);
+        let closing = self.worst_in(side, phase, Restriction::ClosingOnly, bound);
+        let early = better_of_two(side.opposite(), free, opening);
+        let late = better_of_two(side.opposite(), auctions, closing);
+        better_of_two(side.opposite(), early, late)
+    }
+
     /// The best active order of a side in priority.
     #[inline(always)]
     pub fn first(&self, side: Side, phase: Phase) -> Option<&Entry<Order>>
@@ -331,6 +363,51 @@ impl<A: Allocator + Copy> OrderQueues<A> {
             None => 0,
             Some(level) => level.units,
         }
+    }
+
+    /// The units of the orders of one restriction with a limit in a group, where it is active.
+    fn units_between_in(
+        &self,
+        side: Side,
+        phase: Phase,
+        restriction: Restriction,
+        width: GroupWidth,
+        group: u32,
+    ) -> u64
+        requires { group < groups_of width }
+        ensures units { result ≡ units_in (filter (is_in phase side restriction (has_limit_in (group * places_of width) (places_of width))) self.now.orders) }
+        ensures few { result ≤ MAX_QUANTITY * MAX_PLACES }
+    {
+        let _ = &self.listing;
+        if restriction.is_active(phase) {
+            self.ladders
+                .of(side)
+                .of(restriction)
+                .units_between(width, group)
+        } else {
+            0
+        }
+    }
+
+    /// The worst limit of the orders of one restriction that lies within a bound, where it is active.
+    fn worst_in(
+        &self,
+        side: Side,
+        phase: Phase,
+        restriction: Restriction,
+        bound: u32,
+    ) -> Option<Price>
+        requires { bound + 1 < PRICES }
+        ensures { IsBestOf (opposite side) (is_in phase side restriction (lies_within side bound)) self.now.orders result }
+    {
+        let _ = &self.listing;
+        if !restriction.is_active(phase) {
+            return None;
+        }
+        self.ladders
+            .of(side)
+            .of(restriction)
+            .worst_within(side, bound)
     }
 
     /// The best limit of the orders of one restriction, where it is active, that is worse than this one.

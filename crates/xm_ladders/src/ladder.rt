@@ -1,23 +1,26 @@
 //! The levels of one side and restriction.
-ghost use Rattle.std.specs.Prelude.{◌≡◌, if◌then◌else◌, ℕ, ◌+◌, ◌<◌, IfNone, IfSome, IsSome, None, Some, OnOk, false};
-ghost use Rattle.xm_ladders.specs.Ladder.{HasKind, HasLevels, IsBestLimit, IsCleared, IsNextLimit, level_of, limit_level};
+ghost use Rattle.std.specs.Prelude.{◌≡◌, if◌then◌else◌, ℕ, ◌+◌, ◌*◌, ◌<◌, ◌≤◌, IfNone, IfSome, IsSome, None, Some, OnOk, true, false};
+ghost use Rattle.xm_ladders.specs.Ladder.{HasKind, HasLevels, IsBestLimit, IsCleared, IsNextLimit, IsWorstWithin, is_within, level_of, limit_level, units_above, units_of};
+ghost use Rattle.xm_price_maps.specs.Sums.{groups_of, places_of};
+ghost use Rattle.xm_price_maps.specs.declared.marks.TheConstants.{PRICES};
 ghost use Rattle.xm_rules.specs.Orders.{same_kind};
 ghost use Rattle.xm_rules.specs.Sides.{reaches};
 ghost use Rattle.xm_rules.specs.declared.orders.OrderKind.{OrderKind};
 
-use crate::level::Level;
+use crate::level::{Level, MAX_LEVEL_UNITS};
 use std::alloc::Allocator;
 use std::marker::Model;
 use xm_memory::OutOfMemory;
-use xm_price_maps::Levels;
+use xm_price_maps::{GroupWidth, Levels, PriceSums};
 use xm_rules::{OrderKind, Side};
 use xm_ticks::Price;
 
-/// The market orders of one side and restriction, and a level for each limit that has an order. `reserve` makes room,
-/// and nothing else takes memory.
+/// The market orders of one side and restriction, a level for each limit that has an order, and the units of the levels
+/// in each group of limits. `reserve` makes room, and nothing else takes memory.
 pub struct Ladder<A: Allocator + Copy> {
     market: Level,
     limits: Levels<Level, A>,
+    sums: PriceSums<A>,
 }
 
 // In a function of its own, so that whoever drops a ladder proves one call.
@@ -26,18 +29,22 @@ impl<A: Allocator + Copy> Drop for Ladder<A> {
         let Ladder {
             market: _,
             limits: _limits,
+            sums: _sums,
         } = self;
     }
 }
 
 impl<A: Allocator + Copy> Model for Ladder<A> {
-    ghost use Rattle.xm_ladders.specs.Ladder.{HasOrders, LadderView};
+    ghost use Rattle.xm_ladders.specs.Ladder.{HasOrders, IsSummed, LadderView};
 
     ghost Value = { LadderView };
 
-    ghost view = { λ l. record { market = l.market; limits = l.limits } };
+    ghost view = { λ l. record { market = l.market; limits = l.limits; sums = l.sums } };
 
-    ghost invariant = { λ l. HasOrders l.limits };
+    ghost invariant = { λ l. record {
+      orders : HasOrders l.limits;
+      summed : IsSummed l.limits l.sums;
+    } };
 }
 
 impl<A: Allocator + Copy> Ladder<A> {
@@ -48,6 +55,7 @@ impl<A: Allocator + Copy> Ladder<A> {
         Ladder {
             market: Level::empty(),
             limits: Levels::new(alloc),
+            sums: PriceSums::new(alloc),
         }
     }
 
@@ -61,7 +69,10 @@ impl<A: Allocator + Copy> Ladder<A> {
     {
         match kind {
             OrderKind::Market => Ok(()),
-            OrderKind::Limit(limit) => self.limits.reserve(limit.get(), levels),
+            OrderKind::Limit(limit) => {
+                self.sums.reserve(place_of(limit))?;
+                self.limits.reserve(limit.get(), levels)
+            }
         }
     }
 
@@ -81,6 +92,7 @@ impl<A: Allocator + Copy> Ladder<A> {
     pub fn put(&mut self, kind: OrderKind, level: Level)
         requires kind { HasKind self.old kind }
         requires orders { 0 < level.orders }
+        requires units { level.units ≤ MAX_LEVEL_UNITS }
         requires room { level_of self.old kind ≡ None → HasLevels self.old kind 1 }
         ensures levels { (k : OrderKind) → level_of self.new k ≡ (if same_kind k kind then Some level else level_of self.old k) }
         ensures kinds_kept { (k : OrderKind) → HasKind self.old k → HasKind self.new k }
@@ -89,7 +101,12 @@ impl<A: Allocator + Copy> Ladder<A> {
     {
         match kind {
             OrderKind::Market => self.market = level,
-            OrderKind::Limit(limit) => self.limits.put(limit.get(), level),
+            OrderKind::Limit(limit) => {
+                let before = units_of(self.limits.get(limit.get()));
+                let units = level.units;
+                self.limits.put(limit.get(), level);
+                self.sums.replace(place_of(limit), before, units);
+            }
         }
     }
 
@@ -104,7 +121,11 @@ impl<A: Allocator + Copy> Ladder<A> {
     {
         match kind {
             OrderKind::Market => self.market = Level::empty(),
-            OrderKind::Limit(limit) => self.limits.remove(limit.get()),
+            OrderKind::Limit(limit) => {
+                let before = units_of(self.limits.get(limit.get()));
+                self.limits.remove(limit.get());
+                self.sums.replace(place_of(limit), before, 0);
+            }
         }
     }
 
@@ -132,4 +153,45 @@ impl<A: Allocator + Copy> Ladder<A> {
         };
         Price::new(price?)
     }
+
+    /// The worst limit that has an order and lies within a bound: above it on the buy side, not above it on the sell side.
+    pub fn worst_within(&self, side: Side, bound: u32) -> Option<Price>
+        requires { bound + 1 < PRICES }
+        ensures some { IfSome result (IsWorstWithin side bound self.now) }
+        ensures none { IfNone result ((p : ℕ) → is_within side bound p ≡ true → limit_level self.now p ≡ None) }
+    {
+        let price = match side {
+            Side::Buy => self.limits.next_above(bound),
+            Side::Sell => self.limits.next_below(bound + 1),
+        };
+        Price::new(price?)
+    }
+
+    /// The units of the levels of a group of limits.
+    pub fn units_between(&self, width: GroupWidth, group: u32) -> u64
+        requires { group < groups_of width }
+        ensures { result ≡ units_above self.now.limits (group * places_of width) (places_of width) }
+    {
+        let _ = &self.market;
+        self.sums.get(width, group)
+    }
+}
+
+/// The units of a level, where there is one.
+#[inline(always)]
+fn units_of(level: Option<Level>) -> u64
+    ensures { result ≡ units_of level }
+{
+    match level {
+        None => 0,
+        Some(level) => level.units,
+    }
+}
+
+/// The place under which the units of a limit are summed.
+#[inline(always)]
+fn place_of(limit: Price) -> u32
+    ensures { result + 1 ≡ limit }
+{
+    limit.get() - 1
 }

@@ -5,6 +5,9 @@ ghost use Rattle.xm_queues.specs.declared.links.Link.{Link};
 
 use xm_queues::Ends;
 
+/// The most units of a level: more than those of all orders that a book can have.
+pub const MAX_LEVEL_UNITS: u64 = 1 << 41;
+
 /// The orders of one limit, or market orders.
 #[derive(Clone, Copy)]
 pub struct Level {

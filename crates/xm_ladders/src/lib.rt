@@ -1,5 +1,5 @@
 //! The levels of a book: for each side, restriction and limit the queue of its orders, with their number and the sum of
-//! their rests.
+//! their rests, and for each group of limits the sum of their units.
 #![tactic(auto)]
 
 mod ladder;
@@ -8,4 +8,4 @@ mod level;
 
 pub use crate::ladder::Ladder;
 pub use crate::ladders::{Ladders, SideLadders};
-pub use crate::level::Level;
+pub use crate::level::{Level, MAX_LEVEL_UNITS};

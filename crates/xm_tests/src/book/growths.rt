@@ -26,8 +26,8 @@ enum Call {
 /// Calls, each after so many orders. The first order lets each of the five parts of a book grow. A list first asks for room for
 /// its whole answer, and grows as it goes where it can't have that.
 const CALLS: [Counted<(u32, Call)>; 12] = [
-    ((0, Call::Enter), 21, 0),
-    ((1, Call::Enter), 12, 0),
+    ((0, Call::Enter), 24, 0),
+    ((1, Call::Enter), 15, 0),
     ((2, Call::Enter), 5, 0),
     ((4, Call::Enter), 3, 0),
     ((7, Call::Enter), 0, 0),

@@ -3,6 +3,7 @@ use Rattle.std.proofs.lemmas.List.{length-map}
 use Rattle.std.proofs.lemmas.List.Elements.{All-contains}
 use Rattle.xm_slots.specs.declared.listing.Listed.{Listed}
 use Rattle.xm_book.specs.Listing.{reduced_at}
+use Rattle.xm_book.proofs.Joining.{units-fit}
 use Rattle.xm_book.proofs.Keeping.{places-kept, rises-reduced}
 use Rattle.xm_book.proofs.Leaving.{kind-there, level-there, orders-there, taken-rest, units-there}
 use Rattle.xm_slots.proofs.Leaving.{there-at}
@@ -74,3 +75,8 @@ pub returns-clause-reduced : goal.returns-clause-reduced
 returns-clause-reduced g c =
     let q = c.self.inside in
     rw (← c.self.view_is, c.replace.ensures, replaced-reduced q.entries c.args.key c.args.rest c.entry-entry.result.now c.entry-entry.ensures q.listing c.self.invariant.queued.lie) refl
+
+pub put_level-requires-clause-units : goal.put_level-requires-clause-units
+put_level-requires-clause-units g c =
+    let q = c.self.inside in
+    omega (arith, units-fit q.listing q.entries q.links q.ladders c.self.invariant.queued c.entry-entry.result.now.item c.level_for-level.result c.level_for-level.ensures)

@@ -3,6 +3,7 @@ use Rattle.xm_slots.specs.Listing.{is_other_key}
 use Rattle.xm_slots.proofs.Tests.{length-kept}
 use Rattle.xm_slots.proofs.Keeping.{rises-kept}
 use Rattle.xm_slots.proofs.Leaving.{there-at}
+use Rattle.xm_book.proofs.Joining.{units-fit}
 use Rattle.xm_book.proofs.Keeping.{places-kept}
 use Rattle.xm_book.proofs.Leaving.{key-there, kind-there, left-queued, level-there, orders-there, some-found, units-there}
 use Rattle.xm_book.specs.Levels.{level_for}
@@ -58,3 +59,8 @@ invariant_of-self g c =
           slots.new.self (omega (arith, slots.ensures.capacity)) c.leave_level-ends.new.ladders c.leave_level-ends.ensures.kinds_kept c.leave_level-ends.ensures.room_kept;
       rise = rises-kept (is_other_key c.args.key) 0 q.listing q.adds c.self.invariant.rise;
     })
+
+pub leave_level-ends-requires-clause-few : goal.leave_level-ends-requires-clause-few
+leave_level-ends-requires-clause-few g c level found =
+    let q = c.self.inside in
+    omega (arith, units-fit q.listing q.entries q.links q.ladders c.self.invariant.queued c.entry-entry.result.now.item level found)
