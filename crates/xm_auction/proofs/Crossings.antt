@@ -3,14 +3,14 @@ use Rattle.std.proofs.Common.{◌≡◌, ℕ, ◌+◌, ◌-◌, ◌<◌, ◌≤�
 use Rattle.std.specs.Prelude.{IfSome, option_map}
 use Rattle.std.proofs.lemmas.Bool.{both_ways, not-true, not-false, not_from_false, false_from_ne_true, leb-true, le-leb}
 use Rattle.xm_auction.specs.Covered.{best_covered, covered_at, covers}
-use Rattle.xm_auction.specs.Crossings.{IsCrossing, IsAtEnd, IsPassed}
+use Rattle.xm_auction.specs.Crossings.{IsCrossing, IsAtEnd, IsPassed, IsStart}
 use Rattle.xm_auction.specs.Depths.{depth_at, level_reached, reaches_price}
 use Rattle.xm_book.specs.Curves.{later, units_to}
 use Rattle.xm_auction.specs.declared.covered.Covered.{Covered}
 use Rattle.xm_auction.specs.declared.depth.Depth.{Depth}
 use Rattle.xm_book.proofs.Bests.{best-is, best-none, reaches-on, reaches-other}
 use Rattle.xm_book.proofs.Curves.{Nexts, nexts}
-use Rattle.xm_auction.proofs.Curves.{depth-made, limit-made, next-candidate, next-units, next_reaches, of-candidate, reached-above, reached-more, unreached-below}
+use Rattle.xm_auction.proofs.Curves.{depth-made, limit-made, next-candidate, next-units, next_reaches, of-candidate, opposite-reaches, reached-above, reached-more, unreached-below}
 use Rattle.xm_slots.proofs.Members.{Contains-filter, Passes-filter}
 use Rattle.xm_rules.specs.Active.{active, limits}
 use Rattle.xm_rules.specs.Auction.{accepting, candidates, surplus, volume}
@@ -19,10 +19,6 @@ use Rattle.xm_rules.specs.declared.orders.Order.{Order}
 use Rattle.xm_rules.specs.declared.orders.Side.{Side}
 use Rattle.xm_rules.specs.declared.orders.Side.TheVariants.{Buy, Sell}
 use Rattle.xm_rules.specs.declared.phases.Phase.{Phase}
-
-pub opposite-reaches : (side : Side) (p q : ℕ) → reaches (opposite side) p q ≡ reaches side q p
-opposite-reaches Buy p q = refl
-opposite-reaches Sell p q = refl
 
 level_if : (level : ℕ × ℕ) (found : ℕ × ℕ) (b : Bool) → (if b then Some level else None) ≡ Some found → (Some level ≡ Some found) × (b ≡ true)
 level_if level found true e = (e, refl)
@@ -56,32 +52,68 @@ none-covered phase orders side none =
     let best = best-none side ps (λ y in_y. let p = Passes-filter (covers phase orders side) (candidates phase orders) y in_y in none y p.contains p.passes) in
     sym (ap (option_map (covered_at phase orders side)) best)
 
-market_below : (phase : Phase) (orders : List Order) (side : Side) (other : Depth) → other ≡ depth_at phase side None orders → (x : ℕ) → other.units ≤ accepting phase orders side x
-market_below phase orders side other made x = let units = ap (λ (d : Depth). d.units) made in omega (arith, units, reached-more phase side None orders x refl)
-
 -- ---- the start of the walk
-pub never-covered : (phase : Phase) (orders : List Order) (side : Side) (other : Depth) → other ≡ depth_at phase (opposite side) None orders
-    → ((x : ℕ) → accepting phase orders side x < other.units) → None ≡ best_covered phase orders side
-never-covered phase orders side other made short =
-    none-covered phase orders side (λ y at c. covered_not phase orders side y c (omega (arith, short y, market_below phase orders (opposite side) other made y)))
+module _ (phase : Phase) (orders : List Order) (first other : Depth) (s : IsStart phase orders first other) where
+  start_units : (q : ℕ) → other.limit ≡ Some q → other.units ≡ accepting phase orders (opposite first.side) q
+  start_units q e = subst (λ (l : Option ℕ). other.units ≡ units_to phase (opposite first.side) l orders) e (ap (λ (d : Depth). d.units) s.other_depth)
 
-pub starts : (phase : Phase) (orders : List Order) (side : Side) (own other : Depth) → own ≡ depth_at phase side own.limit orders → other ≡ depth_at phase (opposite side) None orders
-    → IfSome own.limit (Contains (candidates phase orders)) → other.units ≤ own.units → ((x : ℕ) → reaches_price side own.limit x ≡ false → accepting phase orders side x < other.units)
-    → IsCrossing phase orders own other
-starts phase orders side own other own_made other_made own_at enough before =
-    let same : own.side ≡ side = ap (λ (d : Depth). d.side) own_made in
-    let none : other.limit ≡ None = ap (λ (d : Depth). d.limit) other_made in
-    let here : other ≡ depth_at phase (opposite own.side) None orders = subst (λ (s : Side). other ≡ depth_at phase (opposite s) None orders) (sym same) other_made in
-    record {
-      own_depth = depth-made phase side own.limit own orders own_made;
-      other_depth = subst (λ (l : Option ℕ). other ≡ depth_at phase (opposite own.side) l orders) (sym none) here;
-      own_limit = own_at;
-      other_limit = subst (λ (l : Option ℕ). IfSome l (Contains (candidates phase orders))) (sym none) tt;
-      covered = enough;
-      inside = subst (λ (l : Option ℕ). IfSome l (λ p. reaches_price own.side own.limit p ≡ true)) (sym none) tt;
-      beyond = subst (λ (s : Side). (x : ℕ) → reaches_price s own.limit x ≡ false → accepting phase orders s x < accepting phase orders (opposite s) x) (sym same)
-          (λ x r. omega (arith, before x r, market_below phase orders (opposite side) other other_made x));
-    }
+  start_reached : (x : ℕ) → reaches_price (opposite first.side) other.limit x ≡ true → other.units ≤ accepting phase orders (opposite first.side) x
+  start_reached x r = let units = ap (λ (d : Depth). d.units) s.other_depth in omega (arith, units, reached-more phase (opposite first.side) other.limit orders x r)
+
+  met_at : (q : ℕ) → other.limit ≡ Some q → other.units ≤ accepting phase orders first.side q
+  met_at q e = subst (λ (l : Option ℕ). IfSome l (λ p. other.units ≤ accepting phase orders first.side p)) e s.met
+
+  never_met : (limit : Option ℕ) → other.limit ≡ limit → ((x : ℕ) → accepting phase orders first.side x < other.units) → limit ≡ None
+  never_met None e short = refl
+  never_met (Some q) e short = absurd (omega (arith, met_at q e, short q))
+
+  pub never-covered : ((x : ℕ) → accepting phase orders first.side x < other.units) → None ≡ best_covered phase orders first.side
+  never-covered short =
+      let none = never_met other.limit refl short in
+      none-covered phase orders first.side
+      (λ y at c. covered_not phase orders first.side y c (omega (arith, short y, start_reached y (ap (λ (l : Option ℕ). reaches_price (opposite first.side) l y) none))))
+
+  module _ (own : Depth) (made : own ≡ depth_at phase first.side own.limit orders) (at : IfSome own.limit (Contains (candidates phase orders))) (enough : other.units ≤ own.units)
+      (before : (x : ℕ) → reaches_price first.side own.limit x ≡ false → reaches_price first.side first.limit x ≡ true → accepting phase orders first.side x < other.units) where
+    inside_not : (q : ℕ) → other.limit ≡ Some q → reaches_price first.side own.limit q ≡ false → (b : Bool) → reaches_price first.side first.limit q ≡ b → ⊥
+    inside_not q e r true f = omega (arith, met_at q e, before q r f)
+    inside_not q e r false f = omega (arith, met_at q e, start_units q e, s.beyond q f)
+
+    inside_unless : (q : ℕ) → other.limit ≡ Some q → (b : Bool) → reaches_price first.side own.limit q ≡ b → b ≡ true
+    inside_unless q e true r = refl
+    inside_unless q e false r = absurd (inside_not q e r (reaches_price first.side first.limit q) refl)
+
+    inside_of : (limit : Option ℕ) → other.limit ≡ limit → IfSome limit (λ q. reaches_price first.side own.limit q ≡ true)
+    inside_of None e = tt
+    inside_of (Some q) e = inside_unless q e (reaches_price first.side own.limit q) refl
+
+    beyond_limit : (limit : Option ℕ) (q x : ℕ) → reaches_price first.side limit q ≡ true → reaches_price first.side limit x ≡ false → reaches first.side x q ≡ true
+    beyond_limit None q x i r = absurd (cc)
+    beyond_limit (Some p) q x i r = reaches-on first.side x p q (reaches-other first.side p x r) i
+
+    other_reaches : (limit : Option ℕ) (x : ℕ) → IfSome limit (λ q. reaches_price first.side own.limit q ≡ true) → reaches_price first.side own.limit x ≡ false
+        → reaches_price (opposite first.side) limit x ≡ true
+    other_reaches None x i r = refl
+    other_reaches (Some q) x i r = opposite-reaches first.side q x ∙ beyond_limit own.limit q x i r
+
+    beyond_of : (x : ℕ) → reaches_price first.side own.limit x ≡ false → (b : Bool) → reaches_price first.side first.limit x ≡ b
+        → accepting phase orders first.side x < accepting phase orders (opposite first.side) x
+    beyond_of x r true f = omega (arith, before x r f, start_reached x (other_reaches other.limit x (inside_of other.limit refl) r))
+    beyond_of x r false f = s.beyond x f
+
+    pub starts : IsCrossing phase orders own other
+    starts =
+        let same : own.side ≡ first.side = ap (λ (d : Depth). d.side) made in
+        record {
+          own_depth = depth-made phase first.side own.limit own orders made;
+          other_depth = subst (λ (side : Side). other ≡ depth_at phase (opposite side) other.limit orders) (sym same) s.other_depth;
+          own_limit = at;
+          other_limit = s.other_limit;
+          covered = enough;
+          inside = subst (λ (side : Side). IfSome other.limit (λ p. reaches_price side own.limit p ≡ true)) (sym same) (inside_of other.limit refl);
+          beyond = subst (λ (side : Side). (x : ℕ) → reaches_price side own.limit x ≡ false → accepting phase orders side x < accepting phase orders (opposite side) x) (sym same)
+              (λ x r. beyond_of x r (reaches_price first.side first.limit x) refl);
+        }
 
 module _ (phase : Phase) (orders : List Order) (own other : Depth) (k : IsCrossing phase orders own other) where
   other_side : other.side ≡ opposite own.side

@@ -29,6 +29,10 @@ use Rattle.xm_rules.proofs.Ranges.{range_high}
 use Rattle.xm_rules.proofs.Sums.{sum-le}
 use Rattle.xm_ticks.specs.declared.numbers.TheConstants.{MAX_QUANTITY}
 
+pub opposite-reaches : (side : Side) (p q : ℕ) → reaches (opposite side) p q ≡ reaches side q p
+opposite-reaches Buy p q = refl
+opposite-reaches Sell p q = refl
+
 -- ---- the units at other prices
 counted_on : (side : Side) (after : Option ℕ) (k : OrderKind) (x : ℕ) → reaches_price side after x ≡ true → counted side after k ≡ true → accepts side k x ≡ true
 counted_on side None Market x r c = refl
@@ -49,7 +53,7 @@ abbrev pub next_reaches : Side → Option (ℕ × ℕ) → ℕ → Bool
 next_reaches side None x = false
 next_reaches side (Some level) x = reaches side level.0 x
 
-abbrev Counts : Side → Option ℕ → ℕ → OrderKind → Type 0
+abbrev pub Counts : Side → Option ℕ → ℕ → OrderKind → Type 0
 Counts side after x k = accepts side k x ≡ true → counted side after k ≡ true
 
 counted_unless : (side : Side) (after : Option ℕ) (q x : ℕ) → (later side after q ≡ true → reaches side q x ≡ false) → Counts side after x (Limit q)
@@ -69,19 +73,24 @@ beyond_first side after queue None none x r q at l = absurd (none q at l)
 beyond_first side after queue (Some level) next x r q at l =
     false_from_ne_true (reaches side q x) (λ e. both_ways (reaches side level.0 x) r (reaches-on side level.0 q x (next.first q at l) e))
 
--- no more accept a price that the next level doesn't reach
-pub unreached-no_more : (phase : Phase) (side : Side) (after : Option ℕ) (orders : List Order) (x : ℕ) → next_reaches side (level_after phase side after orders) x ≡ false
-    → accepting phase orders side x ≤ units_to phase side after orders
-unreached-no_more phase side after orders x r =
+-- no more accept a price than are counted, where each limit that does is counted
+pub counted-no_more : (phase : Phase) (side : Side) (after : Option ℕ) (orders : List Order) (x : ℕ)
+    → ((q : ℕ) → Contains (limits (active phase side orders)) q → Counts side after x (Limit q)) → accepting phase orders side x ≤ units_to phase side after orders
+counted-no_more phase side after orders x limits_are =
     let queue = active phase side orders in
-    let each : All (λ (i : Positioned). Counts side after x i.order.kind) queue =
-    kinds_have (Counts side after x) queue (counted_market side after x)
-    (λ q at. counted_unless side after q x (beyond_first side after queue (level_after phase side after orders) (nexts phase side after orders) x r q at)) in
+    let each : All (λ (i : Positioned). Counts side after x i.order.kind) queue = kinds_have (Counts side after x) queue (counted_market side after x) limits_are in
     let no_more = sum-le (λ (i : Positioned). if accepts side i.order.kind x then units i else 0) (λ (i : Positioned). if counted side after i.order.kind then units i else 0) queue
     (All-weaker (λ (i : Positioned). Counts side after x i.order.kind)
     (λ (i : Positioned). (if accepts side i.order.kind x then units i else 0) ≤ (if counted side after i.order.kind then units i else 0))
     (λ i h. if_le (accepts side i.order.kind x) (counted side after i.order.kind) (units i) h) queue each) in
     omega (arith, units_to-is phase side after orders, no_more)
+
+-- no more accept a price that the next level doesn't reach
+pub unreached-no_more : (phase : Phase) (side : Side) (after : Option ℕ) (orders : List Order) (x : ℕ) → next_reaches side (level_after phase side after orders) x ≡ false
+    → accepting phase orders side x ≤ units_to phase side after orders
+unreached-no_more phase side after orders x r =
+    counted-no_more phase side after orders x
+    (λ q at. counted_unless side after q x (beyond_first side after (active phase side orders) (level_after phase side after orders) (nexts phase side after orders) x r q at))
 
 -- ---- the units of a book
 abbrev IsRest : Order → Bool

@@ -2,4 +2,5 @@ pub mod Allotment
 pub mod Covered
 pub mod Crossings
 pub mod Depths
+pub mod Narrowing
 pub mod Prices

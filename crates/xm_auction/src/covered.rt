@@ -1,13 +1,14 @@
 //! The best price at which the units of a side cover those of the other.
 ghost use Rattle.std.specs.Prelude.{◌≡◌, ◌-◌, ◌+◌, ◌≤◌, ◌<◌, IsTrue, None, false};
 ghost use Rattle.xm_auction.specs.Covered.{best_covered};
-ghost use Rattle.xm_auction.specs.Crossings.{IsCrossing, IsAtEnd, IsPassed};
+ghost use Rattle.xm_auction.specs.Crossings.{IsCrossing, IsAtEnd, IsPassed, IsStart};
 ghost use Rattle.xm_auction.specs.Depths.{depth_at};
 ghost use Rattle.xm_book.specs.Curves.{orders_left};
 ghost use Rattle.xm_rules.specs.Sides.{opposite};
 ghost use Rattle.xm_auction.specs.Prices.{is_preferred};
 
 use crate::depth::Depth;
+use crate::narrowing::near_crossing;
 use std::alloc::Allocator;
 use xm_book::Book;
 use xm_rules::Phase;
@@ -52,6 +53,20 @@ impl Covered {
     ) -> Option<Covered>
         requires own { own.now ≡ depth_at phase own.now.side None book.now.orders }
         requires other { other.now ≡ depth_at phase (opposite own.now.side) None book.now.orders }
+        ensures { result ≡ best_covered phase book.now.orders own.now.side }
+    {
+        let start = near_crossing(book, phase, own, other);
+        Covered::best_from(book, phase, &start.0, &start.1)
+    }
+
+    /// The same by a walk that begins here.
+    fn best_from<A: Allocator + Copy>(
+        book: &Book<A>,
+        phase: Phase,
+        own: &Depth,
+        other: &Depth,
+    ) -> Option<Covered>
+        requires { IsStart phase book.now.orders own.now other.now }
         ensures { result ≡ best_covered phase book.now.orders own.now.side }
     {
         let own = own.to_units(book, phase, other.units)?;

@@ -1,6 +1,8 @@
 //! The curve of a side, from its best limit on.
-ghost use Rattle.std.specs.Prelude.{◌≡◌, ◌≤◌, ◌<◌, ℕ, Some, None, Contains, false, IfSome, IfNone};
+ghost use Rattle.std.specs.Prelude.{◌≡◌, ◌+◌, ◌≤◌, ◌<◌, ℕ, Some, None, Contains, true, false, IfSome, IfNone};
 ghost use Rattle.xm_auction.specs.Depths.{depth_at, level_reached, reaches_price};
+ghost use Rattle.xm_auction.specs.Narrowing.{IsDepthWithin, units_within};
+ghost use Rattle.xm_price_maps.specs.declared.marks.TheConstants.{PRICES};
 ghost use Rattle.xm_rules.specs.Auction.{accepting, candidates};
 
 use std::alloc::Allocator;
@@ -28,6 +30,29 @@ impl Depth {
             limit: None,
             units: book.market_sum(side, phase),
             next: book.level_after(side, phase, None),
+        }
+    }
+
+    /// The market orders and those with a limit within a bound, whose units are known.
+    pub fn within<A: Allocator + Copy>(
+        book: &Book<A>,
+        phase: Phase,
+        side: Side,
+        bound: u32,
+        units: u64,
+    ) -> Depth
+        requires bound { bound + 1 < PRICES }
+        requires units { units ≡ units_within phase side bound book.now.orders }
+        ensures { IsDepthWithin phase book.now.orders side bound result }
+    {
+        match book.worst_within(side, phase, bound) {
+            None => Depth::of_market(book, side, phase),
+            Some(price) => Depth {
+                side,
+                limit: Some(price),
+                units,
+                next: book.level_after(side, phase, Some(price)),
+            },
         }
     }
 
@@ -78,18 +103,19 @@ impl Depth {
         }
     }
 
-    /// The market orders with the fewest levels that make so many units, or nothing where all make fewer.
+    /// With the fewest levels more that make so many units, or nothing where all make fewer.
     pub fn to_units<A: Allocator + Copy>(
         &self,
         book: &Book<A>,
         phase: Phase,
         units: u64,
     ) -> Option<Depth>
-        requires { self.now ≡ depth_at phase self.now.side None book.now.orders }
+        requires depth { self.now ≡ depth_at phase self.now.side self.now.limit book.now.orders }
+        requires limit { IfSome self.now.limit (Contains (candidates phase book.now.orders)) }
         ensures depth { IfSome result (λ d. d ≡ depth_at phase self.now.side d.limit book.now.orders) }
         ensures limit { IfSome result (λ d. IfSome d.limit (Contains (candidates phase book.now.orders))) }
         ensures enough { IfSome result (λ d. units ≤ d.units) }
-        ensures before { IfSome result (λ d. (x : ℕ) → reaches_price self.now.side d.limit x ≡ false → accepting phase book.now.orders self.now.side x < units) }
+        ensures before { IfSome result (λ d. (x : ℕ) → reaches_price self.now.side d.limit x ≡ false → reaches_price self.now.side self.now.limit x ≡ true → accepting phase book.now.orders self.now.side x < units) }
         ensures none { IfNone result ((x : ℕ) → accepting phase book.now.orders self.now.side x < units) }
     {
         let mut depth = *self;

@@ -15,7 +15,7 @@ use xm_rules::{Phase, Side};
 use xm_ticks::Price;
 
 /// The price of a call in this phase, in ticks, with the units that are executed at it, where any can be. The reference
-/// is the last price. It takes no memory, and its cost grows with the levels that cross.
+/// is the last price. It takes no memory, and looks at few levels, however many cross.
 pub fn auction_price<A: Allocator + Copy>(
     book: &Book<A>,
     phase: Phase,

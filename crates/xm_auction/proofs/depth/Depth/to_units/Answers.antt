@@ -26,5 +26,5 @@ loop-depth-preserved g c =
       side = ap (λ (f : Depth). f.side) c.with_level-depth.ensures ∙ kept.side;
       depth = depth-made c.args.phase d.side (Some c.in_ok-level.level.0) e orders c.with_level-depth.ensures;
       limit = limit-made c.args.phase d.side c.in_ok-level.level.0 e orders (next-candidate c.args.phase d orders c.in_ok-level.level kept.depth c.in_ok-level.was) c.with_level-depth.ensures;
-      before = short-more c.args.phase d e orders c.args.units c.in_ok-level.level kept.depth c.in_ok-level.was c.loop-depth-test.true c.with_level-depth.ensures;
+      before = λ x r s. short-more c.args.phase d e orders c.args.units c.in_ok-level.level kept.depth c.in_ok-level.was c.loop-depth-test.true c.with_level-depth.ensures x r;
     }

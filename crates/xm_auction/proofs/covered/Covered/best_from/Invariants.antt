@@ -1,7 +1,7 @@
 use Rattle.std.proofs.Common.{◌≡◌, ◌+◌}
 use Rattle.xm_auction.specs.Crossings.{IsCrossing}
 use Rattle.xm_book.specs.Curves.{orders_left}
-use Rattle.xm_auction.proofs.covered.Covered.best.Given as goal
+use Rattle.xm_auction.proofs.covered.Covered.best_from.Given as goal
 
 abbrev pub invariant-loop : goal.invariant-loop
 invariant-loop g l = record {
