@@ -1,6 +1,5 @@
-use Rattle.std.proofs.Common.{rules, ◌≡◌, true, false, ap, ◌∙◌}
-use Rattle.xm_book.specs.Fronts.{lies_within}
-use Rattle.xm_book.proofs.Standing.{limit-worst, none-active}
+use Rattle.std.proofs.Common.{rules, ◌≡◌, true, ap, ◌∙◌}
+use Rattle.xm_book.proofs.Standing.{limit-worst}
 use Rattle.xm_book.proofs.order_queues.OrderQueues.worst_in.Goals as goal
 use Rattle.xm_ladders.specs.Ladders.{ladder_on, side_of}
 use Rattle.xm_rules.specs.Active.{is_active}

@@ -1,5 +1,4 @@
 use Rattle.std.proofs.Common.{◌*◌, ◌∙◌, sym}
-use Rattle.xm_ladders.specs.Ladder.{IsCleared}
 use Rattle.xm_ladders.proofs.Summing.{units-of-nothing, nothing-held}
 use Rattle.xm_ladders.proofs.ladder.Ladder.new.Goals as goal
 use Rattle.xm_price_maps.specs.Sums.{places_of}

@@ -1,4 +1,4 @@
-use Rattle.std.proofs.Common.{◌≡◌, ◌==◌, ◌+◌, ◌-◌, ◌/◌, ◌<◌, ◌≤◌, ℕ, if◌then◌else◌, Some, ap, sym, ◌∙◌, subst, arith}
+use Rattle.std.proofs.Common.{◌≡◌, ◌==◌, ◌+◌, ◌-◌, ◌/◌, ◌<◌, ℕ, if◌then◌else◌, Some, ap, sym, ◌∙◌, subst, arith}
 use Rattle.xm_ladders.specs.Ladder.{HasLevels, LadderView, units_of}
 use Rattle.xm_ladders.proofs.Summing.{held-after, sum-fits, sum-there, summed-put}
 use Rattle.xm_ladders.specs.declared.level.Level.{Level}
