@@ -3,6 +3,7 @@
 MOST_BYTES = 16_777_216
 HEADER = "command,member,reference,security,side,kind,limit,trigger,quantity,validity,restriction,condition\n"
 NAMES = ["ABC", "DEF", "GHI", "JKL", "MNO", "PQR", "STU", "VWX"]
+ANSWERS = ["--answers", "/dev/null"]
 
 
 class Day:
@@ -234,6 +235,16 @@ def calls_without_trade(levels, most):
     begin = TRADING + "".join(enter(level, "buy", 1 + level) for level in range(levels))
     turn = phase("intraday") + enter(1, "sell", 1, levels, "BBB") + phase("uncross") + cancel(1, "BBB") + phase("uncross")
     return filled(segment(), Rows(begin), lambda _number: turn, lambda turns: counts(2 + levels + 5 * turns), most=most)
+
+
+def call_that_crosses(levels, most):
+    """So many orders of a call, on so many levels of each side that all cross, with answers."""
+
+    def turn(number):
+        away = number // 2 % levels
+        return enter(number, "sell", 100_000 - away, 1, "BBB") if number % 2 else enter(number, "buy", 100_000 + away)
+
+    return filled(segment(), Rows(phase("open")), turn, lambda turns: counts(1 + turns), ANSWERS, most=most)
 
 
 def fill_or_kill(orders, limits, most=MOST_BYTES):

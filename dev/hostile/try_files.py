@@ -47,6 +47,7 @@ class Run:
 ORDINARY = {
     "a day": files.ordinary,
     "a shared day": lambda: files.ordinary(words=["--workers", "8"]),
+    "a day with answers": lambda: files.ordinary(words=files.ANSWERS),
     "25,000 securities": lambda: files.many_securities(25_000),
     "200,000 members": lambda: files.many_members(200_000),
     "190,000 keys": lambda: files.many_keys(190_000),
@@ -105,6 +106,9 @@ def days():
     many = lambda number: 100_001 + number * 7919 % 99_000
     yield Trial("stops at 99,000 triggers", lambda: files.stops(many, 199_500), most=4)
     yield Trial("calls of 100,000 levels without a price", lambda: files.calls_without_price(100_000))
+    for levels in (1000, 50_000):
+        title = f"answers in a call that {levels:,} levels cross"
+        yield Trial(title, lambda levels=levels: files.call_that_crosses(levels, 300_000), "a day with answers", most=40)
     yield Trial("fill-or-kill over one limit", lambda: files.fill_or_kill(150_000, 1))
     yield Trial("changes of the first in a long queue", lambda: files.changes(100_000))
     yield Trial("levels far from each other", files.far_levels)
@@ -120,7 +124,7 @@ def dear_days():
     for members, rounds, most in ((1, 200_000, MOST_TIMES), (2, 20_000, 60), (8, 5000, 120)):
         title = f"{rounds:,} rounds of {members} and a phase row"
         yield Trial(title, lambda members=members, rounds=rounds: files.rounds(members, rounds), "a shared day", most)
-    yield Trial("1,000 calls that 100,000 levels cross", lambda: files.calls_without_trade(100_000, 1000), most=500)
+    yield Trial("1,000 calls that 100,000 levels cross", lambda: files.calls_without_trade(100_000, 1000), most=10)
     yield Trial("1,000 fill-or-kill over 40,000 limits", lambda: files.fill_or_kill(150_000, 40_000, 1000), most=30)
 
 
