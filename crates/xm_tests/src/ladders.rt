@@ -21,14 +21,14 @@ impl<A: Allocator + Copy> Steps<A> {
     }
 
     /// Reserves a kind, where memory allows, and puts in a level of one order of so many units.
-    fn put(&mut self, kind: &OrderKind, units: u64) -> bool {
+    fn put(&mut self, kind: &OrderKind, units: u32) -> bool {
         if self.ladder.reserve(*kind, 1).is_err() {
             return false;
         }
         let level = Level {
             ends: Ends::new(),
             orders: 1,
-            units,
+            units: u64::from(units),
         };
         self.ladder.put(*kind, level);
         true
@@ -70,7 +70,7 @@ fn limit(rt: &impl Abort, ticks: u32) -> OrderKind {
 fn limits_from_the_best_on(rt: HostRuntime) {
     let mut steps = Steps::new(rt.alloc());
     for ticks in [100u32, 98, 1_000_000] {
-        assert!(rt; steps.put(&limit(&rt, ticks), u64::from(ticks)));
+        assert!(rt; steps.put(&limit(&rt, ticks), ticks));
     }
     assert!(rt; steps.put(&OrderKind::Market, 7));
     assert!(rt; steps.best_two(Side::Buy) == (1_000_000, 100));
