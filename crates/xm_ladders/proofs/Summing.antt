@@ -10,7 +10,7 @@ use Rattle.xm_price_maps.specs.Levels.{LevelsView, level_at}
 use Rattle.xm_price_maps.specs.Sums.{groups_of, places_of, group_sum}
 use Rattle.xm_price_maps.specs.declared.marks.TheConstants.{PRICES}
 use Rattle.xm_price_maps.specs.declared.sums.GroupWidth.{GroupWidth}
-use Rattle.xm_price_maps.specs.declared.sums.GroupWidth.TheVariants.{Narrow, Wide}
+use Rattle.xm_price_maps.specs.declared.sums.GroupWidth.TheVariants.{Narrow, Middle, Wide}
 
 pub units-of-nothing : (limits : LevelsView Level) → ((p : ℕ) → level_at limits p ≡ None) → (low n : ℕ) → units_above limits low n ≡ 0
 unfolding units_above
@@ -98,14 +98,17 @@ units-part limits p low (suc n) above below = by_test (units-part limits p (low 
 -- ---- groups
 group_above : (width : GroupWidth) (place : ℕ) → (place / places_of width) * places_of width < place + 1
 group_above Narrow place = omega arith
+group_above Middle place = omega arith
 group_above Wide place = omega arith
 
 group_below : (width : GroupWidth) (place : ℕ) → place + 1 ≤ (place / places_of width) * places_of width + places_of width
 group_below Narrow place = omega arith
+group_below Middle place = omega arith
 group_below Wide place = omega arith
 
 pub group_there : (width : GroupWidth) (place : ℕ) → place < PRICES → place / places_of width < groups_of width
 group_there Narrow place h = omega (arith, h)
+group_there Middle place h = omega (arith, h)
 group_there Wide place h = omega (arith, h)
 
 other_group : (width : GroupWidth) (group place : ℕ) → (group == place / places_of width) ≡ false → (place + 1 ≤ group * places_of width) ⊎ (group * places_of width + places_of width < place + 1)
@@ -118,7 +121,9 @@ other_group width group place e = of_width width (two_sides group (place / place
 
   of_width : (width : GroupWidth) → (group < place / places_of width) ⊎ (place / places_of width < group) → (place + 1 ≤ group * places_of width) ⊎ (group * places_of width + places_of width < place + 1)
   of_width Narrow (inl l) = inr (omega (arith, l))
+  of_width Middle (inl l) = inr (omega (arith, l))
   of_width Narrow (inr l) = inl (omega (arith, l))
+  of_width Middle (inr l) = inl (omega (arith, l))
   of_width Wide (inl l) = inr (omega (arith, l))
   of_width Wide (inr l) = inl (omega (arith, l))
 
@@ -131,6 +136,7 @@ module _ (limits : LevelsView Level) (sums : List (List ℕ)) (orders : HasOrder
 
   few_places : (width : GroupWidth) → MAX_LEVEL_UNITS * places_of width + MAX_LEVEL_UNITS < 2 ^ 64
   few_places Narrow = omega arith
+  few_places Middle = omega arith
   few_places Wide = omega arith
 
   pub sum-fits : (units : ℕ) → units ≤ MAX_LEVEL_UNITS → (width : GroupWidth) → group_sum sums width (place / places_of width) + units < 2 ^ 64

@@ -24,3 +24,13 @@ higher_of (Some last) p = if nat_lt last p then p else last
 abbrev pub is_at : Option ℕ → ℕ → Bool
 is_at None p = false
 is_at (Some end) p = end == p
+
+-- this end is above the price
+abbrev pub is_above : Option ℕ → ℕ → Bool
+is_above None p = false
+is_above (Some end) p = nat_lt p end
+
+-- this end is below the price
+abbrev pub is_below : Option ℕ → ℕ → Bool
+is_below None p = false
+is_below (Some end) p = nat_lt end p

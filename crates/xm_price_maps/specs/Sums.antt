@@ -1,49 +1,50 @@
--- Sums of numbers under places by groups of two widths, in pages of words: the narrow groups in pages that are made as
--- they are needed, the wide ones in the page after them, which is made with the first page of all.
-use Rattle.std.specs.Prelude.{◌≡◌, ◌≢◌, ℕ, ◌+◌, ◌/◌, ◌<◌, List, length}
+-- Sums of numbers under places by groups of three widths, in pages that are made as they are needed: each page has the
+-- narrow groups of one wide group, and after them its middle ones. The wide groups fill the last page, which is made with
+-- the first page of all.
+use Rattle.std.specs.Prelude.{◌≡◌, ℕ, ◌+◌, ◌/◌, ◌%◌, ◌<◌, List, length}
 use Rattle.xm_price_maps.specs.declared.sums.GroupWidth.{GroupWidth}
-use Rattle.xm_price_maps.specs.declared.sums.GroupWidth.TheVariants.{Narrow, Wide}
-use Rattle.xm_price_maps.specs.Slots.{page_at, SameShape}
-use Rattle.xm_price_maps.specs.Words.{word, HasWord}
-use Rattle.xm_price_maps.specs.declared.sums.TheConstants.{NARROW_PAGES, PAGES, WIDE_START}
-use Rattle.xm_price_maps.specs.declared.words.TheConstants.{PAGE_WORDS}
+use Rattle.xm_price_maps.specs.declared.sums.GroupWidth.TheVariants.{Narrow, Middle, Wide}
+use Rattle.xm_price_maps.specs.Slots.{page_at, slot_at}
+use Rattle.xm_price_maps.specs.declared.sums.TheConstants.{PAGES, PAGE_MIDDLE, PAGE_NARROW, PAGE_SUMS, WIDE_GROUPS, WIDE_PLACES}
 
 -- how many places a group has
 abbrev pub places_of : GroupWidth → ℕ
 places_of Narrow = 16
+places_of Middle = 256
 places_of Wide = 4096
 
 -- how many groups there are
 abbrev pub groups_of : GroupWidth → ℕ
 groups_of Narrow = 65536
+groups_of Middle = 4096
 groups_of Wide = 256
 
--- the word that has the sum of a group
-abbrev pub word_under : GroupWidth → ℕ → ℕ
-word_under Narrow group = group
-word_under Wide group = WIDE_START + group
+-- the page that has the sum of a group
+abbrev pub page_under : GroupWidth → ℕ → ℕ
+page_under Narrow group = group / PAGE_NARROW
+page_under Middle group = group / PAGE_MIDDLE
+page_under Wide group = WIDE_GROUPS
+
+-- the slot of that page that has it
+abbrev pub slot_under : GroupWidth → ℕ → ℕ
+slot_under Narrow group = group % PAGE_NARROW
+slot_under Middle group = PAGE_NARROW + group % PAGE_MIDDLE
+slot_under Wide group = group
 
 -- the sum of a group
 unfoldable pub group_sum : List (List ℕ) → GroupWidth → ℕ → ℕ
-group_sum pages width group = word pages (word_under width group)
+group_sum pages width group = slot_at 0 pages (page_under width group) (slot_under width group)
 
 -- the sums of a place's groups can change with no memory
 unfoldable pub HasSumRoom : List (List ℕ) → ℕ → Type 0
-HasSumRoom pages place = HasWord pages (place / places_of Narrow)
+HasSumRoom pages place = 0 < length (page_at pages (place / WIDE_PLACES))
 
--- the words of a place's groups are there
-pub record HasSumWords (pages : List (List ℕ)) (place : ℕ) : Type 0 where
-  pub narrow : HasWord pages (place / places_of Narrow)
-  pub wide : HasWord pages (WIDE_START + place / places_of Wide)
+-- the slots of a place's groups are there
+abbrev pub HasSumSlots : List (List ℕ) → ℕ → Type 0
+HasSumSlots pages place = (width : GroupWidth) → slot_under width (place / places_of width) < length (page_at pages (page_under width (place / places_of width)))
 
 -- there are no pages, or as many as the groups take, which are absent or whole; the one of the wide groups is whole
 pub record IsSumShaped (pages : List (List ℕ)) : Type 0 where
   pub count : 0 < length pages → length pages ≡ PAGES
-  pub whole : (i : ℕ) → 0 < length (page_at pages i) → length (page_at pages i) ≡ PAGE_WORDS
-  pub wide : 0 < length pages → length (page_at pages NARROW_PAGES) ≡ PAGE_WORDS
-
--- one word has another number, and nothing else has changed
-pub record IsWordPut (old new : List (List ℕ)) (w x : ℕ) : Type 0 where
-  pub here : word new w ≡ x
-  pub others : (u : ℕ) → u ≢ w → word new u ≡ word old u
-  pub shape : SameShape old new
+  pub whole : (i : ℕ) → i < WIDE_GROUPS → 0 < length (page_at pages i) → length (page_at pages i) ≡ PAGE_SUMS
+  pub wide : 0 < length pages → length (page_at pages WIDE_GROUPS) ≡ WIDE_GROUPS

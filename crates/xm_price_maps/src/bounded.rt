@@ -1,6 +1,6 @@
 //! A set that knows its ends.
 ghost use Rattle.std.specs.Prelude.{◌≡◌, ◌==◌, if◌then◌else◌, ℕ, ◌<◌, IfNone, IfSome, OnErr, OnOk, Ok, true, false};
-ghost use Rattle.xm_price_maps.specs.Ends.{higher_of, is_at, lower_of};
+ghost use Rattle.xm_price_maps.specs.Ends.{higher_of, is_above, is_at, is_below, lower_of};
 ghost use Rattle.xm_price_maps.specs.Set.{has, HasRoom, IsFirstPrice, IsLastPrice, IsNextAbove, IsNextBelow};
 
 use crate::marks::PRICES;
@@ -61,6 +61,26 @@ fn is_at(end: Option<u32>, price: u32) -> bool
     }
 }
 
+/// Whether this end is above a price.
+fn is_above(end: Option<u32>, price: u32) -> bool
+    ensures { result ≡ is_above end price }
+{
+    match end {
+        None => false,
+        Some(end) => price < end,
+    }
+}
+
+/// Whether this end is below a price.
+fn is_below(end: Option<u32>, price: u32) -> bool
+    ensures { result ≡ is_below end price }
+{
+    match end {
+        None => false,
+        Some(end) => end < price,
+    }
+}
+
 impl<A: Allocator + Copy> BoundedSet<A> {
     /// The empty set, which has room for no price and has taken no memory.
     pub fn new(alloc: A) -> BoundedSet<A>
@@ -114,22 +134,30 @@ impl<A: Allocator + Copy> BoundedSet<A> {
         }
     }
 
-    /// The first member above a price.
+    /// The first member above a price. Where the last one isn't, no word is read.
     pub fn next_above(&self, price: u32) -> Option<u32>
         requires { price < PRICES }
         ensures some { IfSome result (IsNextAbove self.now price) }
         ensures none { IfNone result ((n : ℕ) → price < n → has self.now n ≡ false) }
     {
-        self.prices.next_above(price)
+        if is_above(self.last, price) {
+            self.prices.next_above(price)
+        } else {
+            None
+        }
     }
 
-    /// The last member below a price.
+    /// The last member below a price. Where the first one isn't, no word is read.
     pub fn next_below(&self, price: u32) -> Option<u32>
         requires { price < PRICES }
         ensures some { IfSome result (IsNextBelow self.now price) }
         ensures none { IfNone result ((n : ℕ) → n < price → has self.now n ≡ false) }
     {
-        self.prices.next_below(price)
+        if is_below(self.first, price) {
+            self.prices.next_below(price)
+        } else {
+            None
+        }
     }
 
     /// The first member.

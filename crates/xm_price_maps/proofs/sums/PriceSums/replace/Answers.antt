@@ -2,14 +2,14 @@ use Rattle.std.proofs.Common.{◌≡◌, ◌∙◌, ap, sym, length}
 use Rattle.std.proofs.lemmas.List.{with_items_is}
 use Rattle.xm_price_maps.specs.Slots.{SameShape}
 use Rattle.xm_price_maps.specs.Sums.{IsSumShaped}
-use Rattle.xm_price_maps.proofs.Summing.{has_words, room_kept, same_shaped}
+use Rattle.xm_price_maps.proofs.Summing.{has_slots, room_kept, same_shaped}
 use Rattle.xm_price_maps.proofs.sums.PriceSums.replace.Goals as goal
 
-pub put_sums-requires-clause-words : goal.put_sums-requires-clause-words
-put_sums-requires-clause-words g c =
+pub put_sums-requires-clause-slots : goal.put_sums-requires-clause-slots
+put_sums-requires-clause-slots g c =
     let old : c.deref_mut.result.now ≡ c.args.self.now = c.deref_mut.ensures.value ∙ c.self.view_is in
     let shaped : IsSumShaped c.args.self.now = rw c.self.view_is at c.self.invariant in
-    rw old (has_words c.args.self.now c.args.place c.requires.in_range shaped c.requires.room)
+    rw old (has_slots c.args.self.now c.args.place c.requires.in_range shaped c.requires.room)
 
 pub put_sums-requires-clause-there : goal.put_sums-requires-clause-there
 put_sums-requires-clause-there g c =
