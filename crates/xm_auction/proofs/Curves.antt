@@ -3,14 +3,14 @@ use Rattle.std.proofs.Common.{◌≡◌, ℕ, ◌+◌, ◌*◌, ◌<◌, ◌≤�
 use Rattle.std.specs.List.{list_all}
 use Rattle.std.specs.Prelude.{IfSome}
 use Rattle.std.proofs.lemmas.Bool.{both_ways, not_from_false, false_from_ne_true, and_parts}
-use Rattle.std.proofs.lemmas.List.Elements.{All-weaker, Contains-append_cases, Contains-append_left, Contains-append_right, filter_map-append}
-use Rattle.std.proofs.lemmas.List.Sums.{sum_by-cons, sum_by-le-sum_by}
+use Rattle.std.proofs.lemmas.List.Elements.{All-contains, All-filter, All-weaker, Contains-append_cases, Contains-append_left, Contains-append_right, filter_map-append}
+use Rattle.std.proofs.lemmas.List.Sums.{AllPass-from_list_all, sum_by-cons, sum_by-le-sum_by}
 use Rattle.xm_auction.specs.Depths.{depth_at, reaches_price}
 use Rattle.xm_auction.specs.declared.depth.Depth.{Depth}
-use Rattle.xm_slots.proofs.Members.{Contains-none}
+use Rattle.xm_slots.proofs.Members.{Contains-none, IsGiven-filter_map}
 use Rattle.xm_book.specs.Curves.{later, orders_left, units_to}
 use Rattle.xm_book.specs.Queues.{level_after, market_sum}
-use Rattle.xm_book.proofs.Bests.{reaches-on}
+use Rattle.xm_book.proofs.Bests.{reaches-on, reaches-other}
 use Rattle.xm_book.proofs.Curves.{IsNext, Nexts, counted, fewer-left, kinds_have, next-adds, nexts, units_to-is}
 use Rattle.xm_rules.specs.Active.{Positioned, active, is_active_on, limits, positioned_from}
 use Rattle.xm_rules.specs.Auction.{accepting, candidates}
@@ -25,13 +25,18 @@ use Rattle.xm_rules.specs.declared.orders.Side.TheVariants.{Buy, Sell}
 use Rattle.xm_rules.specs.declared.phases.Phase.{Phase}
 use Rattle.xm_rules.proofs.Orderings.{sum-filter}
 use Rattle.xm_rules.proofs.Queues.{units, if_le}
-use Rattle.xm_rules.proofs.Ranges.{range_high}
-use Rattle.xm_rules.proofs.Sums.{sum-le}
+use Rattle.xm_rules.proofs.Ranges.{range_high, range_low}
+use Rattle.xm_rules.proofs.Remaining.{each_positioned}
+use Rattle.xm_rules.proofs.Sums.{sum-gap, sum-le}
 use Rattle.xm_ticks.specs.declared.numbers.TheConstants.{MAX_QUANTITY}
 
 pub opposite-reaches : (side : Side) (p q : ℕ) → reaches (opposite side) p q ≡ reaches side q p
 opposite-reaches Buy p q = refl
 opposite-reaches Sell p q = refl
+
+pub opposite-twice : (side : Side) → opposite (opposite side) ≡ side
+opposite-twice Buy = refl
+opposite-twice Sell = refl
 
 -- ---- the units at other prices
 counted_on : (side : Side) (after : Option ℕ) (k : OrderKind) (x : ℕ) → reaches_price side after x ≡ true → counted side after k ≡ true → accepts side k x ≡ true
@@ -121,6 +126,34 @@ accepting-bounded phase orders side x h =
     let of_active = sum-filter units (is_active_on phase side) all in
     let less = sum_by-le-sum_by (λ (i : Positioned). if is_active_on phase side i then units i else 0) units all (λ i. if_some (is_active_on phase side i) (units i)) in
     omega (arith, some, of_active, less, placed_sum 0 orders, rests_sum orders h)
+
+some_more : (a b : Bool) (n : ℕ) → a ≡ false → b ≡ true → 0 < n → (if a then n else 0) + 1 ≤ (if b then n else 0)
+some_more true b n e f l = absurd (cc)
+some_more false true n e f l = omega (arith, l)
+some_more false false n e f l = absurd (cc)
+
+limit_more : (side : Side) (q x y : ℕ) (k : OrderKind) (n : ℕ) → limit_of k ≡ Some q → reaches side q x ≡ false → reaches side q y ≡ true → 0 < n
+    → (if accepts side k x then n else 0) + 1 ≤ (if accepts side k y then n else 0)
+limit_more side q x y Market n e r s l = absurd (cc)
+limit_more side q x y (Limit p) n e r s l =
+    let same : q ≡ p = cc in
+    subst (λ (m : ℕ). (if reaches side m x then n else 0) + 1 ≤ (if reaches side m y then n else 0)) same (some_more (reaches side q x) (reaches side q y) n r s l)
+
+-- fewer accept a price that a limit doesn't reach than one that it reaches, since each rest has units
+pub limit-adds : (phase : Phase) (orders : List Order) (side : Side) (q x y : ℕ) → list_all (λ (o : Order). is_in_range o.rest) orders ≡ true
+    → Contains (limits (active phase side orders)) q → reaches side q x ≡ false → reaches side q y ≡ true → accepting phase orders side x < accepting phase orders side y
+limit-adds phase orders side q x y h at r s =
+    let queue = active phase side orders in
+    let has_units = λ (i : Positioned). is_in_range i.order.rest ≡ true in
+    let each = All-filter (is_active_on phase side) has_units (positioned_from 0 orders)
+    (each_positioned (λ (o : Order). is_in_range o.rest ≡ true) 0 orders (AllPass-from_list_all (λ (o : Order). is_in_range o.rest) orders h)) in
+    let one = IsGiven-filter_map (λ (i : Positioned). limit_of i.order.kind) queue q at in
+    let there = one.contains in
+    let some = range_low (units one.from) (All-contains has_units queue one.from each there) in
+    let gap = sum-gap (λ (i : Positioned). if accepts side i.order.kind x then units i else 0) (λ (i : Positioned). if accepts side i.order.kind y then units i else 0) 1
+    (λ i. if_le (accepts side i.order.kind x) (accepts side i.order.kind y) (units i) (counted_on side (Some x) i.order.kind y (reaches-on side x q y (reaches-other side q x r) s)))
+    queue one.from (limit_more side q x y one.from.order.kind (units one.from) one.given r s some) there.0 there.1 there.2 in
+    omega (arith, gap)
 
 next_of : (phase : Phase) (d : Depth) (orders : List Order) (level : ℕ × ℕ) → d ≡ depth_at phase d.side d.limit orders → d.next ≡ Some level → IsNext d.side d.limit (active phase d.side orders) level.0 level.1
 next_of phase d orders level is next =

@@ -1,23 +1,26 @@
 -- The bounds of a side and of the other approach each other.
 use Rattle.std.proofs.Common.{◌≡◌, ℕ, ◌+◌, ◌*◌, ◌/◌, ◌<◌, ◌≤◌, true, false, List, Contains, Option, Some, None, refl, ap, sym, ◌∙◌, subst, arith}
+use Rattle.std.specs.List.{list_all}
 use Rattle.std.specs.Prelude.{IfSome, nat_le, nat_lt}
 use Rattle.std.proofs.lemmas.Bool.{both_ways}
 use Rattle.std.proofs.lemmas.Bool.Decides.{nat_tests}
 use Rattle.xm_auction.specs.Crossings.{IsStart}
 use Rattle.xm_auction.specs.Depths.{depth_at, reaches_price}
-use Rattle.xm_auction.specs.Narrowing.{IsBeforeBest, IsBound, IsDepthWithin, IsGap, IsNarrowed, IsNext, IsShort, edge, units_within}
+use Rattle.xm_auction.specs.Narrowing.{IsBeforeBest, IsBound, IsDepthWithin, IsGap, IsNarrowed, IsNext, IsNextWider, IsShort, edge, units_within}
 use Rattle.xm_ladders.specs.Ladder.{is_within}
 use Rattle.xm_price_maps.specs.Sums.{groups_of, places_of}
 use Rattle.xm_auction.specs.declared.depth.Depth.{Depth}
 use Rattle.xm_auction.specs.declared.bound.Bound.{Bound}
+use Rattle.xm_auction.specs.declared.bound.TheConstants.{GROUPS_IN_WIDER}
 use Rattle.xm_auction.specs.declared.narrowing.Gap.{Gap}
 use Rattle.xm_price_maps.specs.declared.sums.GroupWidth.{GroupWidth}
-use Rattle.xm_price_maps.specs.declared.sums.GroupWidth.TheVariants.{Narrow, Wide}
-use Rattle.xm_auction.proofs.Curves.{candidate, reached-more}
+use Rattle.xm_price_maps.specs.declared.sums.GroupWidth.TheVariants.{Narrow, Middle, Wide}
+use Rattle.xm_auction.proofs.Curves.{candidate, limit-adds, opposite-reaches, opposite-twice, reached-more}
 use Rattle.xm_auction.proofs.Within.{accepted-more, before-none, before-units, within-reaches}
 use Rattle.xm_book.proofs.Bests.{reaches-on, reaches-other}
 use Rattle.xm_rules.specs.Active.{active, limits}
 use Rattle.xm_rules.specs.Auction.{accepting, candidates}
+use Rattle.xm_rules.specs.Commands.{is_in_range}
 use Rattle.xm_rules.specs.Sides.{opposite, reaches}
 use Rattle.xm_rules.specs.declared.orders.Order.{Order}
 use Rattle.xm_rules.specs.declared.orders.Side.{Side}
@@ -28,6 +31,7 @@ use Rattle.xm_ticks.specs.declared.numbers.TheConstants.{MAX_PRICE}
 -- ---- the order of bounds
 no_lower : (width : GroupWidth) (g h : ℕ) → nat_le g h ≡ true → nat_le (g * places_of width) (h * places_of width) ≡ true
 no_lower Narrow g h e = grind (arith, nat_tests)
+no_lower Middle g h e = grind (arith, nat_tests)
 no_lower Wide g h e = grind (arith, nat_tests)
 
 bounds_reach : (side : Side) (width : GroupWidth) (g h : ℕ) → reaches side g h ≡ true → reaches side (g * places_of width) (h * places_of width) ≡ true
@@ -67,8 +71,10 @@ group_before Sell width below = below / places_of width
 
 before_in_range : (side : Side) (width : GroupWidth) (below : ℕ) → below < MAX_PRICE → group_before side width below < groups_of width
 before_in_range Buy Narrow below l = omega (arith, l)
+before_in_range Buy Middle below l = omega (arith, l)
 before_in_range Buy Wide below l = omega (arith, l)
 before_in_range Sell Narrow below l = omega (arith, l)
+before_in_range Sell Middle below l = omega (arith, l)
 before_in_range Sell Wide below l = omega (arith, l)
 
 not_lower : (a b : ℕ) → b ≤ a → nat_lt a b ≡ false
@@ -79,8 +85,10 @@ not_low a b l = grind (arith, nat_tests)
 
 before_without : (side : Side) (width : GroupWidth) (below p : ℕ) → below + 1 ≡ p → is_within side (group_before side width below * places_of width) p ≡ false
 before_without Buy Narrow below p e = not_lower ((below / 16 + 1) * 16) p (omega (arith, e))
+before_without Buy Middle below p e = not_lower ((below / 256 + 1) * 256) p (omega (arith, e))
 before_without Buy Wide below p e = not_lower ((below / 4096 + 1) * 4096) p (omega (arith, e))
 before_without Sell Narrow below p e = not_low p (below / 16 * 16) (omega (arith, e))
+before_without Sell Middle below p e = not_low p (below / 256 * 256) (omega (arith, e))
 before_without Sell Wide below p e = not_low p (below / 4096 * 4096) (omega (arith, e))
 
 without_next : (side : Side) (width : GroupWidth) (below : ℕ) (o : Option (ℕ × ℕ)) → IfSome o (λ level. below + 1 ≡ level.0)
@@ -100,21 +108,43 @@ before-best phase orders width d made below high best group is =
       none = none;
     })
 
-pub narrowed-before : (phase : Phase) (orders : List Order) (side : Side) (wide b : Bound) → IsBeforeBest phase orders side Narrow b → b.units ≡ wide.units → IsNarrowed phase orders side wide b
-narrowed-before phase orders side wide b is same = record {
+pub narrowed-before : (phase : Phase) (orders : List Order) (side : Side) (wider width : GroupWidth) (wide b : Bound) → IsBeforeBest phase orders side width b → b.units ≡ wide.units
+    → IsNarrowed phase orders side wider width wide b
+narrowed-before phase orders side wider width wide b is same = record {
   bound = is.bound;
   same = same;
-  within = λ q at w. absurd (both_ways (is_within side (b.group * places_of Narrow) q) (is.none q at) w);
+  within = λ q at w. absurd (both_ways (is_within side (b.group * places_of width) q) (is.none q at) w);
 }
 
-pub narrowed-same : (phase : Phase) (orders : List Order) (side : Side) (wide : Bound) → IsBound phase orders side Wide wide
-    → IsNarrowed phase orders side wide (record { group = wide.group * 256; units = wide.units })
-narrowed-same phase orders side wide is =
-    let here : (wide.group * 256) * places_of Narrow ≡ wide.group * places_of Wide = omega arith in
-    let range = is.in_range in
+-- no group that has narrower ones has a high number
+pub few-wider : (wider width : GroupWidth) → IsNextWider wider width → (g : ℕ) → g < groups_of wider → g < groups_of Middle
+few-wider Narrow Narrow e g l = omega (arith, e)
+few-wider Narrow Middle e g l = omega (arith, e)
+few-wider Narrow Wide e g l = omega (arith, e)
+few-wider Middle width e g l = l
+few-wider Wide width e g l = omega (arith, l)
+
+narrowed_range : (wider width : GroupWidth) → IsNextWider wider width → (g : ℕ) → g < groups_of wider → g * GROUPS_IN_WIDER < groups_of width
+narrowed_range Narrow Narrow e g l = omega (arith, e)
+narrowed_range Narrow Middle e g l = omega (arith, e)
+narrowed_range Narrow Wide e g l = omega (arith, e)
+narrowed_range Middle Narrow e g l = omega (arith, l)
+narrowed_range Middle Middle e g l = omega (arith, e)
+narrowed_range Middle Wide e g l = omega (arith, e)
+narrowed_range Wide Narrow e g l = omega (arith, e)
+narrowed_range Wide Middle e g l = omega (arith, l)
+narrowed_range Wide Wide e g l = omega (arith, e)
+
+narrowed_place : (wider width : GroupWidth) → IsNextWider wider width → (g : ℕ) → (g * GROUPS_IN_WIDER) * places_of width ≡ g * places_of wider
+narrowed_place wider width e g = subst (λ (n : ℕ). (g * GROUPS_IN_WIDER) * places_of width ≡ g * n) (sym e) (omega arith)
+
+pub narrowed-same : (phase : Phase) (orders : List Order) (side : Side) (wider width : GroupWidth) → IsNextWider wider width → (wide : Bound) → IsBound phase orders side wider wide
+    → IsNarrowed phase orders side wider width wide (record { group = wide.group * GROUPS_IN_WIDER; units = wide.units })
+narrowed-same phase orders side wider width e wide is =
+    let here = narrowed_place wider width e wide.group in
     record {
       bound = record {
-        in_range = omega (arith, range);
+        in_range = narrowed_range wider width e wide.group is.in_range;
         units_are = is.units_are ∙ sym (ap (λ (n : ℕ). units_within phase side n orders) here);
       };
       same = refl;
@@ -135,7 +165,7 @@ gap-before phase orders own other own_made other_made b c is other_is n next_is 
       other_is = there.bound;
       next_is = subst (λ (s : Side). IfSome n (IsNext phase orders s Wide c)) side next_is;
       met = λ q at w. absurd (both_ways (is_within (opposite own.side) (c.group * places_of Wide) q) (there.none q at) w);
-      beyond = λ q x at w r. absurd (both_ways (is_within own.side (b.group * places_of Wide) q) (is.none q at) w);
+      short = λ q at w. absurd (both_ways (is_within own.side (b.group * places_of Wide) q) (is.none q at) w);
     }
 
 module _ (phase : Phase) (orders : List Order) (g : Gap) (k : IsGap phase orders g) where
@@ -148,28 +178,24 @@ module _ (phase : Phase) (orders : List Order) (g : Gap) (k : IsGap phase orders
   pub other-bound : IsBound phase orders g.other_market.side g.width g.other
   other-bound = subst (λ (s : Side). IsBound phase orders s g.width g.other) (sym other_side) k.other_is
 
-  pub other-wide : g.width ≡ Wide → IsBound phase orders g.other_market.side Wide g.other
-  other-wide wide = subst (λ (w : GroupWidth). IsBound phase orders g.other_market.side w g.other) wide other-bound
-
-  pub before-wide : g.width ≡ Wide → IsBound phase orders g.market.side Wide g.before
-  before-wide wide = subst (λ (w : GroupWidth). IsBound phase orders g.market.side w g.before) wide k.before_is
-
-  pub gap-narrow : g.width ≡ Wide → (b c : Bound) → IsNarrowed phase orders g.market.side g.before b → IsNarrowed phase orders g.other_market.side g.other c
-      → (n : Option Bound) → IfSome n (IsNext phase orders g.other_market.side Narrow c)
-      → IsGap phase orders (record { width = Narrow; market = g.market; other_market = g.other_market; own = b; before = b; other = c; next = n })
-  gap-narrow wide b c is other_is n next_is =
-      let there = subst (λ (s : Side). IsNarrowed phase orders s g.other c) other_side other_is in
+  pub gap-narrow : (width : GroupWidth) (b c : Bound) → IsNarrowed phase orders g.market.side g.width width g.before b → IsNarrowed phase orders g.other_market.side g.width width g.other c
+      → (n : Option Bound) → IfSome n (IsNext phase orders g.other_market.side width c)
+      → IsGap phase orders (record { width = width; market = g.market; other_market = g.other_market; own = b; before = b; other = c; next = n })
+  gap-narrow width b c is other_is n next_is =
+      let there = subst (λ (s : Side). IsNarrowed phase orders s g.width width g.other c) other_side other_is in
       record {
         market_is = k.market_is;
         other_market_is = k.other_market_is;
         own_is = is.bound;
         before_is = is.bound;
         other_is = there.bound;
-        next_is = subst (λ (s : Side). IfSome n (IsNext phase orders s Narrow c)) other_side next_is;
+        next_is = subst (λ (s : Side). IfSome n (IsNext phase orders s width c)) other_side next_is;
         met = λ q at w.
             let units = there.same in
-            omega (arith, units, k.met q at (ap (λ (n : GroupWidth). is_within (opposite g.market.side) (g.other.group * places_of n) q) wide ∙ there.within q at w));
-        beyond = λ q x at w r. k.beyond q x at (ap (λ (n : GroupWidth). is_within g.market.side (g.before.group * places_of n) q) wide ∙ is.within q at w) r;
+            omega (arith, units, k.met q at (there.within q at w));
+        short = λ q at w.
+            let units = is.same in
+            omega (arith, units, k.short q at (is.within q at w));
       }
 
 -- ---- a step
@@ -196,7 +222,7 @@ module _ (phase : Phase) (orders : List Order) (g : Gap) (k : IsGap phase orders
     other_is = is.bound;
     next_is = next_is;
     met = λ q at w. met q w;
-    beyond = k.beyond;
+    short = k.short;
   }
 
   pub next-is : (next : Bound) → g.next ≡ Some next → IsNext phase orders (opposite g.market.side) g.width g.other next
@@ -220,43 +246,85 @@ module _ (phase : Phase) (orders : List Order) (g : Gap) (k : IsGap phase orders
     other_is = k.other_is;
     next_is = k.next_is;
     met = k.met;
-    beyond = λ q x at w r.
-        let own = k.own_is.units_are in
-        let bound = g.own.group * places_of g.width in
-        let reached = reaches-on g.market.side x q (edge g.market.side bound) (reaches-other g.market.side q x r) (sym (within-reaches g.market.side bound q) ∙ w) in
-        omega (arith, own, accepted-more phase orders g.market.side x (edge g.market.side bound) reached, short x reached);
+    short = λ q at w. short q (sym (within-reaches g.market.side (g.own.group * places_of g.width) q) ∙ w);
   }
 
-  -- ---- the walk begins
+-- ---- the walks begin
+module _ (phase : Phase) (orders : List Order) (side against : Side) (facing : against ≡ opposite side) (own other : Depth) (here there : ℕ) (is : IsDepthWithin phase orders side here own)
+    (other_is : IsDepthWithin phase orders against there other) where
+  of_side : (s : Side) (o : Option ℕ) (bound : ℕ) → IfSome o (λ p. Contains (limits (active phase s orders)) p × (is_within s bound p ≡ true)) → IfSome o (Contains (candidates phase orders))
+  of_side s None bound at = tt
+  of_side s (Some p) bound at = candidate phase orders s p at.0
+
+  -- with what both say of the limits within their bounds
+  module _ (met : (q : ℕ) → Contains (limits (active phase against orders)) q → is_within against there q ≡ true → other.units ≤ accepting phase orders side q)
+      (beyond : (q x : ℕ) → Contains (limits (active phase side orders)) q → is_within side here q ≡ true → reaches side q x ≡ false
+      → accepting phase orders side x < accepting phase orders against x) where
+    met_at : (o : Option ℕ) → IfSome o (λ p. Contains (limits (active phase against orders)) p × (is_within against there p ≡ true)) → IfSome o (λ p. other.units ≤ accepting phase orders side p)
+    met_at None at = tt
+    met_at (Some p) at = met p at.0 at.1
+
+    beyond_at : (o : Option ℕ) → IfSome o (λ p. Contains (limits (active phase side orders)) p × (is_within side here p ≡ true)) → (x : ℕ) → reaches_price side o x ≡ false
+        → accepting phase orders side x < accepting phase orders against x
+    beyond_at None at x r = absurd (cc)
+    beyond_at (Some p) at x r = beyond p x at.0 at.1 r
+
+    begins_within : IsStart phase orders own other
+    begins_within =
+        let same : own.side ≡ side = ap (λ (d : Depth). d.side) is.depth in
+        record {
+          own_depth = subst (λ (s : Side). own ≡ depth_at phase s own.limit orders) (sym same) is.depth;
+          other_depth = subst (λ (s : Side). other ≡ depth_at phase s other.limit orders) (facing ∙ ap opposite (sym same)) other_is.depth;
+          own_limit = of_side side own.limit here is.limit;
+          other_limit = of_side against other.limit there other_is.limit;
+          met = subst (λ (s : Side). IfSome other.limit (λ p. other.units ≤ accepting phase orders s p)) (sym same) (met_at other.limit other_is.limit);
+          beyond = subst (λ (s : Side). (x : ℕ) → reaches_price s own.limit x ≡ false → accepting phase orders s x < accepting phase orders (opposite s) x) (sym same)
+              (λ x r. subst (λ (s : Side). accepting phase orders side x < accepting phase orders s x) facing (beyond_at own.limit is.limit x r));
+        }
+
+module _ (phase : Phase) (orders : List Order) (g : Gap) (k : IsGap phase orders g) where
+  -- at a price that an own limit within the bound before doesn't reach, the side has no more than within that bound
+  own_beyond : (q x : ℕ) → Contains (limits (active phase g.market.side orders)) q → is_within g.market.side (g.before.group * places_of g.width) q ≡ true → reaches g.market.side q x ≡ false
+      → accepting phase orders g.market.side x < accepting phase orders (opposite g.market.side) x
+  own_beyond q x at w r =
+      let side = g.market.side in
+      let bound = g.before.group * places_of g.width in
+      let units = k.before_is.units_are in
+      let back = reaches-other side q x r in
+      omega (
+        arith,
+        units,
+        accepted-more phase orders side x (edge side bound) (reaches-on side x q (edge side bound) back (sym (within-reaches side bound q) ∙ w)),
+        k.short q at w,
+        accepted-more phase orders (opposite side) q x (opposite-reaches side q x ∙ back),
+      )
+
+  -- at a price that a limit of the other side within its bound doesn't reach, that side has fewer, since it lacks that limit's
+  other_beyond : list_all (λ (o : Order). is_in_range o.rest) orders ≡ true → (q x : ℕ) → Contains (limits (active phase (opposite g.market.side) orders)) q
+      → is_within (opposite g.market.side) (g.other.group * places_of g.width) q ≡ true → reaches (opposite g.market.side) q x ≡ false
+      → accepting phase orders (opposite g.market.side) x < accepting phase orders g.market.side x
+  other_beyond rests q x at w r =
+      let side = opposite g.market.side in
+      let bound = g.other.group * places_of g.width in
+      let units = k.other_is.units_are in
+      let reached = sym (opposite-reaches g.market.side x q) ∙ reaches-other side q x r in
+      omega (arith, units, limit-adds phase orders side q x (edge side bound) rests at r (sym (within-reaches side bound q) ∙ w), k.met q at w, accepted-more phase orders g.market.side q x reached)
+
   module _ (own other : Depth) (is : IsDepthWithin phase orders g.market.side (g.before.group * places_of g.width) own)
       (other_is : IsDepthWithin phase orders (opposite g.market.side) (g.other.group * places_of g.width) other) where
-    of_side : (side : Side) (o : Option ℕ) (bound : ℕ) → IfSome o (λ p. Contains (limits (active phase side orders)) p × (is_within side bound p ≡ true))
-        → IfSome o (Contains (candidates phase orders))
-    of_side side None bound at = tt
-    of_side side (Some p) bound at = candidate phase orders side p at.0
+    own_units : own.units ≡ g.before.units
+    own_units = is.units_are ∙ sym k.before_is.units_are
 
-    met_at : (o : Option ℕ) → IfSome o (λ p. Contains (limits (active phase (opposite g.market.side) orders)) p × (is_within (opposite g.market.side) (g.other.group * places_of g.width) p ≡ true))
-        → IfSome o (λ p. other.units ≤ accepting phase orders g.market.side p)
-    met_at None at = tt
-    met_at (Some p) at =
-        let here = k.other_is.units_are in
-        let there = other_is.units_are in
-        omega (arith, here, there, k.met p at.0 at.1)
-
-    beyond_at : (o : Option ℕ) → IfSome o (λ p. Contains (limits (active phase g.market.side orders)) p × (is_within g.market.side (g.before.group * places_of g.width) p ≡ true))
-        → (x : ℕ) → reaches_price g.market.side o x ≡ false → accepting phase orders g.market.side x < accepting phase orders (opposite g.market.side) x
-    beyond_at None at x r = absurd (cc)
-    beyond_at (Some p) at x r = k.beyond p x at.0 at.1 r
+    other_units : other.units ≡ g.other.units
+    other_units = other_is.units_are ∙ sym k.other_is.units_are
 
     pub begins : IsStart phase orders own other
     begins =
-        let same : own.side ≡ g.market.side = ap (λ (d : Depth). d.side) is.depth in
-        record {
-          own_depth = subst (λ (s : Side). own ≡ depth_at phase s own.limit orders) (sym same) is.depth;
-          other_depth = subst (λ (s : Side). other ≡ depth_at phase (opposite s) other.limit orders) (sym same) other_is.depth;
-          own_limit = of_side g.market.side own.limit (g.before.group * places_of g.width) is.limit;
-          other_limit = of_side (opposite g.market.side) other.limit (g.other.group * places_of g.width) other_is.limit;
-          met = subst (λ (s : Side). IfSome other.limit (λ p. other.units ≤ accepting phase orders s p)) (sym same) (met_at other.limit other_is.limit);
-          beyond = subst (λ (s : Side). (x : ℕ) → reaches_price s own.limit x ≡ false → accepting phase orders s x < accepting phase orders (opposite s) x) (sym same)
-              (beyond_at own.limit is.limit);
-        }
+        begins_within phase orders g.market.side (opposite g.market.side) refl own other (g.before.group * places_of g.width) (g.other.group * places_of g.width) is other_is
+        (λ q at w. omega (arith, other_units, k.met q at w)) own_beyond
+
+    -- and with the roles exchanged
+    pub begins-turned : list_all (λ (o : Order). is_in_range o.rest) orders ≡ true → IsStart phase orders other own
+    begins-turned rests =
+        begins_within phase orders (opposite g.market.side) g.market.side (sym (opposite-twice g.market.side)) other own (g.other.group * places_of g.width) (g.before.group * places_of g.width)
+        other_is is (λ q at w. omega (arith, own_units, k.short q at w)) (other_beyond rests)

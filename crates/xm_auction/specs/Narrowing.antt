@@ -5,9 +5,9 @@ use Rattle.xm_ladders.specs.Ladder.{is_within}
 use Rattle.xm_price_maps.specs.Sums.{groups_of, places_of}
 use Rattle.xm_auction.specs.declared.depth.Depth.{Depth}
 use Rattle.xm_auction.specs.declared.bound.Bound.{Bound}
+use Rattle.xm_auction.specs.declared.bound.TheConstants.{GROUPS_IN_WIDER}
 use Rattle.xm_auction.specs.declared.narrowing.Gap.{Gap}
 use Rattle.xm_price_maps.specs.declared.sums.GroupWidth.{GroupWidth}
-use Rattle.xm_price_maps.specs.declared.sums.GroupWidth.TheVariants.{Narrow, Wide}
 use Rattle.xm_rules.specs.Active.{active, limits}
 use Rattle.xm_rules.specs.Auction.{accepting}
 use Rattle.xm_rules.specs.Sides.{opposite, reaches}
@@ -50,12 +50,16 @@ pub record IsBeforeBest (phase : Phase) (orders : List Order) (side : Side) (wid
   pub bound : IsBound phase orders side width b
   pub none : (q : ℕ) → Contains (limits (active phase side orders)) q → is_within side (b.group * places_of width) q ≡ false
 
--- a bound between narrow groups, with the units of one between wide groups, within which each of its limits lies
-pub record IsNarrowed (phase : Phase) (orders : List Order) (side : Side) (wide b : Bound) : Type 0 where
-  pub bound : IsBound phase orders side Narrow b
+-- a width is the next one above another
+abbrev pub IsNextWider : GroupWidth → GroupWidth → Type 0
+IsNextWider wider width = places_of wider ≡ places_of width * GROUPS_IN_WIDER
+
+-- a bound between groups of a width, with the units of one between wider groups, within which each of its limits lies
+pub record IsNarrowed (phase : Phase) (orders : List Order) (side : Side) (wider width : GroupWidth) (wide b : Bound) : Type 0 where
+  pub bound : IsBound phase orders side width b
   pub same : b.units ≡ wide.units
-  pub within : (q : ℕ) → Contains (limits (active phase side orders)) q → is_within side (b.group * places_of Narrow) q ≡ true
-      → is_within side (wide.group * places_of Wide) q ≡ true
+  pub within : (q : ℕ) → Contains (limits (active phase side orders)) q → is_within side (b.group * places_of width) q ≡ true
+      → is_within side (wide.group * places_of wider) q ≡ true
 
 -- the depth of a side's market orders, or that down to one of its limits within a bound, with the units within the bound
 pub record IsDepthWithin (phase : Phase) (orders : List Order) (side : Side) (bound : ℕ) (d : Depth) : Type 0 where
@@ -63,8 +67,8 @@ pub record IsDepthWithin (phase : Phase) (orders : List Order) (side : Side) (bo
   pub units_are : d.units ≡ units_within phase side bound orders
   pub limit : IfSome d.limit (λ p. Contains (limits (active phase side orders)) p × (is_within side bound p ≡ true))
 
--- the side has the other's units within its bound at each of the limits there, and wherever a limit within the bound before
--- the own one doesn't reach, the side doesn't cover the other
+-- the side has the other's units within its bound at each of the limits there, and at each of the own limits within the
+-- bound before the own one the other side has more units than the side has within that
 pub record IsGap (phase : Phase) (orders : List Order) (g : Gap) : Type 0 where
   pub market_is : g.market ≡ depth_at phase g.market.side None orders
   pub other_market_is : g.other_market ≡ depth_at phase (opposite g.market.side) None orders
@@ -74,8 +78,8 @@ pub record IsGap (phase : Phase) (orders : List Order) (g : Gap) : Type 0 where
   pub next_is : IfSome g.next (IsNext phase orders (opposite g.market.side) g.width g.other)
   pub met : (q : ℕ) → Contains (limits (active phase (opposite g.market.side) orders)) q → is_within (opposite g.market.side) (g.other.group * places_of g.width) q ≡ true
       → g.other.units ≤ accepting phase orders g.market.side q
-  pub beyond : (q x : ℕ) → Contains (limits (active phase g.market.side orders)) q → is_within g.market.side (g.before.group * places_of g.width) q ≡ true → reaches g.market.side q x ≡ false
-      → accepting phase orders g.market.side x < accepting phase orders (opposite g.market.side) x
+  pub short : (q : ℕ) → Contains (limits (active phase g.market.side orders)) q → is_within g.market.side (g.before.group * places_of g.width) q ≡ true
+      → g.before.units < accepting phase orders (opposite g.market.side) q
 
 -- at each price within the own bound the other side has more units than the side has within it
 abbrev pub IsShort : Phase → List Order → Gap → Type 0

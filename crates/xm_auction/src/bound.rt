@@ -1,9 +1,10 @@
 //! The units of a side within a bound, by sums over groups of prices.
 ghost use Rattle.std.specs.Prelude.{◌≡◌, ◌+◌, ◌*◌, ◌<◌, ℕ, List, None, IfSome};
 ghost use Rattle.xm_auction.specs.Depths.{depth_at};
-ghost use Rattle.xm_auction.specs.Narrowing.{IsBeforeBest, IsBound, IsDepthWithin, IsNarrowed, IsNext, IsNextBound};
+ghost use Rattle.xm_auction.specs.Narrowing.{IsBeforeBest, IsBound, IsDepthWithin, IsNarrowed, IsNext, IsNextBound, IsNextWider};
 ghost use Rattle.xm_price_maps.specs.Sums.{groups_of, places_of};
-ghost use Rattle.xm_price_maps.specs.declared.sums.GroupWidth.TheVariants.{Wide};
+ghost use Rattle.xm_price_maps.specs.declared.sums.GroupWidth.TheVariants.{Middle};
+ghost use Rattle.xm_price_maps.specs.declared.sums.GroupWidth.{GroupWidth};
 ghost use Rattle.xm_rules.specs.declared.orders.Order.{Order};
 ghost use Rattle.xm_rules.specs.declared.phases.Phase.{Phase};
 ghost use Rattle.xm_ticks.specs.declared.numbers.TheConstants.{MAX_PRICE};
@@ -15,8 +16,8 @@ use xm_price_maps::GroupWidth;
 use xm_rules::{Phase, Side};
 use xm_ticks::MAX_PRICE;
 
-/// How many narrow groups a wide one has.
-const NARROW_OF_WIDE: u32 = 256;
+/// How many groups of the next narrower width a group has.
+const GROUPS_IN_WIDER: u32 = 16;
 
 /// A bound of a side between two groups of prices, as the number of the group above it, with the units of the market
 /// orders and of the limits within it: those above it on the buy side, those not above it on the sell side.
@@ -57,16 +58,17 @@ impl Bound {
         }
     }
 
-    /// The same between narrow groups; the last one before the best limit, where market orders alone lie within it.
-    pub fn narrow(&self, market: &Depth) -> Bound
-        requires { self.now.group < groups_of Wide }
-        ensures { (phase : Phase) (orders : List Order) → market.now ≡ depth_at phase market.now.side None orders → IsBound phase orders market.now.side Wide self.now → IsNarrowed phase orders market.now.side self.now result }
+    /// The same between groups of the next narrower width; the last one before the best limit, where market orders alone
+    /// lie within it.
+    pub fn narrow(&self, market: &Depth, width: GroupWidth) -> Bound
+        requires { self.now.group < groups_of Middle }
+        ensures { (phase : Phase) (orders : List Order) (wider : GroupWidth) → IsNextWider wider width → market.now ≡ depth_at phase market.now.side None orders → IsBound phase orders market.now.side wider self.now → IsNarrowed phase orders market.now.side wider width self.now result }
     {
         if self.units == market.units {
-            return Bound::before_best(market, GroupWidth::Narrow);
+            return Bound::before_best(market, width);
         }
         Bound {
-            group: self.group * NARROW_OF_WIDE,
+            group: self.group * GROUPS_IN_WIDER,
             units: self.units,
         }
     }

@@ -2,13 +2,10 @@
 ghost use Rattle.std.specs.Prelude.{◌≡◌, ◌-◌, ◌+◌, ◌≤◌, ◌<◌, IsTrue, None, false};
 ghost use Rattle.xm_auction.specs.Covered.{best_covered};
 ghost use Rattle.xm_auction.specs.Crossings.{IsCrossing, IsAtEnd, IsPassed, IsStart};
-ghost use Rattle.xm_auction.specs.Depths.{depth_at};
 ghost use Rattle.xm_book.specs.Curves.{orders_left};
-ghost use Rattle.xm_rules.specs.Sides.{opposite};
 ghost use Rattle.xm_auction.specs.Prices.{is_preferred};
 
 use crate::depth::Depth;
-use crate::narrowing::near_crossing;
 use std::alloc::Allocator;
 use xm_book::Book;
 use xm_rules::Phase;
@@ -43,24 +40,9 @@ impl Covered {
         self.volume > other.volume || (self.volume == other.volume && self.surplus < other.surplus)
     }
 
-    /// At the best candidate of a side at which its units are no fewer than those of the other, from the market orders
-    /// of both.
-    pub fn best<A: Allocator + Copy>(
-        book: &Book<A>,
-        phase: Phase,
-        own: &Depth,
-        other: &Depth,
-    ) -> Option<Covered>
-        requires own { own.now ≡ depth_at phase own.now.side None book.now.orders }
-        requires other { other.now ≡ depth_at phase (opposite own.now.side) None book.now.orders }
-        ensures { result ≡ best_covered phase book.now.orders own.now.side }
-    {
-        let start = near_crossing(book, phase, own, other);
-        Covered::best_from(book, phase, &start.0, &start.1)
-    }
-
-    /// The same by a walk that begins here.
-    fn best_from<A: Allocator + Copy>(
+    /// At the best candidate of a side at which its units are no fewer than those of the other, by a walk along the
+    /// curves of both that begins here.
+    pub fn best_from<A: Allocator + Copy>(
         book: &Book<A>,
         phase: Phase,
         own: &Depth,
@@ -77,7 +59,7 @@ impl Covered {
     }
 }
 
-/// The curves of a side and of the other, as far as they were walked from their best limits on.
+/// The curves of a side and of the other, as far as they were walked.
 #[derive(Clone, Copy)]
 struct Crossing {
     own: Depth,

@@ -2,8 +2,8 @@
 ghost use Rattle.std.specs.Prelude.{◌≡◌, ◌<◌, None, IsTrue};
 ghost use Rattle.xm_auction.specs.Crossings.{IsStart};
 ghost use Rattle.xm_auction.specs.Depths.{depth_at};
-ghost use Rattle.xm_auction.specs.Narrowing.{IsGap, IsShort, groups_left_of};
-ghost use Rattle.xm_price_maps.specs.declared.sums.GroupWidth.TheVariants.{Wide};
+ghost use Rattle.xm_auction.specs.Narrowing.{IsGap, IsNextWider, IsShort, groups_left_of};
+ghost use Rattle.xm_price_maps.specs.declared.sums.GroupWidth.TheVariants.{Narrow, Middle, Wide};
 ghost use Rattle.xm_rules.specs.Sides.{opposite};
 
 use crate::bound::Bound;
@@ -54,16 +54,16 @@ impl Gap {
         }
     }
 
-    /// The same between narrow groups, from the own bound before.
-    fn narrow<A: Allocator + Copy>(&self, book: &Book<A>, phase: Phase) -> Gap
+    /// The same between groups of the next narrower width, from the own bound before.
+    fn narrow<A: Allocator + Copy>(&self, book: &Book<A>, phase: Phase, width: GroupWidth) -> Gap
         requires gap { IsGap phase book.now.orders self.now }
-        requires width { self.now.width ≡ Wide }
+        requires width { IsNextWider self.now.width width }
         ensures market { result.market ≡ self.now.market }
+        ensures width { result.width ≡ width }
         ensures gap { IsGap phase book.now.orders result }
     {
-        let width = GroupWidth::Narrow;
-        let before = self.before.narrow(&self.market);
-        let other = self.other.narrow(&self.other_market);
+        let before = self.before.narrow(&self.market, width);
+        let other = self.other.narrow(&self.other_market, width);
         Gap {
             width,
             market: self.market,
@@ -138,12 +138,16 @@ impl Gap {
         gap
     }
 
-    /// What the side has within the bound before the own one, and the other side within its own bound.
+    /// What the side has within the bound before the own one, and the other side within its own bound. There the walk
+    /// begins, whichever of both is to cover the other.
     fn depths<A: Allocator + Copy>(&self, book: &Book<A>, phase: Phase) -> (Depth, Depth)
         requires { IsGap phase book.now.orders self.now }
         ensures side { result.0.side ≡ self.now.market.side }
         ensures start { IsStart phase book.now.orders result.0 result.1 }
+        ensures turned { IsStart phase book.now.orders result.1 result.0 }
     {
+        // The rests of a book are in range, and so each limit within a bound has units.
+        let _ = book.len();
         let own = self.before.depth(book, phase, self.width, &self.market);
         let other = self
             .other
@@ -163,8 +167,9 @@ fn is_crossed(own: &Depth, other: &Depth) -> bool {
     }
 }
 
-/// Where the walk along the curves of a side and of the other begins: near the crossing; or with the market orders of both,
-/// which are given, where these are as many and no limits cross, so that there is nothing to walk.
+/// Where the walk along the curves of a side and of the other begins, whichever of both is to cover the other: near the
+/// crossing; or with the market orders of both, which are given, where these are as many and no limits cross, so that there
+/// is nothing to walk.
 pub fn near_crossing<A: Allocator + Copy>(
     book: &Book<A>,
     phase: Phase,
@@ -175,11 +180,17 @@ pub fn near_crossing<A: Allocator + Copy>(
     requires other { other.now ≡ depth_at phase (opposite own.now.side) None book.now.orders }
     ensures side { result.0.side ≡ own.now.side }
     ensures start { IsStart phase book.now.orders result.0 result.1 }
+    ensures turned { IsStart phase book.now.orders result.1 result.0 }
 {
     if own.units == other.units && !is_crossed(own, other) {
         return (*own, *other);
     }
     let wide = Gap::before_best(book, phase, own, other).closed(book, phase);
-    let narrow = wide.narrow(book, phase).closed(book, phase);
+    let middle = wide
+        .narrow(book, phase, GroupWidth::Middle)
+        .closed(book, phase);
+    let narrow = middle
+        .narrow(book, phase, GroupWidth::Narrow)
+        .closed(book, phase);
     narrow.depths(book, phase)
 }

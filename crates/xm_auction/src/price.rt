@@ -9,6 +9,7 @@ ghost use Rattle.xm_rules.specs.declared.phases.Phase.{Phase};
 
 use crate::covered::Covered;
 use crate::depth::Depth;
+use crate::narrowing::near_crossing;
 use std::alloc::Allocator;
 use xm_book::Book;
 use xm_rules::{Phase, Side};
@@ -25,8 +26,9 @@ pub fn auction_price<A: Allocator + Copy>(
 {
     let demand = Depth::of_market(book, Side::Buy, phase);
     let supply = Depth::of_market(book, Side::Sell, phase);
-    let buys = Covered::best(book, phase, &demand, &supply);
-    let sells = Covered::best(book, phase, &supply, &demand);
+    let start = near_crossing(book, phase, &demand, &supply);
+    let buys = Covered::best_from(book, phase, &start.0, &start.1);
+    let sells = Covered::best_from(book, phase, &start.1, &start.0);
     match found_price(buys, sells, reference) {
         Some(found) => executed(found),
         None => executed((reference, demand.units.min(supply.units))),
