@@ -26,11 +26,11 @@ is_at None p = false
 is_at (Some end) p = end == p
 
 -- this end is above the price
-abbrev pub is_above : Option ℕ → ℕ → Bool
-is_above None p = false
-is_above (Some end) p = nat_lt p end
+abbrev pub lies_above : Option ℕ → ℕ → Bool
+lies_above None p = false
+lies_above (Some end) p = nat_lt p end
 
 -- this end is below the price
-abbrev pub is_below : Option ℕ → ℕ → Bool
-is_below None p = false
-is_below (Some end) p = nat_lt end p
+abbrev pub lies_below : Option ℕ → ℕ → Bool
+lies_below None p = false
+lies_below (Some end) p = nat_lt end p

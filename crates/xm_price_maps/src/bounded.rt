@@ -1,6 +1,6 @@
 //! A set that knows its ends.
 ghost use Rattle.std.specs.Prelude.{◌≡◌, ◌==◌, if◌then◌else◌, ℕ, ◌<◌, IfNone, IfSome, OnErr, OnOk, Ok, true, false};
-ghost use Rattle.xm_price_maps.specs.Ends.{higher_of, is_above, is_at, is_below, lower_of};
+ghost use Rattle.xm_price_maps.specs.Ends.{higher_of, is_at, lies_above, lies_below, lower_of};
 ghost use Rattle.xm_price_maps.specs.Set.{has, HasRoom, IsFirstPrice, IsLastPrice, IsNextAbove, IsNextBelow};
 
 use crate::marks::PRICES;
@@ -63,7 +63,7 @@ fn is_at(end: Option<u32>, price: u32) -> bool
 
 /// Whether this end is above a price.
 fn is_above(end: Option<u32>, price: u32) -> bool
-    ensures { result ≡ is_above end price }
+    ensures { result ≡ lies_above end price }
 {
     match end {
         None => false,
@@ -73,7 +73,7 @@ fn is_above(end: Option<u32>, price: u32) -> bool
 
 /// Whether this end is below a price.
 fn is_below(end: Option<u32>, price: u32) -> bool
-    ensures { result ≡ is_below end price }
+    ensures { result ≡ lies_below end price }
 {
     match end {
         None => false,
