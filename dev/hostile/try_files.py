@@ -108,7 +108,7 @@ def days():
     yield Trial("calls of 100,000 levels without a price", lambda: files.calls_without_price(100_000))
     for levels in (1000, 50_000):
         title = f"answers in a call that {levels:,} levels cross"
-        yield Trial(title, lambda levels=levels: files.call_that_crosses(levels, 300_000), "a day with answers", most=40)
+        yield Trial(title, lambda levels=levels: files.call_that_crosses(levels, 300_000), "a day with answers", most=6)
     yield Trial("fill-or-kill over one limit", lambda: files.fill_or_kill(150_000, 1))
     yield Trial("changes of the first in a long queue", lambda: files.changes(100_000))
     yield Trial("levels far from each other", files.far_levels)
