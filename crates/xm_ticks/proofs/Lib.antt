@@ -1,2 +1,4 @@
 pub mod Powers
 pub mod Prefixes
+mod Texts
+mod Words

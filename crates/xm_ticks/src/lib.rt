@@ -1,6 +1,7 @@
 //! Prices, quantities and tick sizes, and the texts of prices and money.
 #![tactic(auto)]
 
+mod digits;
 pub mod examples;
 mod numbers;
 mod ranges;

@@ -1,7 +1,7 @@
 use Rattle.std.proofs.Common.{◌≡◌, ◌+◌, ◌-◌, ◌*◌, ◌<◌, ◌^◌, true, take, fold}
 use Rattle.std.specs.List.{list_all}
 use Rattle.xm_ticks.specs.Reading.{is_digit}
-use Rattle.xm_ticks.proofs.reading.read_number.Given as goal
+use Rattle.xm_ticks.proofs.reading.read_digits.Given as goal
 
 abbrev pub invariant-loop-byte : goal.invariant-loop-byte
 invariant-loop-byte l = record {
