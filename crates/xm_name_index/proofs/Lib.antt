@@ -1,8 +1,10 @@
 mod Buckets
 mod Entries
 mod Joined
+mod Noted
 mod Placed
 mod Retained
+mod Seeded
 mod Splitting
 mod Tables
 pub mod Crosses

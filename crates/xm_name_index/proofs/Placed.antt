@@ -1,10 +1,11 @@
 -- A table of names, as changes of one bucket leave it.
-use Rattle.std.proofs.Common.{◌≡◌, ◌≢◌, get_or, ℕ, zero, suc, ◌+◌, Bool, true, false, ◌==◌, ◌<◌, ◌≤◌, if◌then◌else◌, List, [], ◌∷◌, set, length, Option, Some, None, IsSome, nat_lt, slice_get, refl, sym, subst, ap, ◌∙◌, arith, eqb-true, eq-eqb}
+use Rattle.std.proofs.Common.{◌≡◌, ◌≢◌, get_or, ℕ, zero, suc, ◌+◌, ◌^◌, Bool, true, false, ◌==◌, ◌<◌, ◌≤◌, if◌then◌else◌, List, [], ◌∷◌, set, length, Option, Some, None, IsSome, nat_lt, slice_get, refl, sym, subst, ap, ◌∙◌, arith, eqb-true, eq-eqb}
 use Rattle.std.proofs.lemmas.Bool.Decides.{nat_tests}
 use Rattle.std.proofs.lemmas.Bool.{false≢true}
+use Rattle.std.proofs.lemmas.List.{length-set}
 use Rattle.xm_name_index.specs.Buckets.{AreNamedApart, Leaves, key_in}
 use Rattle.xm_name_index.specs.Names.{Retains}
-use Rattle.xm_name_index.specs.Tables.{IsPlaced, TableView, home, key_in_bucket, key_at, table_key}
+use Rattle.xm_name_index.specs.Tables.{IsPlaced, TableView, home, home_among, key_in_bucket, key_at, table_key}
 use Rattle.xm_name_index.specs.declared.slot.Slot.{Slot}
 use Rattle.xm_name_index.proofs.Buckets.{IsByKey, keys-retained}
 
@@ -68,7 +69,10 @@ module _ (t : TableView) (h : ℕ) (v : List Slot) where
 
   pub same-home : (r : ℕ) → home with_bucket r ≡ home t r
   unfolding home
-  same-home r = refl
+  same-home r = ap (λ (n : ℕ). home_among t.seed n r) (length-set t.buckets h v)
+
+  still-few : length t.buckets ≤ 2 ^ 32 → length with_bucket.buckets ≤ 2 ^ 32
+  still-few few = subst (λ (n : ℕ). n ≤ 2 ^ 32) (sym (length-set t.buckets h v)) few
 
   module _ (within : h < length t.buckets) where
     pub bucket-at : (i r : ℕ) → key_at with_bucket i r ≡ (if i == h then key_in r v else key_at t i r)
@@ -107,7 +111,7 @@ module _ (t : TableView) (h : ℕ) (v : List Slot) where
 
         pub placed-with : IsPlaced with_bucket first'
         placed-with = record {
-          shift = p.shift;
+          few = still-few p.few;
           home = λ i r some. same-home r ∙ home-if i r (i == h) refl (subst IsSome (bucket-at i r) some);
           empty = λ i r before. bucket-at i r ∙ empty-if i r (i == h) refl before;
         }
@@ -139,7 +143,7 @@ module _ (A : ℕ → Bool → Type 0) (t : TableView) (h : ℕ) (v : List Slot)
 
   pub placed-fewer : (first : ℕ) → IsPlaced t first → IsPlaced (with_bucket t h v) first
   placed-fewer first p = record {
-    shift = p.shift;
+    few = still-few t h v p.few;
     home = λ i r some. same-home t h v r ∙ fewer-home first p i r (i == h) refl (subst IsSome (bucket-at t h v within i r) some);
     empty = λ i r before. bucket-at t h v within i r ∙ fewer-empty first p i r (i == h) refl before;
   }
@@ -149,16 +153,17 @@ module _ (A : ℕ → Bool → Type 0) (t : TableView) (h : ℕ) (v : List Slot)
 
 -- ---- the test of each bucket
 pub record IsTested (A : ℕ → Bool → Type 0) (old new : TableView) (n : ℕ) : Type 0 where
+  pub seed : new.seed ≡ old.seed
   pub homes : (r : ℕ) → home new r ≡ home old r
   pub len : length new.buckets ≡ length old.buckets
   pub done : (i r : ℕ) → i < n → Retains A (key_at old i r) (key_at new i r)
   pub left : (i r : ℕ) → n ≤ i → key_at new i r ≡ key_at old i r
 
 pub none-tested : (A : ℕ → Bool → Type 0) (t : TableView) → IsTested A t t 0
-none-tested A t = record { homes = λ r. refl; len = refl; done = λ i r before. absurd (omega arith); left = λ i r after. refl }
+none-tested A t = record { seed = refl; homes = λ r. refl; len = refl; done = λ i r before. absurd (omega arith); left = λ i r after. refl }
 
 module _ (A : ℕ → Bool → Type 0) (old mid new : TableView) (n : ℕ) (tested : IsTested A old mid n)
-    (there : (r : ℕ) → Retains A (key_at mid n r) (key_at new n r)) (others : (i r : ℕ) → i ≢ n → key_at new i r ≡ key_at mid i r) (homes : (r : ℕ) → home new r ≡ home mid r) (len : length new.buckets ≡ length mid.buckets) where
+    (there : (r : ℕ) → Retains A (key_at mid n r) (key_at new n r)) (others : (i r : ℕ) → i ≢ n → key_at new i r ≡ key_at mid i r) (homes : (r : ℕ) → home new r ≡ home mid r) (len : length new.buckets ≡ length mid.buckets) (seed : new.seed ≡ mid.seed) where
   done-if : (i r : ℕ) (b : Bool) → (i == n) ≡ b → i < n + 1 → Retains A (key_at old i r) (key_at new i r)
   done-if i r true same up = subst (λ (j : ℕ). Retains A (key_at old j r) (key_at new j r)) (sym (eqb-true i n same)) (subst (λ (o : Option ℕ). Retains A o (key_at new n r)) (tested.left n r (omega arith)) (there r))
   done-if i r false apart up =
@@ -167,6 +172,7 @@ module _ (A : ℕ → Bool → Type 0) (old mid new : TableView) (n : ℕ) (test
 
   pub more-tested : IsTested A old new (n + 1)
   more-tested = record {
+    seed = seed ∙ tested.seed;
     homes = λ r. homes r ∙ tested.homes r;
     len = len ∙ tested.len;
     done = λ i r up. done-if i r (i == n) refl up;
@@ -210,4 +216,4 @@ some-of t first n r old p within is some =
 
 -- the first bucket with a name is another one
 pub placed-from : (t : TableView) (first first' : ℕ) → IsPlaced t first → ((i r : ℕ) → i < first' → key_at t i r ≡ None) → IsPlaced t first'
-placed-from t first first' p before = record { shift = p.shift; home = p.home; empty = before }
+placed-from t first first' p before = record { few = p.few; home = p.home; empty = before }

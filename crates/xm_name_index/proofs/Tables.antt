@@ -56,7 +56,7 @@ module _ {S : Type 0} (m : IndexMap ℕ NamesOfMember S) (member i : ℕ) (s : S
   unchanged x' e = ap (set_value_at m.entries i) e ∙ set_same m.entries i member s.table s.at
 
   module _ (unique : IsUnique nat_eq m) (x' : NamesOfMember) where
-    after : (q : ℕ) → names_of (set_value_at m.entries i x') q ≡ (if q == member then Some x' else names_of m.entries q)
+    pub after : (q : ℕ) → names_of (set_value_at m.entries i x') q ≡ (if q == member then Some x' else names_of m.entries q)
     after q =
         (updates-with_value_at m i x' same_number unique member s.table s.at).0 q
         ∙ ap (λ (b : Bool). if b then Some x' else names_of m.entries q) (turned member q)

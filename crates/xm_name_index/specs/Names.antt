@@ -1,6 +1,8 @@
 -- The names of members: a member's own references, each with a key.
-use Rattle.std.specs.Prelude.{◌≡◌, ℕ, Bool, false, if◌then◌else◌, nat_eq, nat_lt, List, Option, Some, None, slice_get}
+use Rattle.std.specs.Prelude.{◌≡◌, ◌≢◌, ◌≤◌, ℕ, Bool, false, if◌then◌else◌, nat_eq, nat_lt, List, Option, Some, None, IfSome, length, position, slice_get}
 use Rattle.std.specs.Map as map
+use Rattle.xm_name_index.specs.declared.members.TheConstants.{NOWHERE}
+use Rattle.xm_name_index.specs.declared.seed.Seed.{Seed}
 use Rattle.xm_name_index.specs.Tables.{TableView, table_key}
 
 -- the keys of one member's references, in a table and, of those that found no place there, in a list, and for how many
@@ -40,6 +42,15 @@ pub record StandsAt (names : List (ℕ × NamesOfMember)) (member place : ℕ) :
   pub table : NamesOfMember
   pub at : slice_get names place ≡ Some (member, table)
   pub found : names_of names member ≡ Some table
+
+-- a place that is noted of a member is its own among those that have tables, which are fewer than `NOWHERE`
+pub record AreNoted (places members : List ℕ) : Type 0 where
+  pub few : length members ≤ NOWHERE
+  pub own : (member place : ℕ) → slice_get places member ≡ Some place → place ≢ NOWHERE → position (nat_eq member) members ≡ Some place
+
+-- the tables of all members hash by this seed
+abbrev pub HaveSeed : Seed → List (ℕ × NamesOfMember) → Type 0
+HaveSeed seed names = (member : ℕ) → IfSome (names_of names member) (λ own. own.table.seed ≡ seed)
 
 -- the key of the name of this member and reference
 unfoldable pub lookup : List (ℕ × NamesOfMember) → ℕ → ℕ → Option ℕ

@@ -106,12 +106,25 @@ impl Bucket {
         ensures keys { (r : ℕ) → key_in r self.new ≡ (if r == reference then None else key_in r self.old) }
     {
         let key = self.get(reference);
-        *self = self.retained(
-            &|slot: Slot| -> bool
-                ensures { result ≡ not (slot.reference == reference) }
-            { slot.reference != reference },
-        );
+        *self = self.without(reference);
         key
+    }
+
+    /// The names but that of a reference.
+    #[inline(always)]
+    fn without(&self, reference: u32) -> Bucket
+        ensures leaves { Leaves (λ slot stays. stays ≡ not (slot.reference == reference)) self.now result }
+        ensures apart { AreNamedApart self.now }
+    {
+        let [a, b, c, d] = self.slots;
+        Bucket {
+            slots: [
+                a.without(reference),
+                b.without(reference),
+                c.without(reference),
+                d.without(reference),
+            ],
+        }
     }
 
     /// The first slot that has a name.

@@ -1,8 +1,9 @@
 //! The tables of all members.
 #![tactic(auto, unfolding(crate::specs::Names::lookup, crate::specs::Names::reserved))]
 
-ghost use Rattle.std.specs.Prelude.{◌≡◌, ℕ, true, ◌+◌, ◌-◌, ◌<◌, ◌==◌, ◌&&◌, None, Some, IfNone, IfSome, IsTrue, OnErr, OnOk, if◌then◌else◌, slice_get};
-ghost use Rattle.xm_name_index.specs.Names.{Retains, StandsAt, key_of, lookup, names_of, reserved};
+ghost use Rattle.std.specs.Prelude.{◌≡◌, ℕ, List, true, ◌+◌, ◌-◌, ◌<◌, ◌==◌, ◌&&◌, None, Some, IfNone, IfSome, IsTrue, OnErr, OnOk, if◌then◌else◌, nat_eq, position, slice_get};
+ghost use Rattle.std.specs.Map.{keys_of};
+ghost use Rattle.xm_name_index.specs.Names.{Retains, AreNoted, StandsAt, key_of, lookup, names_of, reserved};
 
 use crate::member_names::MemberNames;
 use crate::seed::Seed;
@@ -10,27 +11,36 @@ use crate::storage::Storage;
 use indexmap::IndexMap;
 use std::alloc::Allocator;
 use std::marker::Model;
-use xm_memory::OutOfMemory;
+use xm_memory::{OutOfMemory, count_within};
 
 /// The members below this one are found without a hash. They are as many as a market has.
 const PLACED: usize = 1024;
+
+/// The place of no table: there are fewer of them.
+const NOWHERE: u32 = u32::MAX;
 
 /// The names of each member. Each that has had a name keeps its table.
 #[derive(Drop)]
 pub struct Members<A: Allocator> {
     members: IndexMap<u32, MemberNames<A>, Seed, A>,
-    // For each member below `PLACED`, where its table was put among `members`. A member that stands there isn't looked for
-    // by its hash.
-    places: Vec<usize, A>,
+    // For each member below `PLACED`, where its table is among `members`, which none leaves, or `NOWHERE`.
+    places: Vec<u32, A>,
 }
 
 impl<A: Allocator> Model for Members<A> {
     ghost use Rattle.std.specs.Prelude.{ℕ, List};
-    ghost use Rattle.xm_name_index.specs.Names.{NamesOfMember};
+    ghost use Rattle.std.specs.Map.{keys_of};
+    ghost use Rattle.indexmap.specs.IndexMap.{hasher_of};
+    ghost use Rattle.xm_name_index.specs.Names.{AreNoted, HaveSeed, NamesOfMember};
 
     ghost Value = { List (ℕ × NamesOfMember) };
 
     ghost view = { λ n. n.members.entries };
+
+    ghost invariant = { λ n. record {
+      noted : AreNoted n.places.items (keys_of n.members.entries);
+      seeded : HaveSeed (hasher_of n.members) n.members.entries;
+    } };
 }
 
 impl<A: Allocator + Copy> Members<A> {
@@ -66,21 +76,18 @@ impl<A: Allocator + Copy> Members<A> {
         ensures reserved { OnOk result ((m : ℕ) → reserved self.new m ≡ (if m == member then reserved self.old m + 1 else reserved self.old m)) }
         ensures err { OnErr result (self.new ≡ self.old) }
     {
-        let mut names = MemberNames::new(self.storage());
+        count_within(self.members.len() as u64, u64::from(NOWHERE) - 1)?;
+        let storage = Storage {
+            alloc: *self.members.allocator(),
+            seed: *self.members.hasher(),
+        };
+        let mut names = MemberNames::new(storage);
         names.reserve()?;
-        self.reserve_places()?;
+        reserve_places(&mut self.places)?;
         let place = self.members.len();
         self.members.insert(member, names)?;
         self.note(member, place);
         Ok(())
-    }
-
-    /// What the tables are made with.
-    fn storage(&self) -> Storage<A> {
-        Storage {
-            alloc: *self.members.allocator(),
-            seed: *self.members.hasher(),
-        }
     }
 }
 
@@ -92,22 +99,13 @@ impl<A: Allocator> Members<A> {
         self.members.len() == 0
     }
 
-    /// Makes room for the places.
-    fn reserve_places(&mut self) -> Result<(), OutOfMemory>
-        ensures { self.new ≡ self.old }
-    {
-        if self.places.is_empty() {
-            self.places.resize(PLACED, usize::MAX)?;
-        }
-        Ok(())
-    }
-
     /// Notes where the table of a member is, if there is room for it.
     fn note(&mut self, member: u32, place: usize)
+        requires { position (nat_eq member) (keys_of self.old) ≡ Some place }
         ensures { self.new ≡ self.old }
     {
         if let Some(known) = self.places.get_mut(member as usize) {
-            *known = place;
+            *known = place.min(NOWHERE as usize) as u32;
         }
     }
 
@@ -119,7 +117,7 @@ impl<A: Allocator> Members<A> {
     {
         match self.known_place(member) {
             Some(place) => Some(place),
-            None => self.members.get_index_of(&member),
+            None => self.place_by_hash(member),
         }
     }
 
@@ -128,9 +126,21 @@ impl<A: Allocator> Members<A> {
     fn known_place(&self, member: u32) -> Option<usize>
         ensures { IfSome result (StandsAt self.now member) }
     {
-        let place = *self.places.get(member as usize)?;
-        let (other, _names) = self.members.get_index(place)?;
-        if *other == member { Some(place) } else { None }
+        let place = *self.places.get(member as usize)? as usize;
+        if place < self.members.len() {
+            Some(place)
+        } else {
+            None
+        }
+    }
+
+    /// The same, by the member's hash.
+    #[inline(never)]
+    fn place_by_hash(&self, member: u32) -> Option<usize>
+        ensures some { IfSome result (StandsAt self.now member) }
+        ensures none { IfNone result (names_of self.now member ≡ None) }
+    {
+        self.members.get_index_of(&member)
     }
 
     /// Gives up what was reserved for one name of this member.
@@ -150,7 +160,7 @@ impl<A: Allocator> Members<A> {
     {
         let place = self.place(member)?;
         let (_member, names) = self.members.get_index(place)?;
-        names.get(reference)
+        names.get(*self.members.hasher(), reference)
     }
 
     /// Gives a name that is not there its key, in room that was reserved for its member.
@@ -161,10 +171,9 @@ impl<A: Allocator> Members<A> {
         ensures reserved { (m : ℕ) → reserved self.new m ≡ (if m == member then reserved self.old m - 1 else reserved self.old m) }
     {
         if let Some(place) = self.place(member) {
-            self.members
-                .get_index_mut(place)
-                .unwrap()
-                .insert(reference, key);
+            let seed = *self.members.hasher();
+            let names = self.members.get_index_mut(place).unwrap();
+            names.insert(seed, reference, key);
         }
     }
 
@@ -175,7 +184,11 @@ impl<A: Allocator> Members<A> {
         ensures reserved { (m : ℕ) → reserved self.new m ≡ reserved self.old m }
     {
         match self.place(member) {
-            Some(place) => self.members.get_index_mut(place).unwrap().remove(reference),
+            Some(place) => {
+                let seed = *self.members.hasher();
+                let names = self.members.get_index_mut(place).unwrap();
+                names.remove(seed, reference)
+            }
             None => None,
         }
     }
@@ -192,6 +205,7 @@ impl<A: Allocator> Members<A> {
                 ensures stays { result ≡ true }
                 ensures keys { (r : ℕ) → Retains (F.post passes.entry.now) (key_of r names.old) (key_of r names.new) }
                 ensures reserved { names.new.reserved ≡ names.old.reserved }
+                ensures seed { names.new.table.seed ≡ names.old.table.seed }
             {
                 names.retain(passes);
                 true
@@ -209,8 +223,23 @@ impl<A: Allocator> Members<A> {
         ensures reserved { (m : ℕ) → reserved self.new m ≡ reserved self.old m }
     {
         match self.place(member) {
-            Some(place) => self.members.get_index_mut(place).unwrap().pop(),
+            Some(place) => {
+                let seed = *self.members.hasher();
+                let names = self.members.get_index_mut(place).unwrap();
+                names.pop(seed)
+            }
             None => None,
         }
     }
+}
+
+/// Makes room for the places, where nothing is noted yet.
+fn reserve_places<A: Allocator>(places: &mut Vec<u32, A>) -> Result<(), OutOfMemory>
+    ensures { (members : List ℕ) → AreNoted places.old.items members → AreNoted places.new.items members }
+{
+    if !places.is_empty() {
+        return Ok(());
+    }
+    places.resize(PLACED, NOWHERE)?;
+    Ok(())
 }

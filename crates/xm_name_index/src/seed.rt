@@ -1,7 +1,7 @@
 //! The seed of a hash table.
-ghost use Rattle.std.specs.Prelude.{◌≡◌, ◌+◌, ◌*◌, ◌%◌, ◌^◌};
+ghost use Rattle.std.specs.Prelude.{◌≡◌, ◌≤◌, ◌+◌, ◌*◌, ◌%◌, ◌^◌};
 ghost use Rattle.std.specs.List.{fold};
-ghost use Rattle.xm_name_index.specs.Tables.{hash};
+ghost use Rattle.xm_name_index.specs.Tables.{hash, home_among};
 
 use std::hash::{BuildHasher, Hasher};
 use std::random::RandomSource;
@@ -46,6 +46,17 @@ impl Seed {
     {
         let sum = number.wrapping_mul(self.factor).wrapping_add(self.summand);
         (sum ^ (sum >> 32)).wrapping_mul(self.factor) >> 32
+    }
+}
+
+impl Seed {
+    /// The home of a number among so many buckets, which share the hashes in their order.
+    #[inline(always)]
+    pub(crate) fn home_among(&self, buckets: usize, number: u64) -> usize
+        requires { buckets ≤ 2 ^ 32 }
+        ensures { result ≡ home_among self.now buckets number }
+    {
+        ((self.hash(number) * buckets as u64) >> 32) as usize
     }
 }
 

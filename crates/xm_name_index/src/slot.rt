@@ -1,5 +1,5 @@
 //! One slot of a bucket.
-ghost use Rattle.std.specs.Prelude.{◌≡◌, true, if◌then◌else◌};
+ghost use Rattle.std.specs.Prelude.{◌≡◌, ◌==◌, true, not, if◌then◌else◌};
 ghost use Rattle.xm_name_index.specs.Buckets.{LeavesSlot, is_vacant, key_for};
 ghost use Rattle.xm_name_index.specs.declared.slot.TheConstants.{SLOTS};
 
@@ -51,6 +51,21 @@ impl Slot {
             self.key
         } else {
             VACANT
+        }
+    }
+
+    /// The slot, which loses its name where that has this reference.
+    #[inline(always)]
+    pub fn without(self, reference: u32) -> Slot
+        ensures { LeavesSlot (λ slot stays. stays ≡ not (slot.reference == reference)) self result }
+    {
+        Slot {
+            reference: self.reference,
+            key: if self.reference == reference {
+                VACANT
+            } else {
+                self.key
+            },
         }
     }
 

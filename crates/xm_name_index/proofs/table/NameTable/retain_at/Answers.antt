@@ -6,7 +6,7 @@ use Rattle.xm_name_index.proofs.table.NameTable.retain_at.Goals as goal
 
 pub invariant_of-self : goal.invariant_of-self
 invariant_of-self g c =
-    let t : TableView = record { buckets = c.self.inside.buckets.items; seed = c.self.inside.seed; shift = c.self.inside.shift } in
+    let t : TableView = record { buckets = c.self.inside.buckets.items; seed = c.self.inside.seed.value } in
     let A = goal.F-post g c.args.passes.now in
     let old = c.index.result.now in
     let within : c.args.index < length t.buckets = search rules in
@@ -15,7 +15,7 @@ invariant_of-self g c =
 
 pub returns-clause-there : goal.returns-clause-there
 returns-clause-there g c r =
-    let t : TableView = record { buckets = c.self.inside.buckets.items; seed = c.self.inside.seed; shift = c.self.inside.shift } in
+    let t : TableView = record { buckets = c.self.inside.buckets.items; seed = c.self.inside.seed.value } in
     let A = goal.F-post g c.args.passes.now in
     let old = c.index.result.now in
     let within : c.args.index < length t.buckets = search rules in
@@ -25,11 +25,11 @@ returns-clause-there g c r =
 
 pub returns-clause-others : goal.returns-clause-others
 returns-clause-others g c other r apart =
-    let t : TableView = record { buckets = c.self.inside.buckets.items; seed = c.self.inside.seed; shift = c.self.inside.shift } in
+    let t : TableView = record { buckets = c.self.inside.buckets.items; seed = c.self.inside.seed.value } in
     let within : c.args.index < length t.buckets = search rules in
     rw (← c.self.view_is) (kept-others t c.args.index c.retained.result within other r apart)
 
 pub returns-clause-homes : goal.returns-clause-homes
 returns-clause-homes g c r =
-    let t : TableView = record { buckets = c.self.inside.buckets.items; seed = c.self.inside.seed; shift = c.self.inside.shift } in
+    let t : TableView = record { buckets = c.self.inside.buckets.items; seed = c.self.inside.seed.value } in
     rw (← c.self.view_is) (same-home t c.args.index c.retained.result r)

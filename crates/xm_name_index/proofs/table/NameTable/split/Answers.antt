@@ -1,4 +1,4 @@
-use Rattle.std.proofs.Common.{rules, ◌≡◌, ◌+◌, ◌-◌, ◌++◌, ◌∷◌, [], List, length, subst, sym, ap, ◌∙◌, arith}
+use Rattle.std.proofs.Common.{rules, ◌≡◌, ◌+◌, ◌++◌, ◌∷◌, [], List, length, subst, sym, ap, ◌∙◌}
 use Rattle.xm_name_index.specs.Tables.{TableView}
 use Rattle.xm_name_index.specs.declared.slot.Slot.{Slot}
 use Rattle.xm_name_index.proofs.Splitting.{AreParts, more-parts, split-keys, split-placed}
@@ -6,27 +6,27 @@ use Rattle.xm_name_index.proofs.table.NameTable.split.Goals as goal
 
 pub loop-index-preserved : goal.loop-index-preserved
 loop-index-preserved g c =
-    let t : TableView = record { buckets = c.self.inside.buckets.items; seed = c.self.inside.seed; shift = c.self.inside.shift } in
+    let t : TableView = record { buckets = c.self.inside.buckets.items; seed = c.self.inside.seed.value } in
     let old = c.loop-index.buckets.items in
     let items : c.push_reserved-in-loop-index.new.self.items ≡ (old ++ c.part.result ∷ []) ++ c.part-in-loop-index.result ∷ [] =
     c.push_reserved-in-loop-index.ensures.items ∙ ap (λ (l : List (List Slot)). l ++ c.part-in-loop-index.result ∷ []) c.push_reserved.ensures.items in
     record {
-      parts = subst (λ (l : List (List Slot)). AreParts t (c.self.inside.shift - 1) l (c.loop-index.index + 1)) (sym items)
-          (more-parts t (c.self.inside.shift - 1) old c.loop-index.index c.part.result c.part-in-loop-index.result c.loop-index.invariant.parts (rw (← c.self.view_is) at c.part.ensures) (rw (← c.self.view_is) at c.part-in-loop-index.ensures));
+      parts = subst (λ (l : List (List Slot)). AreParts t l (c.loop-index.index + 1)) (sym items)
+          (more-parts t old c.loop-index.index c.part.result c.part-in-loop-index.result c.loop-index.invariant.parts (rw (← c.self.view_is) at c.part.ensures) (rw (← c.self.view_is) at c.part-in-loop-index.ensures));
       room = search rules;
     }
 
 pub invariant_of-self : goal.invariant_of-self
 invariant_of-self g c =
-    let t : TableView = record { buckets = c.self.inside.buckets.items; seed = c.self.inside.seed; shift = c.self.inside.shift } in
-    let some = rw (← c.self.view_is) at c.requires in
+    let t : TableView = record { buckets = c.self.inside.buckets.items; seed = c.self.inside.seed.value } in
+    let some = rw (← c.self.view_is) at c.requires.few in
     let all : c.loop-index.index ≡ length t.buckets = search rules in
-    split-placed t (c.self.inside.shift - 1) c.loop-index.buckets.items (omega arith) (subst (AreParts t (c.self.inside.shift - 1) c.loop-index.buckets.items) all c.loop-index.invariant.parts) (omega (arith, c.self.invariant.shift))
+    split-placed t c.loop-index.buckets.items (subst (AreParts t c.loop-index.buckets.items) all c.loop-index.invariant.parts) some
 
 pub returns-clause-keys : goal.returns-clause-keys
 returns-clause-keys g c r =
-    let t : TableView = record { buckets = c.self.inside.buckets.items; seed = c.self.inside.seed; shift = c.self.inside.shift } in
-    let some = rw (← c.self.view_is) at c.requires in
+    let t : TableView = record { buckets = c.self.inside.buckets.items; seed = c.self.inside.seed.value } in
+    let some = rw (← c.self.view_is) at c.requires.few in
     let all : c.loop-index.index ≡ length t.buckets = search rules in
     rw (← c.self.view_is)
-    (split-keys t (c.self.inside.shift - 1) c.loop-index.buckets.items (omega arith) (subst (AreParts t (c.self.inside.shift - 1) c.loop-index.buckets.items) all c.loop-index.invariant.parts) r)
+    (split-keys t c.loop-index.buckets.items (subst (AreParts t c.loop-index.buckets.items) all c.loop-index.invariant.parts) r)

@@ -5,6 +5,6 @@ use Rattle.xm_name_index.proofs.table.NameTable.split.Given as goal
 
 abbrev pub invariant-loop-index : goal.invariant-loop-index
 invariant-loop-index g l = record {
-  parts : AreParts (record { buckets = l.self-inside.buckets.items; seed = l.self-inside.seed; shift = l.self-inside.shift }) l.shift l.buckets.items l.index;
+  parts : AreParts (record { buckets = l.self-inside.buckets.items; seed = l.self-inside.seed.value }) l.buckets.items l.index;
   room : vec_capacity l.buckets ≡ 2 * l.len;
 }

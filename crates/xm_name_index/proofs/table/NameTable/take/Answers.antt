@@ -5,7 +5,7 @@ use Rattle.xm_name_index.proofs.table.NameTable.take.Goals as goal
 
 pub invariant_of-self : goal.invariant_of-self
 invariant_of-self g c =
-    let t : TableView = record { buckets = c.self.inside.buckets.items; seed = c.self.inside.seed; shift = c.self.inside.shift } in
+    let t : TableView = record { buckets = c.self.inside.buckets.items; seed = c.self.inside.seed.value } in
     let h = c.home-home.result in
     let within : h < length t.buckets = search rules in
     let at : home t c.args.reference ≡ h = search rules in
@@ -14,7 +14,7 @@ invariant_of-self g c =
 
 pub returns-then-home-len-clause-key : goal.returns-then-home-len-clause-key
 returns-then-home-len-clause-key g c =
-    let t : TableView = record { buckets = c.self.inside.buckets.items; seed = c.self.inside.seed; shift = c.self.inside.shift } in
+    let t : TableView = record { buckets = c.self.inside.buckets.items; seed = c.self.inside.seed.value } in
     let h = c.home-home.result in
     let within : h < length t.buckets = search rules in
     let at : home t c.args.reference ≡ h = search rules in
@@ -22,7 +22,7 @@ returns-then-home-len-clause-key g c =
 
 pub returns-then-home-len-clause-keys : goal.returns-then-home-len-clause-keys
 returns-then-home-len-clause-keys g c r =
-    let t : TableView = record { buckets = c.self.inside.buckets.items; seed = c.self.inside.seed; shift = c.self.inside.shift } in
+    let t : TableView = record { buckets = c.self.inside.buckets.items; seed = c.self.inside.seed.value } in
     let h = c.home-home.result in
     let within : h < length t.buckets = search rules in
     let at : home t c.args.reference ≡ h = search rules in
@@ -31,12 +31,12 @@ returns-then-home-len-clause-keys g c r =
 
 pub returns-else-home-len-clause-key : goal.returns-else-home-len-clause-key
 returns-else-home-len-clause-key g c =
-    let t : TableView = record { buckets = c.self.inside.buckets.items; seed = c.self.inside.seed; shift = c.self.inside.shift } in
+    let t : TableView = record { buckets = c.self.inside.buckets.items; seed = c.self.inside.seed.value } in
     let at : home t c.args.reference ≡ c.home-home.result = search rules in
     rw (← c.self.view_is) (sym (past-end t c.args.reference c.home-home.result at (search rules)))
 
 pub returns-else-home-len-clause-keys : goal.returns-else-home-len-clause-keys
 returns-else-home-len-clause-keys g c r =
-    let t : TableView = record { buckets = c.self.inside.buckets.items; seed = c.self.inside.seed; shift = c.self.inside.shift } in
+    let t : TableView = record { buckets = c.self.inside.buckets.items; seed = c.self.inside.seed.value } in
     let at : home t c.args.reference ≡ c.home-home.result = search rules in
     rw (← c.self.view_is) (none-taken t c.args.reference (past-end t c.args.reference c.home-home.result at (search rules)) r)
