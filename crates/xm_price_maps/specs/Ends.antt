@@ -24,13 +24,3 @@ higher_of (Some last) p = if nat_lt last p then p else last
 abbrev pub is_at : Option ℕ → ℕ → Bool
 is_at None p = false
 is_at (Some end) p = end == p
-
--- this end is above the price
-abbrev pub lies_above : Option ℕ → ℕ → Bool
-lies_above None p = false
-lies_above (Some end) p = nat_lt p end
-
--- this end is below the price
-abbrev pub lies_below : Option ℕ → ℕ → Bool
-lies_below None p = false
-lies_below (Some end) p = nat_lt end p

@@ -1,6 +1,6 @@
 //! A set that knows its ends.
 ghost use Rattle.std.specs.Prelude.{◌≡◌, ◌==◌, if◌then◌else◌, ℕ, ◌<◌, IfNone, IfSome, OnErr, OnOk, Ok, true, false};
-ghost use Rattle.xm_price_maps.specs.Ends.{higher_of, is_at, lies_above, lies_below, lower_of};
+ghost use Rattle.xm_price_maps.specs.Ends.{higher_of, is_at, lower_of};
 ghost use Rattle.xm_price_maps.specs.Set.{has, HasRoom, IsFirstPrice, IsLastPrice, IsNextAbove, IsNextBelow};
 
 use crate::marks::PRICES;
@@ -58,26 +58,6 @@ fn is_at(end: Option<u32>, price: u32) -> bool
     match end {
         None => false,
         Some(end) => end == price,
-    }
-}
-
-/// Whether this end is above a price.
-fn is_above(end: Option<u32>, price: u32) -> bool
-    ensures { result ≡ lies_above end price }
-{
-    match end {
-        None => false,
-        Some(end) => price < end,
-    }
-}
-
-/// Whether this end is below a price.
-fn is_below(end: Option<u32>, price: u32) -> bool
-    ensures { result ≡ lies_below end price }
-{
-    match end {
-        None => false,
-        Some(end) => end < price,
     }
 }
 
@@ -140,10 +120,9 @@ impl<A: Allocator + Copy> BoundedSet<A> {
         ensures some { IfSome result (IsNextAbove self.now price) }
         ensures none { IfNone result ((n : ℕ) → price < n → has self.now n ≡ false) }
     {
-        if is_above(self.last, price) {
-            self.prices.next_above(price)
-        } else {
-            None
+        match self.last {
+            Some(last) if price < last => self.prices.next_above(price),
+            _ => None,
         }
     }
 
@@ -153,10 +132,9 @@ impl<A: Allocator + Copy> BoundedSet<A> {
         ensures some { IfSome result (IsNextBelow self.now price) }
         ensures none { IfNone result ((n : ℕ) → n < price → has self.now n ≡ false) }
     {
-        if is_below(self.first, price) {
-            self.prices.next_below(price)
-        } else {
-            None
+        match self.first {
+            Some(first) if first < price => self.prices.next_below(price),
+            _ => None,
         }
     }
 

@@ -34,7 +34,7 @@ const WIDE_GROUPS: usize = 256;
 const PAGES: usize = 257;
 
 /// How many places a group has.
-#[derive(Clone, Copy, PartialEq, Eq, Debug)]
+#[derive(Clone, Copy)]
 pub enum GroupWidth {
     /// 16 places.
     Narrow,
