@@ -48,13 +48,13 @@ taken old now next a some is =
     }
 
 -- where none is left up to a number, a text has no record with that number
-pub ended-within : (text : List ℕ) (csv now : CsvLeft) (line : ℕ) → IsWithin text csv → records_of now ≡ drop (now.line - csv.line) (records_of csv) → csv.line ≤ now.line → now.line ≤ line → records_of now ≡ []
-    → drop (line - 1) (records_in text) ≡ []
-ended-within text csv now line within left onward up_to none =
+pub ended-within : (text : List ℕ) (first : ℕ) (csv now : CsvLeft) (line : ℕ) → IsWithin text first csv → records_of now ≡ drop (now.line - csv.line) (records_of csv) → csv.line ≤ now.line → now.line ≤ line → records_of now ≡ []
+    → drop (line - first) (records_in text) ≡ []
+ended-within text first csv now line within left onward up_to none =
     let begun = within.begun in
     let all = records_in text in
     let both = sym none ∙ left ∙ ap (drop (now.line - csv.line)) within.left in
     let size = ap length both in
-    let outer = length-drop (now.line - csv.line) (drop (csv.line - 1) all) in
-    let inner = length-drop (csv.line - 1) all in
-    drop_all (line - 1) all (omega (arith, size, outer, inner, begun, onward, up_to))
+    let outer = length-drop (now.line - csv.line) (drop (csv.line - first) all) in
+    let inner = length-drop (csv.line - first) all in
+    drop_all (line - first) all (omega (arith, size, outer, inner, begun, onward, up_to))

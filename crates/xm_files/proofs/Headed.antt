@@ -1,5 +1,5 @@
 -- The header of an order file.
-use Rattle.std.proofs.Common.{◌≡◌, ℕ, ◌≤◌, true, false, ◌==◌, List, [], ◌∷◌, length, Option, Some, None, Err, refl, ap, arith, sym, ◌∙◌}
+use Rattle.std.proofs.Common.{◌≡◌, ℕ, ◌+◌, ◌≤◌, true, false, ◌==◌, List, [], ◌∷◌, length, Option, Some, None, Err, refl, ap, arith, sym, ◌∙◌}
 use Rattle.std.proofs.lemmas.Bool.{and_left, and_parts}
 use Rattle.std.proofs.lemmas.Bool.Decides.{nat_tests}
 use Rattle.csv.specs.Reading.{default_config, records, strip_bom}
@@ -52,18 +52,18 @@ headed-shorter text more left header reads fed =
     omega (arith, shorter, size)
 
 -- records that are none, or begin with no header
-pub none-headed : (file : List (List (List ℕ))) → file ≡ [] → NoHeader file (fault_at 1 BadHeader)
-none-headed file none = λ names config rows. ap (rows_of_records names config rows) none
+pub none-headed : (first : ℕ) (file : List (List (List ℕ))) → file ≡ [] → NoHeader first file (fault_at first BadHeader)
+none-headed first file none = λ names config rows. ap (rows_of_records names config first rows) none
 
-pub not-headed : (file more : List (List (List ℕ))) (header : List (List ℕ)) → file ≡ header ∷ more → format_of header ≡ None → NoHeader file (fault_at 1 BadHeader)
-not-headed file more header first none = λ names config rows.
-    ap (rows_of_records names config rows) first ∙ ap (λ (format : Option OrderFormat). rows_under names config format rows more) none
+pub not-headed : (first : ℕ) (file more : List (List (List ℕ))) (header : List (List ℕ)) → file ≡ header ∷ more → format_of header ≡ None → NoHeader first file (fault_at first BadHeader)
+not-headed first file more header begins none = λ names config rows.
+    ap (rows_of_records names config first rows) begins ∙ ap (λ (format : Option OrderFormat). rows_under names config first format rows more) none
 
 -- behind the header come the rows of its format
-pub under-header : (names : NameLists) (config : SegmentConfig) (rows : List Row) (old new : RowsLeft) (format : OrderFormat) → old.format ≡ None → new.format ≡ Some format → new.line ≡ 2 → IsHeaded old.records format new.records
+pub under-header : (names : NameLists) (config : SegmentConfig) (rows : List Row) (old new : RowsLeft) (format : OrderFormat) → old.format ≡ None → new.format ≡ Some format → new.line ≡ old.line + 1 → IsHeaded old.records format new.records
     → rows_from names config old rows ≡ rows_from names config new rows
 under-header names config rows old new format unread known line headed =
     rw (unread, known, line, headed.first, headed.says) refl
 
-pub without-header : (names : NameLists) (config : SegmentConfig) (rows : List Row) (old : RowsLeft) (fault : FileFault) → old.format ≡ None → NoHeader old.records fault → rows_from names config old rows ≡ Err fault
+pub without-header : (names : NameLists) (config : SegmentConfig) (rows : List Row) (old : RowsLeft) (fault : FileFault) → old.format ≡ None → NoHeader old.line old.records fault → rows_from names config old rows ≡ Err fault
 without-header names config rows old fault unread none = rw unread (none names config rows)

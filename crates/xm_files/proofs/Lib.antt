@@ -29,6 +29,8 @@ mod PartsRead
 mod CsvParts
 mod Advances
 mod TextsOf
+pub mod FewRecords
+pub mod LaterFiles
 mod WideRecords
 pub mod WrittenNumbers
 pub mod WrittenLines

@@ -153,9 +153,9 @@ no-format text w =
     let second : is_header Second w.0.0 ≡ false = and_left (length w.0.0 == length (columns_of Second)) _ (other-length text w Second) in
     rw (first, second) refl
 
-pub wide-header : (text : List ℕ) → strip_bom text ≡ text → BeginsWide text → NoHeader (records_in text) (fault_at 1 BadHeader)
-wide-header text unmarked w =
-    not-headed (records_in text) (records_from default_config (length text) w.0.1 w.0.2) w.0.0 (ap (records default_config) unmarked ∙ wide-records text w.0 w.1) (no-format text w)
+pub wide-header : (text : List ℕ) → strip_bom text ≡ text → BeginsWide text → (first : ℕ) → NoHeader first (records_in text) (fault_at first BadHeader)
+wide-header text unmarked w first =
+    not-headed first (records_in text) (records_from default_config (length text) w.0.1 w.0.2) w.0.0 (ap (records default_config) unmarked ∙ wide-records text w.0 w.1) (no-format text w)
 
 -- that of a carry file neither
 pub wide-carry : (text : List ℕ) → strip_bom text ≡ text → BeginsWide text → NoCarryHeader (records_in text) (fault_at 1 BadHeader)

@@ -25,7 +25,7 @@ unfoldable pub earlier_rows : Earlier → List Row
 earlier_rows earlier = fold-Earlier (List Row) rows_after_batch earlier
 
 -- what isn't read yet of an order file: its records, the number of the first, and the file's format, which is known once its header is
--- read, the record with the number 1
+-- read, the first record
 pub record RowsLeft : Type 0 where
   pub format : Option OrderFormat
   pub records : List (List (List ℕ))

@@ -1,5 +1,5 @@
 -- The faults of files.
-use Rattle.std.specs.Prelude.{ℕ, Bool, true, false, Result, Ok, Err}
+use Rattle.std.specs.Prelude.{ℕ, ◌+◌, ◌-◌, ◌==◌, Bool, true, false, if◌then◌else◌, Result, Ok, Err}
 use Rattle.xm_files.specs.declared.file_faults.FileCause.{FileCause}
 use Rattle.xm_files.specs.declared.file_faults.FileCause.TheVariants.{ReadFailed, TooLong, OutOfMemory}
 use Rattle.xm_files.specs.declared.file_faults.FileFault.{FileFault}
@@ -24,6 +24,15 @@ is_from_outside _ = false
 -- a fault at a line
 abbrev pub fault_at : ℕ → FileCause → FileFault
 fault_at line cause = record { line = line; cause = cause }
+
+-- a fault of a file that so many records come before, by what it is alone: the number of its record counts on; line 0 is that of no
+-- record, and stays
+abbrev pub later_fault : ℕ → FileFault → FileFault
+later_fault before fault = if fault.line == 0 then fault else fault_at (before + fault.line) fault.cause
+
+-- a fault of a file that so many records come before, by the file's own number of its record; line 0, that of no record, stays
+abbrev pub own_fault : ℕ → FileFault → FileFault
+own_fault before fault = fault_at (fault.line - before) fault.cause
 
 -- the next step after one that may have a fault
 abbrev pub result_then : {A B : Type 0} → Result A FileFault → (A → Result B FileFault) → Result B FileFault

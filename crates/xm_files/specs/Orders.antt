@@ -1,7 +1,7 @@
 -- What an order file gives: its rows, or its first fault.
-use Rattle.std.specs.Prelude.{◌≡◌, ℕ, ◌+◌, true, not, if◌then◌else◌, nat_lt, ◌==◌, List, [], ◌∷◌, ◌++◌, length, Option, Some, None, option_map, Result, Ok, Err}
+use Rattle.std.specs.Prelude.{◌≡◌, ℕ, ◌+◌, true, not, if◌then◌else◌, nat_lt, ◌==◌, List, [], ◌∷◌, ◌++◌, length, map, Option, Some, None, option_map, Result, Ok, Err}
 use Rattle.csv.specs.Reading.{default_config, records, strip_bom}
-use Rattle.xm_files.specs.FileFaults.{fault_at, max_bytes, result_then}
+use Rattle.xm_files.specs.FileFaults.{fault_at, later_fault, max_bytes, result_then}
 use Rattle.xm_files.specs.Names.{NameLists}
 use Rattle.xm_files.specs.Rows.{columns_of, is_header, rows_of_entry, rows_of_record}
 use Rattle.xm_files.specs.declared.entries.RecordEntry.{RecordEntry}
@@ -16,9 +16,14 @@ use Rattle.xm_config.specs.declared.rows.Row.{Row}
 abbrev pub max_rows : ℕ
 max_rows = 1000000
 
--- no record of an order file that is read has a higher number: the header is 1, and each record has a byte at least
+-- the most records that may come before an order file: those of 255 files, each of a header and as many records as it may have rows
+abbrev pub max_before : ℕ
+max_before = 255000255
+
+-- no record of an order file that is read has a higher number: so many records come before its header at most, and each of its own has
+-- a byte at least
 abbrev pub max_lines : ℕ
-max_lines = 16777218
+max_lines = 271777473
 
 -- the records of a text: CSV with the usual marks, a byte order mark before it dropped
 abbrev pub records_in : List ℕ → List (List (List ℕ))
@@ -60,26 +65,39 @@ rows_after names config format line rows [] = Ok rows
 rows_after names config format line rows (fields ∷ more) =
     result_then (with_record names config format line rows fields) (λ sum. rows_after names config format (line + 1) sum more)
 
--- the same of the records behind a header, which says their format
-abbrev pub rows_under : NameLists → SegmentConfig → Option OrderFormat → List Row → List (List (List ℕ)) → Result (List Row) FileFault
-rows_under names config None rows records = Err (fault_at 1 BadHeader)
-rows_under names config (Some format) rows records = rows_after names config format 2 rows records
+-- the same of the records behind the header with this number, which says their format
+abbrev pub rows_under : NameLists → SegmentConfig → ℕ → Option OrderFormat → List Row → List (List (List ℕ)) → Result (List Row) FileFault
+rows_under names config first None rows records = Err (fault_at first BadHeader)
+rows_under names config first (Some format) rows records = rows_after names config format (first + 1) rows records
 
--- the same of all records of a file, of which the first is the header
-abbrev pub rows_of_records : NameLists → SegmentConfig → List Row → List (List (List ℕ)) → Result (List Row) FileFault
-rows_of_records names config rows [] = Err (fault_at 1 BadHeader)
-rows_of_records names config rows (header ∷ records) = rows_under names config (format_of header) rows records
+-- the same of all records of a file, of which the first is the header, with this number
+abbrev pub rows_of_records : NameLists → SegmentConfig → ℕ → List Row → List (List (List ℕ)) → Result (List Row) FileFault
+rows_of_records names config first rows [] = Err (fault_at first BadHeader)
+rows_of_records names config first rows (header ∷ records) = rows_under names config first (format_of header) rows records
 
--- whatever the names and the settings, a file with these records has this fault
-abbrev pub NoHeader : List (List (List ℕ)) → FileFault → Type 0
-NoHeader file fault = (names : NameLists) (config : SegmentConfig) (rows : List Row) → rows_of_records names config rows file ≡ Err fault
+-- whatever the names and the settings, a file with these records, whose header has this number, has this fault
+abbrev pub NoHeader : ℕ → List (List (List ℕ)) → FileFault → Type 0
+NoHeader first file fault = (names : NameLists) (config : SegmentConfig) (rows : List Row) → rows_of_records names config first rows file ≡ Err fault
 
 -- the rows of the records that are left of a file, of which the first has this number; their format isn't known where that is the header
 abbrev pub rows_behind : NameLists → SegmentConfig → Option OrderFormat → ℕ → List Row → List (List (List ℕ)) → Result (List Row) FileFault
-rows_behind names config None line rows records = rows_of_records names config rows records
+rows_behind names config None line rows records = rows_of_records names config line rows records
 rows_behind names config (Some format) line rows records = rows_after names config format line rows records
 
--- what the bytes of an order file give
+-- what the bytes of an order file give whose header has this number: its rows, or its first fault, with the numbers that count on from it
+abbrev pub orders_from : NameLists → SegmentConfig → ℕ → List ℕ → Result (List Row) FileFault
+orders_from names config first bytes =
+    if nat_lt max_bytes (length bytes) then Err (fault_at 0 TooLong) else rows_of_records names config first [] (records_in bytes)
+
+-- what the bytes of an order file give that is the only one, or the first: its header has the number 1
 abbrev pub orders_of : NameLists → SegmentConfig → List ℕ → Result (List Row) FileFault
-orders_of names config bytes =
-    if nat_lt max_bytes (length bytes) then Err (fault_at 0 TooLong) else rows_of_records names config [] (records_in bytes)
+orders_of names config bytes = orders_from names config 1 bytes
+
+-- a row of a file that so many records come before: the number of its record counts on
+abbrev pub later_row : ℕ → Row → Row
+later_row before row = record row { line = before + row.line }
+
+-- what a file gives that so many records come before, by what it gives alone: the same rows, or the same fault, whose numbers count on
+abbrev pub later_orders : ℕ → Result (List Row) FileFault → Result (List Row) FileFault
+later_orders before (Ok rows) = Ok (map (later_row before) rows)
+later_orders before (Err fault) = Err (later_fault before fault)

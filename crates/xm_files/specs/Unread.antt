@@ -67,7 +67,7 @@ abbrev pub left_of_either : Option CsvLeft → RowsLeft → RowsLeft
 left_of_either None text = text
 left_of_either (Some c) text = csv_left text.format c
 
--- CSV has yet to read the records of a text from some number on
-pub record IsWithin (text : List ℕ) (c : CsvLeft) : Type 0 where
-  pub begun : 1 ≤ c.line
-  pub left : with_ahead c.ahead c.behind ≡ drop (c.line - 1) (records_in text)
+-- CSV has yet to read the records of a text, of which the first has this number, from some number on
+pub record IsWithin (text : List ℕ) (first : ℕ) (c : CsvLeft) : Type 0 where
+  pub begun : first ≤ c.line
+  pub left : with_ahead c.ahead c.behind ≡ drop (c.line - first) (records_in text)

@@ -30,7 +30,7 @@ pub(crate) struct CsvRecords<'a> {
     // The record that was read last.
     row: ByteRecord,
     lookahead: Lookahead,
-    // The number of the next record, the header being 1.
+    // The number of the next record.
     line: u32,
 }
 

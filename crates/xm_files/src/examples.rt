@@ -3,11 +3,13 @@ ghost use Rattle.std.specs.Prelude.{◌≡◌, codes, map, [], ◌∷◌, Some, 
 ghost use Rattle.std.specs.List.{range_with_len};
 ghost use Rattle.xm_files.specs.Examples.{carry_record, carry_titles, change_record, entered_row, every_title, left_order, left_record, left_stop, left_stop_record, order_listed, order_record, phase_record, record_names, record_settings, round_rows, row_of, says, second_titles, record_with_text, with_ticks};
 ghost use Rattle.xm_files.specs.Carry.{empty_lists, lists_in, with_carry_record, with_lists, with_one_more};
-ghost use Rattle.xm_files.specs.Orders.{format_of, rows_of_records, with_record};
+ghost use Rattle.xm_files.specs.FileFaults.{own_fault};
+ghost use Rattle.xm_files.specs.Orders.{format_of, later_orders, rows_of_records, with_record};
+ghost use Rattle.xm_files.specs.RecordTexts.{record_at, text_in};
 ghost use Rattle.xm_files.specs.Rows.{by_column, columns_of, condition_in, field, is_header, kind_in, name_index, names_members_command, restriction_of, rows_of_record, side_named, title_of, validity_of, whole_of};
 ghost use Rattle.xm_files.specs.Segment.{are_distinct_texts, is_name};
 ghost use Rattle.xm_files.specs.Timetable.{ends_round, is_one_round, rounds_of, share_of};
-ghost use Rattle.xm_files.specs.declared.file_faults.FileCause.TheVariants.{BadField, BadHeader, DuplicateName, Syntax};
+ghost use Rattle.xm_files.specs.declared.file_faults.FileCause.TheVariants.{BadField, BadHeader, DuplicateName, Syntax, TooLong};
 ghost use Rattle.xm_files.specs.declared.columns.Column.TheVariants as column;
 ghost use Rattle.xm_files.specs.declared.entries.Word.TheVariants as word;
 ghost use Rattle.xm_files.specs.declared.order_format.OrderFormat.TheVariants.{First, Second, Carry};
@@ -151,11 +153,37 @@ pub fn numbers_of_records()
 
 /// The first record of a file is the header of a format, and the others are of that format.
 pub fn headers()
-    ensures none { rows_of_records record_names record_settings [] [] ≡ Err (record { line = 1; cause = BadHeader }) }
-    ensures no_header { rows_of_records record_names record_settings [] (phase_record (codes "open") (codes "*") ∷ []) ≡ Err (record { line = 1; cause = BadHeader }) }
-    ensures header { rows_of_records record_names record_settings [] (every_title ∷ []) ≡ Ok [] }
-    ensures first { rows_of_records record_names record_settings [] (every_title ∷ phase_record (codes "close") (codes "XYZ") ∷ []) ≡ Ok (row_of 0 StartClosing ∷ []) }
-    ensures second { rows_of_records record_names record_settings [] (second_titles ∷ record_with_text (phase_record (codes "close") (codes "XYZ")) [] ∷ []) ≡ Ok (row_of 0 StartClosing ∷ []) }
+    ensures none { rows_of_records record_names record_settings 1 [] [] ≡ Err (record { line = 1; cause = BadHeader }) }
+    ensures no_header { rows_of_records record_names record_settings 1 [] (phase_record (codes "open") (codes "*") ∷ []) ≡ Err (record { line = 1; cause = BadHeader }) }
+    ensures header { rows_of_records record_names record_settings 1 [] (every_title ∷ []) ≡ Ok [] }
+    ensures first { rows_of_records record_names record_settings 1 [] (every_title ∷ phase_record (codes "close") (codes "XYZ") ∷ []) ≡ Ok (row_of 0 StartClosing ∷ []) }
+    ensures second { rows_of_records record_names record_settings 1 [] (second_titles ∷ record_with_text (phase_record (codes "close") (codes "XYZ")) [] ∷ []) ≡ Ok (row_of 0 StartClosing ∷ []) }
+{}
+
+/// The numbers of a file whose header is the fifth record of all count on from there, and a fault has one of them. Its own number is that
+/// of the file alone, and a fault that no record has stays at line 0.
+pub fn later_files()
+    ensures rows { rows_of_records record_names record_settings 5 [] (every_title ∷ phase_record (codes "close") (codes "XYZ") ∷ phase_record (codes "uncross") (codes "UVW") ∷ []) ≡ Ok (record (row_of 0 StartClosing) { line = 6 } ∷ record (row_of 1 Uncross) { line = 7 } ∷ []) }
+    ensures no_header { rows_of_records record_names record_settings 5 [] (phase_record (codes "open") (codes "*") ∷ []) ≡ Err (record { line = 5; cause = BadHeader }) }
+    ensures none { rows_of_records record_names record_settings 5 [] [] ≡ Err (record { line = 5; cause = BadHeader }) }
+    ensures bad { rows_of_records record_names record_settings 5 [] (every_title ∷ phase_record (codes "begin") (codes "*") ∷ []) ≡ Err (record { line = 6; cause = BadField }) }
+    ensures own_header { own_fault 4 (record { line = 5; cause = BadHeader }) ≡ record { line = 1; cause = BadHeader } }
+    ensures own_record { own_fault 4 (record { line = 6; cause = BadField }) ≡ record { line = 2; cause = BadField } }
+    ensures own_none { own_fault 4 (record { line = 0; cause = TooLong }) ≡ record { line = 0; cause = TooLong } }
+    ensures later { later_orders 4 (Ok (row_of 0 StartClosing ∷ [])) ≡ Ok (record (row_of 0 StartClosing) { line = 6 } ∷ []) }
+    ensures later_fault { later_orders 4 (Err (record { line = 1; cause = BadHeader })) ≡ Err (record { line = 5; cause = BadHeader }) }
+    ensures later_none { later_orders 4 (Err (record { line = 0; cause = TooLong })) ≡ Err (record { line = 0; cause = TooLong }) }
+{}
+
+/// The record with a number, of a file whose header is the fifth record of all: the header, the record behind it, and none below the
+/// header or behind the last record.
+pub fn records_of_later_files()
+    ensures header { record_at 5 (second_titles ∷ record_with_text (phase_record (codes "close") (codes "XYZ")) (codes "note") ∷ []) 5 ≡ second_titles }
+    ensures behind { record_at 5 (second_titles ∷ record_with_text (phase_record (codes "close") (codes "XYZ")) (codes "note") ∷ []) 6 ≡ record_with_text (phase_record (codes "close") (codes "XYZ")) (codes "note") }
+    ensures below { record_at 5 (second_titles ∷ record_with_text (phase_record (codes "close") (codes "XYZ")) (codes "note") ∷ []) 4 ≡ [] }
+    ensures above { record_at 5 (second_titles ∷ record_with_text (phase_record (codes "close") (codes "XYZ")) (codes "note") ∷ []) 7 ≡ [] }
+    ensures text { text_in (record_with_text (phase_record (codes "close") (codes "XYZ")) (codes "note")) ≡ codes "note" }
+    ensures no_text { text_in [] ≡ [] }
 {}
 
 /// Rounds of members' rows and the phase rows after them, and what each of two workers works of them.

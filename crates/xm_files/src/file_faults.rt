@@ -40,9 +40,9 @@ pub enum FileCause {
 
 /// What is wrong with a file, and where.
 ///
-/// In an order file or a carry file `line` is the number of the record, the header being 1. In a segment file it is
-/// 0 for the whole text and the top keys, and k for the k-th security, counted from 1. It is 0 for
-/// `ReadFailed`, `TooLong` and `OutOfMemory`.
+/// In an order file or a carry file `line` is the number of the record, the header being 1; in an order file behind others the number
+/// counts on over the records of all. In a segment file it is 0 for the whole text and the top keys, and k for the k-th security,
+/// counted from 1. It is 0 for `ReadFailed`, `TooLong` and `OutOfMemory`.
 #[derive(Clone, Copy, PartialEq, Eq, Debug, Error)]
 #[error("line {line}: {cause:?}")]
 pub struct FileFault {

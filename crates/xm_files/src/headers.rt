@@ -1,5 +1,5 @@
 //! The header of an order file, which says the format of its records, and that of a carry file.
-ghost use Rattle.std.specs.Prelude.{◌≡◌, ◌≢◌, ◌+◌, ◌≤◌, length, None, IfOk, IfErr, IfSome, IsSome};
+ghost use Rattle.std.specs.Prelude.{◌≡◌, ◌≢◌, ℕ, ◌+◌, ◌≤◌, length, None, IfOk, IfErr, IfSome, IsSome};
 ghost use Rattle.std.specs.Bool.{OnTrue};
 ghost use Rattle.csv.specs.Reading.{strip_bom};
 ghost use Rattle.csv.specs.Records.{fields_of};
@@ -70,53 +70,62 @@ fn unmarked(text: &[u8]) -> Option<Marks<'_>>
 
 /// Sees that a text begins with a record that has more fields than any header.
 fn wide_header(text: &[u8]) -> Option<()>
-    ensures orders { IfSome result (λ _. NoHeader (records_in text.now) (record { line = 1; cause = FileCause.BadHeader })) }
+    ensures orders { IfSome result (λ _. (first : ℕ) → NoHeader first (records_in text.now) (record { line = first; cause = FileCause.BadHeader })) }
     ensures carry { IfSome result (λ _. NoCarryHeader (records_in text.now) (record { line = 1; cause = FileCause.BadHeader })) }
 {
     begin_wide(&mut unmarked(text)?)?;
     Some(())
 }
 
-/// Reads the first record of a text by CSV, which then waits, unless it is seen to have more fields than any header.
-fn csv_first_record<'a>(alloc: Global, text: &'a [u8]) -> Result<CsvRecords<'a>, FileFault>
-    requires { 1 + length text.now ≤ MAX_LINES }
+/// Reads the first record of a text, which has this number, by CSV, where it then waits, unless it is seen to have more fields than any
+/// header.
+fn csv_first_record<'a>(
+    alloc: Global,
+    text: &'a [u8],
+    first: u32,
+) -> Result<CsvRecords<'a>, FileFault>
+    requires counted { 1 ≤ first }
+    requires short { first + length text.now ≤ MAX_LINES }
     ensures records { IfOk result (λ csv. with_ahead csv.ahead csv.behind ≡ records_in text.now) }
     ensures waits { IfOk result (λ csv. IsSome csv.ahead) }
-    ensures line { IfOk result (λ csv. csv.line ≡ 1) }
-    ensures orders { IfErr result (λ fault. fault.cause ≢ FileCause.OutOfMemory tt → NoHeader (records_in text.now) fault) }
-    ensures carry { IfErr result (λ fault. fault.cause ≢ FileCause.OutOfMemory tt → NoCarryHeader (records_in text.now) fault) }
+    ensures line { IfOk result (λ csv. csv.line ≡ first) }
+    ensures orders { IfErr result (λ fault. fault.cause ≢ FileCause.OutOfMemory tt → NoHeader first (records_in text.now) fault) }
+    ensures carry { first ≡ 1 → IfErr result (λ fault. fault.cause ≢ FileCause.OutOfMemory tt → NoCarryHeader (records_in text.now) fault) }
     ensures memory { IfErr result (λ fault. OnTrue (is_from_outside fault.cause) (fault.line ≡ 0)) }
 {
     if wide_header(text).is_some() {
-        return Err(no_header());
+        return Err(no_header(first));
     }
-    let mut csv = CsvRecords::of(alloc, text, 1);
+    let mut csv = CsvRecords::of(alloc, text, first);
     match csv.look_ahead() {
         Ok(true) => Ok(csv),
-        Ok(false) => Err(no_header()),
+        Ok(false) => Err(no_header(first)),
         Err(wanting) => Err(FileFault::from(wanting)),
     }
 }
 
-/// Reads the header of a text by CSV, unless it is seen to have too many fields: its format, and the records behind it.
+/// Reads the header of a text, which has this number, by CSV, unless it is seen to have too many fields: its format, and the records
+/// behind it.
 #[inline(never)]
 pub(crate) fn csv_behind_header<'a>(
     alloc: Global,
     text: &'a [u8],
+    first: u32,
 ) -> Result<(OrderFormat, CsvRecords<'a>), FileFault>
-    requires { 1 + length text.now ≤ MAX_LINES }
+    requires counted { 1 ≤ first }
+    requires short { first + length text.now ≤ MAX_LINES }
     ensures headed { IfOk result (λ p. IsHeaded (records_in text.now) p.0 (csv_left None p.1).records) }
-    ensures line { IfOk result (λ p. (p.1.line ≡ 2) × (p.1.line ≤ MAX_LINES)) }
-    ensures err { IfErr result (λ fault. fault.cause ≢ FileCause.OutOfMemory tt → NoHeader (records_in text.now) fault) }
+    ensures line { IfOk result (λ p. (p.1.line ≡ first + 1) × (p.1.line ≤ MAX_LINES)) }
+    ensures err { IfErr result (λ fault. fault.cause ≢ FileCause.OutOfMemory tt → NoHeader first (records_in text.now) fault) }
     ensures memory { IfErr result (λ fault. OnTrue (is_from_outside fault.cause) (fault.line ≡ 0)) }
 {
-    let mut csv = csv_first_record(alloc, text)?;
+    let mut csv = csv_first_record(alloc, text, first)?;
     match format_of(csv.row()) {
         Some(format) => {
             csv.take();
             Ok((format, csv))
         }
-        None => Err(no_header()),
+        None => Err(no_header(first)),
     }
 }
 
@@ -132,21 +141,21 @@ pub(crate) fn csv_behind_carry_header<'a>(
     ensures err { IfErr result (λ fault. fault.cause ≢ FileCause.OutOfMemory tt → NoCarryHeader (records_in text.now) fault) }
     ensures memory { IfErr result (λ fault. OnTrue (is_from_outside fault.cause) (fault.line ≡ 0)) }
 {
-    let mut csv = csv_first_record(alloc, text)?;
+    let mut csv = csv_first_record(alloc, text, 1)?;
     if is_header(OrderFormat::Carry, csv.row()) {
         csv.take();
         Ok(csv)
     } else {
-        Err(no_header())
+        Err(no_header(1))
     }
 }
 
-/// The fault of a file whose first record is no header.
-fn no_header() -> FileFault
-    ensures { result ≡ record { line = 1; cause = FileCause.BadHeader } }
+/// The fault of a file whose first record, which has this number, is no header.
+fn no_header(first: u32) -> FileFault
+    ensures { result ≡ record { line = first; cause = FileCause.BadHeader } }
 {
     FileFault {
-        line: 1,
+        line: first,
         cause: FileCause::BadHeader,
     }
 }

@@ -42,8 +42,12 @@ pub const MAX_ROWS: usize = 1_000_000;
 /// How many rows are read at once where no part can be read beside others.
 const ROWS_ALONE: usize = 32_768;
 
+/// The most records that may come before an order file: those of 255 files, each of a header and as many records as it may have
+/// rows.
+pub const MAX_BEFORE: u32 = 255_000_255;
+
 /// The highest number that the next record of an order file may have.
-pub const MAX_LINES: u32 = 16_777_218;
+pub const MAX_LINES: u32 = 271_777_473;
 
 /// Reads an order file: its rows, for the members and the securities with these names.
 ///
@@ -68,7 +72,7 @@ pub fn read_rows<R: Read>(
     let bytes = read_orders(alloc, reader)?;
     let mut batch = Batch::new(alloc);
     let part = Part::Rows(MAX_ROWS + 1);
-    RowReader::of(bytes.as_slice()).read(alloc, &mut batch, part, names, config)?;
+    RowReader::of(bytes.as_slice(), 1).read(alloc, &mut batch, part, names, config)?;
     Ok(batch.into_rows())
 }
 
@@ -86,7 +90,7 @@ pub fn read_orders<R: Read>(alloc: Global, reader: &mut R) -> Result<Vec<u8>, Fi
 pub struct RowReader<'a> {
     // The whole text at first, and then what comes from the line feed before the next record on.
     left: &'a [u8],
-    // The number of the next record, the header being 1.
+    // The number of the next record, which is the header until that is read.
     line: u32,
     // The format of the records, once the header is read.
     format: Option<OrderFormat>,
@@ -109,7 +113,7 @@ impl<'a> Model for RowReader<'a> {
     ghost use Rattle.std.specs.Prelude.{◌≡◌, ◌+◌, ◌≤◌, length, None};
     ghost use Rattle.xm_files.specs.Batches.{RowsLeft, text_left};
     ghost use Rattle.xm_files.specs.FileFaults.{max_bytes};
-    ghost use Rattle.xm_files.specs.Orders.{max_lines};
+    ghost use Rattle.xm_files.specs.Orders.{max_before, max_lines};
     ghost use Rattle.xm_files.specs.Unread.{left_of_either};
 
     ghost Value = { RowsLeft };
@@ -118,21 +122,24 @@ impl<'a> Model for RowReader<'a> {
 
     ghost invariant = { λ r. record {
       begun : 1 ≤ r.line;
-      unread : r.format ≡ None → (r.csv ≡ None) × (r.line ≡ 1) × (length r.left.now ≤ max_bytes);
+      unread : r.format ≡ None → (r.csv ≡ None) × (r.line ≤ max_before + 1) × (length r.left.now ≤ max_bytes);
       short : r.line + length r.left.now ≤ max_lines;
       within : (left_of_either r.csv (text_left r.left.now r.format r.line)).line ≤ max_lines;
     } };
 }
 
 impl<'a> RowReader<'a> {
-    /// An order file of which nothing is read yet.
-    pub fn of(text: &'a [u8]) -> RowReader<'a>
-        requires { length text.now ≤ MAX_BYTES }
-        ensures { result ≡ text_left text.now None 1 }
+    /// An order file of which nothing is read yet, whose header has this number: 1 where no file comes before it, and else one more than
+    /// all files before it have records. The numbers of its records count on from there.
+    pub fn of(text: &'a [u8], first: u32) -> RowReader<'a>
+        requires short { length text.now ≤ MAX_BYTES }
+        requires counted { 1 ≤ first }
+        requires before { first ≤ MAX_BEFORE + 1 }
+        ensures { result ≡ text_left text.now None first }
     {
         RowReader {
             left: text,
-            line: 1,
+            line: first,
             format: None,
             csv: None,
         }
@@ -271,19 +278,18 @@ impl<'a> RowReader<'a> {
         requires { self.old.format ≡ None }
         ensures format { IfOk result (λ format. self.new.format ≡ Some format) }
         ensures headed { IfOk result (λ format. IsHeaded self.old.records format self.new.records) }
-        ensures line { OnOk result (self.new.line ≡ 2) }
-        ensures first { self.old.line ≡ 1 }
-        ensures err { IfErr result (λ fault. fault.cause ≢ FileCause.OutOfMemory tt → NoHeader self.old.records fault) }
+        ensures line { OnOk result (self.new.line ≡ self.old.line + 1) }
+        ensures err { IfErr result (λ fault. fault.cause ≢ FileCause.OutOfMemory tt → NoHeader self.old.line self.old.records fault) }
         ensures kept { OnErr result (self.new ≡ self.old) }
         ensures memory { IfErr result (λ fault. OnTrue (is_from_outside fault.cause) (fault.line ≡ 0)) }
     {
         if let Some((format, left)) = header_line(self.left) {
             self.left = left;
-            self.line = 2;
+            self.line += 1;
             self.format = Some(format);
             return Ok(format);
         }
-        match csv_behind_header(alloc, self.left) {
+        match csv_behind_header(alloc, self.left, self.line) {
             Ok((format, csv)) => {
                 self.csv = Some(csv);
                 self.format = Some(format);

@@ -1,5 +1,5 @@
 //! The free texts of the records of an order file.
-ghost use Rattle.std.specs.Prelude.{◌≡◌, ◌-◌, ◌≤◌, [], true, false, drop, length, None, IfOk, IsSome, Ok};
+ghost use Rattle.std.specs.Prelude.{◌≡◌, ◌+◌, ◌-◌, ◌≤◌, [], true, false, drop, length, None, IfOk, IfSome, IsSome, Ok};
 ghost use Rattle.csv.specs.Records.{fields_of};
 ghost use Rattle.xm_files.specs.Orders.{records_in};
 ghost use Rattle.xm_files.specs.RecordTexts.{have_texts, text_in};
@@ -10,20 +10,23 @@ use crate::columns::Column;
 use crate::csv_records::CsvRecords;
 use crate::headers::is_header;
 use crate::order_format::OrderFormat;
+use crate::orders::MAX_BEFORE;
 use crate::records::text_at;
 use csv::ByteRecord;
 use std::alloc::Global;
 use std::marker::Model;
 use xm_memory::OutOfMemory;
 
-/// The free texts of the records of an order file, which are read by the records' numbers. A clause sees the bytes of the file,
-/// and the text that was read last.
+/// The free texts of the records of an order file, which are read by the records' numbers. A clause sees the bytes of the file, the
+/// number of its header, and the text that was read last.
 ///
 /// Where numbers are asked for in their order, the file is read once, and of one that has no texts the header alone.
 #[derive(Drop)]
 pub struct RecordTexts<'a> {
     alloc: Global,
     bytes: &'a [u8],
+    // The number of the header.
+    first: u32,
     // The records from some one on.
     csv: CsvRecords<'a>,
     // Whether records have texts, once the header was read.
@@ -33,70 +36,60 @@ pub struct RecordTexts<'a> {
 }
 
 impl<'a> Model for RecordTexts<'a> {
-    ghost use Rattle.std.specs.Prelude.{◌≡◌, ◌≤◌, length, IfSome};
+    ghost use Rattle.std.specs.Prelude.{◌≡◌, ◌+◌, ◌≤◌, length, IfSome};
     ghost use Rattle.xm_files.specs.FileFaults.{max_bytes};
-    ghost use Rattle.xm_files.specs.Orders.{records_in};
+    ghost use Rattle.xm_files.specs.Orders.{max_before, records_in};
     ghost use Rattle.xm_files.specs.RecordTexts.{TextsRead, have_texts};
     ghost use Rattle.xm_files.specs.Unread.{IsWithin};
 
     ghost Value = { TextsRead };
 
-    ghost view = { λ t. record { orders = t.bytes.now; text = t.text.items } };
+    ghost view = { λ t. record { orders = t.bytes.now; first = t.first; text = t.text.items } };
 
     ghost invariant = { λ t. record {
       short : length t.bytes.now ≤ max_bytes;
-      csv : IsWithin t.bytes.now t.csv;
+      counted : 1 ≤ t.first;
+      before : t.first ≤ max_before + 1;
+      csv : IsWithin t.bytes.now t.first t.csv;
       header : IfSome t.told (λ told. told ≡ have_texts (records_in t.bytes.now));
     } };
 }
 
 impl<'a> RecordTexts<'a> {
-    ghost use Rattle.std.specs.Prelude.{◌≡◌, ◌≤◌, [], length, IfOk, OnOk};
-    ghost use Rattle.xm_files.specs.Orders.{records_in};
-    ghost use Rattle.xm_files.specs.RecordTexts.{have_texts, text_of_record};
+    ghost use Rattle.std.specs.Prelude.{◌≡◌, ◌+◌, ◌≤◌, [], length, OnOk};
+    ghost use Rattle.xm_files.specs.RecordTexts.{texts_in};
 
-    /// The texts of an order file of these bytes, of which none is read yet.
-    pub fn of(alloc: Global, bytes: &'a [u8]) -> RecordTexts<'a>
-        requires { length bytes.now ≤ MAX_BYTES }
-        ensures { result ≡ record { orders = bytes.now; text = [] } }
+    /// The texts of an order file of these bytes, whose header has this number, of which none is read yet.
+    pub fn of(alloc: Global, bytes: &'a [u8], first: u32) -> RecordTexts<'a>
+        requires short { length bytes.now ≤ MAX_BYTES }
+        requires counted { 1 ≤ first }
+        requires before { first ≤ MAX_BEFORE + 1 }
+        ensures { result ≡ record { orders = bytes.now; first = first; text = [] } }
     {
         RecordTexts {
             alloc,
             bytes,
-            csv: CsvRecords::of(alloc, bytes, 1),
+            first,
+            csv: CsvRecords::of(alloc, bytes, first),
             told: None,
             text: Vec::new(alloc),
         }
     }
 
-    /// Reads the text of the record with this number, the header being 1. It is empty where the file isn't of the second format,
-    /// or has no such record.
+    /// Reads the text of the record with this number. It is empty where the file isn't of the second format, or has no such record.
     pub fn read(&mut self, line: u32) -> Result<(), OutOfMemory>
-        ensures read { OnOk result (self.new ≡ record self.old { text = text_of_record self.old.orders line }) }
-        ensures orders { self.new.orders ≡ self.old.orders }
+        ensures read { OnOk result (self.new.text ≡ texts_in self.old line) }
+        ensures same { texts_in self.new ≡ texts_in self.old }
     {
         self.text.clear();
-        if !self.have_texts()? {
+        if line < self.first || !have_texts(&mut self.told, self.alloc, self.bytes)? {
             return Ok(());
         }
-        if !find(&mut self.csv, self.alloc, self.bytes, line.max(1))? {
+        if !find(&mut self.csv, self.alloc, self.bytes, self.first, line)? {
             return Ok(());
         }
         self.text.extend_from_slice(text_in(self.csv.row()))?;
         Ok(())
-    }
-
-    /// Whether records have texts, as the header says.
-    fn have_texts(&mut self) -> Result<bool, OutOfMemory>
-        ensures told { IfOk result (λ told. told ≡ have_texts (records_in self.old.orders)) }
-        ensures same { self.new ≡ self.old }
-    {
-        if let Some(told) = self.told {
-            return Ok(told);
-        }
-        let told = header_has_texts(self.alloc, self.bytes)?;
-        self.told = Some(told);
-        Ok(told)
     }
 
     /// The text that was read last.
@@ -107,41 +100,61 @@ impl<'a> RecordTexts<'a> {
     }
 }
 
-/// Goes to the record of a text with this number. Whether there is one, which then waits; where memory was wanting, the text is
-/// read from its begin on.
+/// Whether records of a file have texts, as its header says, which is read where that isn't known yet.
+fn have_texts(told: &mut Option<bool>, alloc: Global, bytes: &[u8]) -> Result<bool, OutOfMemory>
+    requires short { length bytes.now ≤ MAX_BYTES }
+    requires known { IfSome told.old (λ told. told ≡ have_texts (records_in bytes.now)) }
+    ensures told { IfOk result (λ told. told ≡ have_texts (records_in bytes.now)) }
+    ensures known { IfSome told.new (λ told. told ≡ have_texts (records_in bytes.now)) }
+{
+    if let Some(told) = *told {
+        return Ok(told);
+    }
+    let has = header_has_texts(alloc, bytes)?;
+    *told = Some(has);
+    Ok(has)
+}
+
+/// Goes to the record of a text with the number `line`, its first record having the number `first`. Whether there is one, which then
+/// waits; where memory was wanting, the text is read from its begin on.
 fn find<'a>(
     csv: &mut CsvRecords<'a>,
     alloc: Global,
     text: &'a [u8],
+    first: u32,
     line: u32,
 ) -> Result<bool, OutOfMemory>
     requires short { length text.now ≤ MAX_BYTES }
-    requires within { IsWithin text.now csv.old }
-    requires counted { 1 ≤ line }
-    ensures within { IsWithin text.now csv.new }
+    requires counted { 1 ≤ first }
+    requires before { first ≤ MAX_BEFORE + 1 }
+    requires within { IsWithin text.now first csv.old }
+    requires behind { first ≤ line }
+    ensures within { IsWithin text.now first csv.new }
     ensures waits { result ≡ Ok true → (csv.new.line ≡ line) × IsSome csv.new.ahead }
-    ensures none { result ≡ Ok false → drop (line - 1) (records_in text.now) ≡ [] }
+    ensures none { result ≡ Ok false → drop (line - first) (records_in text.now) ≡ [] }
 {
     if line < csv.line() {
-        begin(csv, alloc, text);
+        begin(csv, alloc, text, first);
     }
     match csv.advance(line) {
         Ok(found) => Ok(found),
         Err(wanting) => {
-            begin(csv, alloc, text);
+            begin(csv, alloc, text, first);
             Err(wanting)
         }
     }
 }
 
-/// Reads a text from its begin on. It stands by itself, since what CSV reads with is large, and a call that may need another of
-/// it would clear the room for one each time.
+/// Reads a text, whose first record has this number, from its begin on. It stands by itself, since what CSV reads with is large, and a
+/// call that may need another of it would clear the room for one each time.
 #[inline(never)]
-fn begin<'a>(csv: &mut CsvRecords<'a>, alloc: Global, text: &'a [u8])
-    requires { length text.now ≤ MAX_BYTES }
-    ensures { csv.new ≡ record { ahead = None; behind = records_in text.now; line = 1 } }
+fn begin<'a>(csv: &mut CsvRecords<'a>, alloc: Global, text: &'a [u8], first: u32)
+    requires short { length text.now ≤ MAX_BYTES }
+    requires counted { 1 ≤ first }
+    requires before { first ≤ MAX_BEFORE + 1 }
+    ensures { csv.new ≡ record { ahead = None; behind = records_in text.now; line = first } }
 {
-    *csv = CsvRecords::of(alloc, text, 1);
+    *csv = CsvRecords::of(alloc, text, first);
 }
 
 /// Whether records of a file have texts, as its header says. It stands by itself for the same reason.
