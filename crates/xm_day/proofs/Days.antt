@@ -32,19 +32,19 @@ use Rattle.xm_workers.specs.Workers.{IsShared}
 -- ---- rows that were taken
 
 -- desks have taken these rows, and have no statement yet
-pub record Took (days : SegmentConfig → List Row → Day → Type 0) (asked : AskedTexts) (names : NameLists) (orders : List ℕ) (config : SegmentConfig) (rows : List Row) (d : OpenDay) : Type 0 where
+pub record Took (days : SegmentConfig → List Row → Day → Type 0) (asked : AskedTexts) (names : NameLists) (texts : ℕ → List ℕ) (config : SegmentConfig) (rows : List Row) (d : OpenDay) : Type 0 where
   sound : segment_fault config ≡ None
   each : length d.desks.items ≡ length config.securities
   is_of_rows : days config rows (taken_day d)
-  answers_are : d.told.answers ≡ where_asked asked.answers (answers_text names config orders rows)
-  trades_are : d.told.trades ≡ where_asked asked.trades (trades_text names config orders rows)
+  answers_are : d.told.answers ≡ where_asked asked.answers (answers_text names config texts rows)
+  trades_are : d.told.trades ≡ where_asked asked.trades (trades_text names config texts rows)
   depth_is : d.told.depth ≡ where_asked asked.depth (feed_of names config rows)
 
-abbrev pub Takes : (SegmentConfig → List Row → Day → Type 0) → AskedTexts → NameLists → List ℕ → SegmentConfig → List Row → Result OpenDay DayFault → Type 0
-Takes days asked names orders config rows (Ok d) = Took days asked names orders config rows d
-Takes days asked names orders config rows (Err (Open fault)) = IsOpenFault config fault
-Takes days asked names orders config rows (Err (OutOfMemory _)) = segment_fault config ≡ None
-Takes days asked names orders config rows (Err fault) = ⊥
+abbrev pub Takes : (SegmentConfig → List Row → Day → Type 0) → AskedTexts → NameLists → (ℕ → List ℕ) → SegmentConfig → List Row → Result OpenDay DayFault → Type 0
+Takes days asked names texts config rows (Ok d) = Took days asked names texts config rows d
+Takes days asked names texts config rows (Err (Open fault)) = IsOpenFault config fault
+Takes days asked names texts config rows (Err (OutOfMemory _)) = segment_fault config ≡ None
+Takes days asked names texts config rows (Err fault) = ⊥
 
 pub in-order : (asked : AskedTexts) (config : SegmentConfig) (names : NameLists) (orders : Option (List ℕ)) (taken : Result OpenDay DayFault) → FileRun (RowsTaken asked names) config names orders taken
     → FileRun (Takes InFileOrder asked names) config names orders taken

@@ -8,6 +8,7 @@ use Rattle.xm_config.specs.Opening.{segment_fault}
 use Rattle.xm_files.specs.FileFaults.{is_from_outside}
 use Rattle.xm_files.specs.Names.{NameLists}
 use Rattle.xm_files.specs.Orders.{orders_of}
+use Rattle.xm_files.specs.RecordTexts.{text_of_record}
 use Rattle.xm_files.specs.Segment.{segment_of}
 use Rattle.xm_texts.specs.Statement.{statement}
 use Rattle.xm_config.specs.declared.config.SegmentConfig.{SegmentConfig}
@@ -52,11 +53,11 @@ pub record WritesPart (days : Day → Type 0) (names : NameLists) (old new : Opt
   pub is_of_rows : days day
   pub written : AppendsPrefix old new (statement_of names day)
 
--- what has taken the rows of an order file, or the fault of the file
-abbrev pub FileRun : {A : Type 0} → (List ℕ → SegmentConfig → List Row → Result A DayFault → Type 0) → SegmentConfig → NameLists → Option (List ℕ) → Result A DayFault → Type 0
+-- what has taken the rows of an order file, whose records have the texts of that file, or the fault of the file
+abbrev pub FileRun : {A : Type 0} → ((ℕ → List ℕ) → SegmentConfig → List Row → Result A DayFault → Type 0) → SegmentConfig → NameLists → Option (List ℕ) → Result A DayFault → Type 0
 FileRun taken config names orders (Err (Orders fault)) = IsFileFault (orders_of names config) orders fault
 FileRun taken config names orders result =
-    (bytes : List ℕ) × IfSome orders (λ known. bytes ≡ known) × (rows : List Row) × (orders_of names config bytes ≡ Ok rows) × taken bytes config rows result
+    (bytes : List ℕ) × IfSome orders (λ known. bytes ≡ known) × (rows : List Row) × (orders_of names config bytes ≡ Ok rows) × taken (text_of_record bytes) config rows result
 
 -- how the statement of one of these days is written
 abbrev pub StatementEnds : Option (List ℕ) → Option (List ℕ) → NameLists → (Day → Type 0) → Result DayReport DayFault → Type 0

@@ -61,23 +61,23 @@ OpeningRead segment carried (Err fault) = ⊥
 abbrev pub taken_day : OpenDay → Day
 taken_day d = day_of d.desks.items d.report.accepted d.report.refused
 
--- desks have taken these rows of an order file of these bytes: their day is one that the rows may have, the text is its statement, and
--- what is asked for was told of the rows
-pub record HasTakenRows (days : SegmentConfig → List Row → Day → Type 0) (asked : AskedTexts) (names : NameLists) (orders : List ℕ) (config : SegmentConfig) (rows : List Row) (t : TakenDay) : Type 0 where
+-- desks have taken these rows, whose records have these texts by their numbers: their day is one that the rows may have, the text is its
+-- statement, and what is asked for was told of the rows
+pub record HasTakenRows (days : SegmentConfig → List Row → Day → Type 0) (asked : AskedTexts) (names : NameLists) (texts : ℕ → List ℕ) (config : SegmentConfig) (rows : List Row) (t : TakenDay) : Type 0 where
   pub sound : segment_fault config ≡ None
   pub each : length t.day.desks.items ≡ length config.securities
   pub is_of_rows : days config rows (taken_day t.day)
   pub statement_is : t.statement ≡ statement_of names (taken_day t.day)
-  pub answers_are : t.day.told.answers ≡ where_asked asked.answers (answers_text names config orders rows)
-  pub trades_are : t.day.told.trades ≡ where_asked asked.trades (trades_text names config orders rows)
+  pub answers_are : t.day.told.answers ≡ where_asked asked.answers (answers_text names config texts rows)
+  pub trades_are : t.day.told.trades ≡ where_asked asked.trades (trades_text names config texts rows)
   pub depth_is : t.day.told.depth ≡ where_asked asked.depth (feed_of names config rows)
 
 -- the same, unless the segment can't be opened or memory is wanting
-abbrev pub TakesRows : (SegmentConfig → List Row → Day → Type 0) → AskedTexts → NameLists → List ℕ → SegmentConfig → List Row → Result TakenDay DayFault → Type 0
-TakesRows days asked names orders config rows (Ok t) = HasTakenRows days asked names orders config rows t
-TakesRows days asked names orders config rows (Err (Open fault)) = IsOpenFault config fault
-TakesRows days asked names orders config rows (Err (OutOfMemory _)) = segment_fault config ≡ None
-TakesRows days asked names orders config rows (Err fault) = ⊥
+abbrev pub TakesRows : (SegmentConfig → List Row → Day → Type 0) → AskedTexts → NameLists → (ℕ → List ℕ) → SegmentConfig → List Row → Result TakenDay DayFault → Type 0
+TakesRows days asked names texts config rows (Ok t) = HasTakenRows days asked names texts config rows t
+TakesRows days asked names texts config rows (Err (Open fault)) = IsOpenFault config fault
+TakesRows days asked names texts config rows (Err (OutOfMemory _)) = segment_fault config ≡ None
+TakesRows days asked names texts config rows (Err fault) = ⊥
 
 -- how the rows of an order file are taken, which may have a fault
 abbrev pub TakesFile : (SegmentConfig → List Row → Day → Type 0) → AskedTexts → SegmentConfig → NameLists → Option (List ℕ) → Result TakenDay DayFault → Type 0
@@ -88,9 +88,9 @@ abbrev pub nothing_asked : AskedTexts
 nothing_asked = record { answers = false; trades = false; depth = false }
 
 -- the rows that workers share are taken so, and nothing is told of them
-abbrev pub SharesRows : ℕ → List ℕ → SegmentConfig → List Row → Result OpenDay DayFault → Type 0
-SharesRows workers orders config rows (Ok d) = DesksEnd (IsShared workers) config rows (Ok d) × TellsNothing d.told
-SharesRows workers orders config rows (Err fault) = DesksEnd (IsShared workers) config rows (Err fault)
+abbrev pub SharesRows : ℕ → (ℕ → List ℕ) → SegmentConfig → List Row → Result OpenDay DayFault → Type 0
+SharesRows workers texts config rows (Ok d) = DesksEnd (IsShared workers) config rows (Ok d) × TellsNothing d.told
+SharesRows workers texts config rows (Err fault) = DesksEnd (IsShared workers) config rows (Err fault)
 
 -- the same desks and counts, and nothing is told of rows; or the same fault
 abbrev pub IsUntold : Result OpenDay DayFault → Result OpenDay DayFault → Type 0
@@ -123,13 +123,13 @@ hands_on Nothing = false
 hands_on WhatIsLeft = true
 
 -- the texts of a day that these rows may have, which are empty where they aren't asked for, and its counts
-pub record HasTexts (days : SegmentConfig → List Row → Day → Type 0) (asked : AskedTexts) (handing : HandsOn) (names : NameLists) (orders : List ℕ) (config : SegmentConfig) (rows : List Row) (t : DayTexts) : Type 0 where
+pub record HasTexts (days : SegmentConfig → List Row → Day → Type 0) (asked : AskedTexts) (handing : HandsOn) (names : NameLists) (texts : ℕ → List ℕ) (config : SegmentConfig) (rows : List Row) (t : DayTexts) : Type 0 where
   pub sound : segment_fault config ≡ None
   pub day : Day
   pub is_of_rows : days config rows day
   pub statement_is : t.statement ≡ statement_of names day
-  pub answers_are : t.answers.items ≡ text_where asked.answers (answers_text names config orders rows)
-  pub trades_are : t.trades.items ≡ text_where asked.trades (trades_text names config orders rows)
+  pub answers_are : t.answers.items ≡ text_where asked.answers (answers_text names config texts rows)
+  pub trades_are : t.trades.items ≡ text_where asked.trades (trades_text names config texts rows)
   pub depth_is : t.depth.items ≡ text_where asked.depth (depth_text names config rows)
   pub carry_is : t.carry.items ≡ text_where (hands_on handing) (carry_text_of names day)
   pub accepted : t.report.accepted ≡ day.accepted
@@ -151,11 +151,11 @@ HasTextsOf names handing (Ok t) (Err fault) = fault ≡ OutOfMemory tt
 HasTextsOf names handing (Ok t) (Ok texts) = AreTextsOf names handing t texts
 
 -- the texts of a day of these rows, unless the segment can't be opened or memory is wanting
-abbrev pub GivesTexts : (SegmentConfig → List Row → Day → Type 0) → AskedTexts → HandsOn → NameLists → List ℕ → SegmentConfig → List Row → Result DayTexts DayFault → Type 0
-GivesTexts days asked handing names orders config rows (Ok t) = HasTexts days asked handing names orders config rows t
-GivesTexts days asked handing names orders config rows (Err (Open fault)) = IsOpenFault config fault
-GivesTexts days asked handing names orders config rows (Err (OutOfMemory _)) = segment_fault config ≡ None
-GivesTexts days asked handing names orders config rows (Err fault) = ⊥
+abbrev pub GivesTexts : (SegmentConfig → List Row → Day → Type 0) → AskedTexts → HandsOn → NameLists → (ℕ → List ℕ) → SegmentConfig → List Row → Result DayTexts DayFault → Type 0
+GivesTexts days asked handing names texts config rows (Ok t) = HasTexts days asked handing names texts config rows t
+GivesTexts days asked handing names texts config rows (Err (Open fault)) = IsOpenFault config fault
+GivesTexts days asked handing names texts config rows (Err (OutOfMemory _)) = segment_fault config ≡ None
+GivesTexts days asked handing names texts config rows (Err fault) = ⊥
 
 -- what a day is whose segment is read, and whose rows may have such days: its texts, or its first fault: of the order file, of the
 -- opening, or want of memory

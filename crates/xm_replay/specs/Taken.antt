@@ -1,9 +1,9 @@
 -- What desks have taken of the rows of an order file, and what they told of them.
-use Rattle.std.specs.Prelude.{◌≡◌, ℕ, ◌+◌, List, [], length, sum_by, None, Some, Result, Ok, Err}
+use Rattle.std.specs.Prelude.{◌≡◌, ℕ, ◌+◌, List, [], ◌++◌, length, sum_by, None, Some, Result, Ok, Err}
 use Rattle.std.specs.Bool.{OnFalse, OnTrue}
 use Rattle.xm_config.specs.Day.{Day, LacksMemoryAt, day, day_of, opening_day}
 use Rattle.xm_texts.specs.Feeds.{feed_of}
-use Rattle.xm_texts.specs.RowAnswers.{answers_text, where_asked}
+use Rattle.xm_texts.specs.RowAnswers.{AgreeOn, answers_text, where_asked}
 use Rattle.xm_texts.specs.RowTrades.{trades_text}
 use Rattle.xm_replay.specs.declared.desks.OpenDay.{OpenDay}
 use Rattle.xm_replay.specs.declared.faults.DayFault.{DayFault}
@@ -30,30 +30,40 @@ abbrev pub IsOpenFault : SegmentConfig → OpenFault → Type 0
 IsOpenFault config (opening.OutOfMemory _) = segment_fault config ≡ None
 IsOpenFault config fault = segment_fault config ≡ Some fault
 
--- desks have taken these rows of an order file of these bytes in their order: their day is that of the rows, and so are the texts that are asked for
-pub record TookRows (asked : AskedTexts) (names : NameLists) (orders : List ℕ) (config : SegmentConfig) (rows : List Row) (d : OpenDay) : Type 0 where
+-- desks have taken these rows in their order, whose records have these texts by their numbers: their day is that of the rows, and so are the texts that are asked for
+pub record TookRows (asked : AskedTexts) (names : NameLists) (texts : ℕ → List ℕ) (config : SegmentConfig) (rows : List Row) (d : OpenDay) : Type 0 where
   pub sound : segment_fault config ≡ None
   pub each : length d.desks.items ≡ length config.securities
   pub day_is : day_of d.desks.items d.report.accepted d.report.refused ≡ day config rows
   pub all : d.report.accepted + d.report.refused ≡ length rows
-  pub answers_are : d.told.answers ≡ where_asked asked.answers (answers_text names config orders rows)
-  pub trades_are : d.told.trades ≡ where_asked asked.trades (trades_text names config orders rows)
+  pub answers_are : d.told.answers ≡ where_asked asked.answers (answers_text names config texts rows)
+  pub trades_are : d.told.trades ≡ where_asked asked.trades (trades_text names config texts rows)
   pub depth_is : d.told.depth ≡ where_asked asked.depth (feed_of names config rows)
 
 -- the desks have taken these rows, unless the segment can't be opened or memory is wanting, where nothing is asked for at one
 -- of them
-abbrev pub HasTaken : AskedTexts → NameLists → List ℕ → SegmentConfig → List Row → Result OpenDay DayFault → Type 0
-HasTaken asked names orders config rows (Ok d) = TookRows asked names orders config rows d
-HasTaken asked names orders config rows (Err (Open fault)) = IsOpenFault config fault
-HasTaken asked names orders config rows (Err (OutOfMemory _)) = (segment_fault config ≡ None) × (AsksNothing asked → LacksMemoryAt (opening_day config) rows)
-HasTaken asked names orders config rows (Err fault) = ⊥
+abbrev pub HasTaken : AskedTexts → NameLists → (ℕ → List ℕ) → SegmentConfig → List Row → Result OpenDay DayFault → Type 0
+HasTaken asked names texts config rows (Ok d) = TookRows asked names texts config rows d
+HasTaken asked names texts config rows (Err (Open fault)) = IsOpenFault config fault
+HasTaken asked names texts config rows (Err (OutOfMemory _)) = (segment_fault config ≡ None) × (AsksNothing asked → LacksMemoryAt (opening_day config) rows)
+HasTaken asked names texts config rows (Err fault) = ⊥
+
+-- how many rows desks have taken, where nothing went wrong
+abbrev pub taken_so_far : Result OpenDay DayFault → ℕ
+taken_so_far (Ok d) = d.report.accepted + d.report.refused
+taken_so_far (Err fault) = 0
+
+-- where desks had taken any rows, they have taken these as well, whose records have these texts
+abbrev pub TakesOn : NameLists → (ℕ → List ℕ) → Result OpenDay DayFault → SegmentConfig → List Row → Result OpenDay DayFault → Type 0
+TakesOn names own before config rows after =
+    (asked : AskedTexts) (texts : ℕ → List ℕ) (earlier : List Row) → AgreeOn texts own rows → HasTaken asked names texts config earlier before → HasTaken asked names texts config (earlier ++ rows) after
 
 -- the same, where it isn't told at which row memory is wanting
-abbrev pub RowsTaken : AskedTexts → NameLists → List ℕ → SegmentConfig → List Row → Result OpenDay DayFault → Type 0
-RowsTaken asked names orders config rows (Ok d) = TookRows asked names orders config rows d
-RowsTaken asked names orders config rows (Err (Open fault)) = IsOpenFault config fault
-RowsTaken asked names orders config rows (Err (OutOfMemory _)) = segment_fault config ≡ None
-RowsTaken asked names orders config rows (Err fault) = ⊥
+abbrev pub RowsTaken : AskedTexts → NameLists → (ℕ → List ℕ) → SegmentConfig → List Row → Result OpenDay DayFault → Type 0
+RowsTaken asked names texts config rows (Ok d) = TookRows asked names texts config rows d
+RowsTaken asked names texts config rows (Err (Open fault)) = IsOpenFault config fault
+RowsTaken asked names texts config rows (Err (OutOfMemory _)) = segment_fault config ≡ None
+RowsTaken asked names texts config rows (Err fault) = ⊥
 
 -- the desks are those of a day that the rows may have, unless the segment can't be opened or memory is wanting
 abbrev pub DesksEnd : (SegmentConfig → List Row → Day → Type 0) → SegmentConfig → List Row → Result OpenDay DayFault → Type 0

@@ -1,17 +1,15 @@
 //! The rows that the desks of a segment take.
-ghost use Rattle.std.specs.Prelude.{ℕ, ◌≡◌, ◌≢◌, ◌+◌, ◌<◌, ◌^◌, ◌++◌, List, [], Err, IfOk, OnErr, OnOk, length, map, option_map};
-ghost use Rattle.xm_replay.specs.Taken.{HasTaken};
+ghost use Rattle.std.specs.Prelude.{ℕ, ◌≡◌, ◌≢◌, ◌+◌, ◌<◌, ◌≤◌, ◌^◌, List, [], Err, IfOk, OnErr, OnOk, length, map, option_map};
+ghost use Rattle.xm_replay.specs.Taken.{HasTaken, TakesOn, taken_so_far};
 ghost use Rattle.xm_texts.specs.Asked.{TellsNothing};
 ghost use Rattle.xm_config.specs.Day.{Accepts, LacksMemoryAt, after_row, after_rows, counted, day_of, row_answer};
 ghost use Rattle.xm_texts.specs.Feeds.{feed_after};
 ghost use Rattle.xm_texts.specs.RowAnswers.{answers_of, with_text};
 ghost use Rattle.xm_texts.specs.RowTrades.{trades_of};
-ghost use Rattle.xm_texts.specs.declared.asked.AskedTexts.{AskedTexts};
 ghost use Rattle.xm_files.specs.Names.{NameLists};
-ghost use Rattle.xm_files.specs.RecordTexts.{text_of_record};
+ghost use Rattle.xm_files.specs.RecordTexts.{texts_in};
 ghost use Rattle.xm_rules.specs.Step.{replay};
 ghost use Rattle.xm_config.specs.declared.config.SegmentConfig.{SegmentConfig};
-ghost use Rattle.xm_config.specs.declared.rows.Row.{Row};
 
 use crate::faults::DayFault;
 use crate::report::DayReport;
@@ -38,7 +36,7 @@ pub(crate) fn open_day(
     config: &SegmentConfig,
     asked: AskedTexts,
 ) -> Result<OpenDay, DayFault>
-    ensures { (names : NameLists) (orders : List ℕ) → HasTaken asked names orders config.now [] result }
+    ensures { (names : NameLists) (texts : ℕ → List ℕ) → HasTaken asked names texts config.now [] result }
 {
     let desks = open_desks(storage, config)?;
     let told = Told::of(storage.alloc, desks.as_slice(), asked)?;
@@ -60,9 +58,10 @@ pub(crate) fn take_more(
     texts: &mut RecordTexts<'_>,
     rows: &[Row],
 ) -> Result<OpenDay, DayFault>
-    requires room { IfOk day (λ d. d.report.accepted + d.report.refused + length rows.now < 2 ^ 64) }
-    ensures taken { (asked : AskedTexts) (config : SegmentConfig) (taken : List Row) → HasTaken asked names.now texts.old.orders config taken day → HasTaken asked names.now texts.old.orders config (taken ++ rows.now) result }
-    ensures texts { texts.new.orders ≡ texts.old.orders }
+    requires room { taken_so_far day + length rows.now < 2 ^ 64 }
+    ensures taken { (config : SegmentConfig) → TakesOn names.now (texts_in texts.old) day config rows.now result }
+    ensures counted { taken_so_far result ≤ taken_so_far day + length rows.now }
+    ensures texts { texts_in texts.new ≡ texts_in texts.old }
 {
     let OpenDay {
         mut desks,
@@ -90,10 +89,10 @@ fn take_rows<A: Allocator + Copy>(
     requires room { before.accepted + before.refused + length rows.now < 2 ^ 64 }
     ensures taken { IfOk result (λ report. day_of desks.new report.accepted report.refused ≡ after_rows (day_of desks.old before.accepted before.refused) rows.now) }
     ensures counted { IfOk result (λ report. report.accepted + report.refused ≡ before.accepted + before.refused + length rows.now) }
-    ensures answers { OnOk result (told.new.answers ≡ with_text (answers_of names.now (text_of_record texts.old.orders) (day_of desks.old before.accepted before.refused) rows.now) told.old.answers) }
-    ensures trades { OnOk result (told.new.trades ≡ with_text (trades_of names.now (text_of_record texts.old.orders) (day_of desks.old before.accepted before.refused) rows.now) told.old.trades) }
+    ensures answers { OnOk result (told.new.answers ≡ with_text (answers_of names.now (texts_in texts.old) (day_of desks.old before.accepted before.refused) rows.now) told.old.answers) }
+    ensures trades { OnOk result (told.new.trades ≡ with_text (trades_of names.now (texts_in texts.old) (day_of desks.old before.accepted before.refused) rows.now) told.old.trades) }
     ensures depth { OnOk result (told.new.depth ≡ option_map (feed_after names.now (day_of desks.old before.accepted before.refused) rows.now) told.old.depth) }
-    ensures texts { texts.new.orders ≡ texts.old.orders }
+    ensures texts { texts_in texts.new ≡ texts_in texts.old }
     ensures memory { OnErr result (TellsNothing told.old → LacksMemoryAt (day_of desks.old before.accepted before.refused) rows.now) }
 {
     let mut report = before;

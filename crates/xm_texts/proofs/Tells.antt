@@ -1,9 +1,9 @@
 -- What a day tells of its rows.
 use Rattle.std.proofs.Common.{◌≡◌, ℕ, ◌+◌, ◌<◌, Bool, true, false, List, [], ◌∷◌, ◌++◌, append_assoc, length, map, slice_get, get_or, take, Option, Some, None, Result, Ok, Err, refl, ap, sym, ◌∙◌}
 use Rattle.std.proofs.lemmas.List.{append-nil, take_more}
+use Rattle.std.proofs.lemmas.List.Elements.{All-cons, All-head, All-nil, All-tail}
 use Rattle.xm_config.specs.Day.{Day as TheDay, after_row, after_rows, counted, day_of, opening_day, row_answer, told_behind, told_of_rows}
-use Rattle.xm_texts.specs.RowAnswers.{where_asked, with_text}
-use Rattle.xm_files.specs.RecordTexts.{text_of_record}
+use Rattle.xm_texts.specs.RowAnswers.{AgreeOn, where_asked, with_text}
 use Rattle.xm_rules.specs.State.{State}
 use Rattle.xm_rules.specs.Step.{Journal, replay}
 use Rattle.xm_rules.specs.declared.replies.Refusal.{Refusal}
@@ -17,6 +17,29 @@ told_of_rows-append told d [] more = refl
 told_of_rows-append told d (row ∷ rows) more =
     ap (λ (text : List ℕ). told d row ++ text) (told_of_rows-append told (after_row d row) rows more)
     ∙ sym (append_assoc (told d row) (told_of_rows told (after_row d row) rows) (told_of_rows told (after_rows (after_row d row) rows) more))
+
+abbrev HasSame : (ℕ → List ℕ) → (ℕ → List ℕ) → Row → Type 0
+HasSame texts own row = texts row.line ≡ own row.line
+
+-- what is told of some rows by texts that are the same for their records
+pub told-alike : (tells : Row → List ℕ → Result Reply Refusal → Option State → List ℕ) (texts own : ℕ → List ℕ) (d : TheDay) (rows : List Row) → AgreeOn texts own rows
+    → told_of_rows (told_behind tells own) d rows ≡ told_of_rows (told_behind tells texts) d rows
+told-alike tells texts own d [] same = refl
+told-alike tells texts own d (row ∷ rows) same =
+    let first = All-head (HasSame texts own) row rows same in
+    let rest = told-alike tells texts own (after_row d row) rows (All-tail (HasSame texts own) row rows same) in
+    λ i. tells row (sym first i) (row_answer d.states row) (slice_get (after_row d row).states row.security) ++ rest i
+
+pub agree-left : (texts own : ℕ → List ℕ) (rows more : List Row) → AgreeOn texts own (rows ++ more) → AgreeOn texts own rows
+agree-left texts own [] more both = All-nil (HasSame texts own)
+agree-left texts own (row ∷ rows) more both = All-cons (HasSame texts own) row rows (All-head (HasSame texts own) row (rows ++ more) both) (agree-left texts own rows more (All-tail (HasSame texts own) row (rows ++ more) both))
+
+pub agree-right : (texts own : ℕ → List ℕ) (rows more : List Row) → AgreeOn texts own (rows ++ more) → AgreeOn texts own more
+agree-right texts own [] more both = both
+agree-right texts own (row ∷ rows) more both = agree-right texts own rows more (All-tail (HasSame texts own) row (rows ++ more) both)
+
+pub agree-with_itself : (texts : ℕ → List ℕ) (rows : List Row) → AgreeOn texts texts rows
+agree-with_itself texts rows = λ k d within. refl
 
 joined-parts : (t a b c d e f : List ℕ) → (((((t ++ a) ++ b) ++ c) ++ d) ++ e) ++ f ≡ t ++ (((((a ++ b) ++ c) ++ d) ++ e) ++ f)
 joined-parts t a b c d e f = simp append_assoc
@@ -56,22 +79,22 @@ pub state-behind : (old new : List Journal) (a r : ℕ) (row : Row) (answer : Re
 state-behind old new a r row answer after = ap (λ (states : List State). slice_get states row.security) (ap (λ (d : TheDay). d.states) after ∙ counted-states (day_of new a r) answer)
 
 -- what is told of the rows so far, and of one more, which desks took and answered so
-pub told-more : (tells : Row → List ℕ → Result Reply Refusal → Option State → List ℕ) (bytes orders : List ℕ) (begun : TheDay) (old new : List Journal) (a r : ℕ) (answer : Result Reply Refusal) (rows : List Row) (i : ℕ) (row : Row) (first before after : Option (List ℕ))
-    → i < length rows → bytes ≡ orders → day_of old a r ≡ after_rows begun (take i rows) → answer ≡ row_answer (map replay old) (get_or rows i row) → after_row (day_of old a r) (get_or rows i row) ≡ counted (day_of new a r) answer
-    → before ≡ with_text (told_of_rows (told_behind tells (text_of_record orders)) begun (take i rows)) first
-    → after ≡ with_text (tells (get_or rows i row) (text_of_record bytes (get_or rows i row).line) answer (slice_get (map replay new) (get_or rows i row).security)) before
-    → after ≡ with_text (told_of_rows (told_behind tells (text_of_record orders)) begun (take (i + 1) rows)) first
-told-more tells bytes orders begun old new a r answer rows i row first before after within same is answers took so_far step =
+pub told-more : (tells : Row → List ℕ → Result Reply Refusal → Option State → List ℕ) (own texts : ℕ → List ℕ) (begun : TheDay) (old new : List Journal) (a r : ℕ) (answer : Result Reply Refusal) (rows : List Row) (i : ℕ) (row : Row) (first before after : Option (List ℕ))
+    → i < length rows → own ≡ texts → day_of old a r ≡ after_rows begun (take i rows) → answer ≡ row_answer (map replay old) (get_or rows i row) → after_row (day_of old a r) (get_or rows i row) ≡ counted (day_of new a r) answer
+    → before ≡ with_text (told_of_rows (told_behind tells texts) begun (take i rows)) first
+    → after ≡ with_text (tells (get_or rows i row) (own (get_or rows i row).line) answer (slice_get (map replay new) (get_or rows i row).security)) before
+    → after ≡ with_text (told_of_rows (told_behind tells texts) begun (take (i + 1) rows)) first
+told-more tells own texts begun old new a r answer rows i row first before after within same is answers took so_far step =
     let so = take i rows in
     let next = get_or rows i row in
-    let told = told_behind tells (text_of_record orders) in
-    let line = tells next (text_of_record orders next.line) answer (slice_get (map replay new) next.security) in
+    let told = told_behind tells texts in
+    let line = tells next (texts next.line) answer (slice_get (map replay new) next.security) in
     let behind : told (day_of old a r) next ≡ line =
-    ap (λ (x : Result Reply Refusal). tells next (text_of_record orders next.line) x (slice_get (after_row (day_of old a r) next).states next.security)) (sym answers)
-    ∙ ap (tells next (text_of_record orders next.line) answer) (state-behind old new a r next answer took) in
+    ap (λ (x : Result Reply Refusal). tells next (texts next.line) x (slice_get (after_row (day_of old a r) next).states next.security)) (sym answers)
+    ∙ ap (tells next (texts next.line) answer) (state-behind old new a r next answer took) in
     let one : told_of_rows told (after_rows begun so) (next ∷ []) ≡ line = append-nil (told (after_rows begun so) next) ∙ ap (λ (d : TheDay). told d next) (sym is) ∙ behind in
     step
-    ∙ ap (λ (text : List ℕ). with_text (tells next (text_of_record text next.line) answer (slice_get (map replay new) next.security)) before) same
+    ∙ ap (λ (by_number : ℕ → List ℕ). with_text (tells next (by_number next.line) answer (slice_get (map replay new) next.security)) before) same
     ∙ ap (with_text line) so_far
     ∙ with_text-append (told_of_rows told begun so) line first
     ∙ ap (λ (text : List ℕ). with_text text first) (ap (λ (text : List ℕ). told_of_rows told begun so ++ text) (sym one) ∙ sym (told_of_rows-append told begun so (next ∷ [])) ∙ ap (told_of_rows told begun) (sym (take_more rows i row within)))

@@ -1,5 +1,5 @@
 -- What a day tells of its rows: of each the answer, and the market after it.
-use Rattle.std.specs.Prelude.{codes, ℕ, pos, ◌*◌, ◌==◌, Bool, true, false, if◌then◌else◌, List, [], ◌∷◌, ◌++◌, Option, Some, None, Result, Ok, Err}
+use Rattle.std.specs.Prelude.{◌≡◌, All, codes, ℕ, pos, ◌*◌, ◌==◌, Bool, true, false, if◌then◌else◌, List, [], ◌∷◌, ◌++◌, Option, Some, None, Result, Ok, Err}
 use Rattle.std.specs.List.{flat_map, list_any}
 use Rattle.std.specs.Fmt.{decimal}
 use Rattle.xm_config.specs.Day.{Day, opening_day, told_behind, told_of_rows}
@@ -7,7 +7,6 @@ use Rattle.xm_texts.specs.Statement.{name_at, phase_word}
 use Rattle.xm_desk.specs.Shown.{level_in, units_left}
 use Rattle.xm_files.specs.Names.{NameLists}
 use Rattle.xm_files.specs.Plain.{is_mark}
-use Rattle.xm_files.specs.RecordTexts.{text_of_record}
 use Rattle.xm_rules.specs.Quote.{indicative}
 use Rattle.xm_rules.specs.State.{State, ref1, ref2}
 use Rattle.xm_rules.specs.declared.commands.Command.{Command}
@@ -113,9 +112,13 @@ abbrev pub answers_header : List ℕ
 answers_header =
     codes "record,security,answer,version,phase,first_trade,trades,quantity,money,rest,best_buy,buy_quantity,best_sell,sell_quantity,last,auction,indicative,indicative_quantity,text\n"
 
--- the answers to the rows of a day, which are those of an order file of these bytes
-abbrev pub answers_text : NameLists → SegmentConfig → List ℕ → List Row → List ℕ
-answers_text names config orders rows = answers_header ++ answers_of names (text_of_record orders) (opening_day config) rows
+-- the answers to the rows of a day, where records have these texts by their numbers
+abbrev pub answers_text : NameLists → SegmentConfig → (ℕ → List ℕ) → List Row → List ℕ
+answers_text names config texts rows = answers_header ++ answers_of names texts (opening_day config) rows
+
+-- the records of these rows have the same texts by both
+abbrev pub AgreeOn : (ℕ → List ℕ) → (ℕ → List ℕ) → List Row → Type 0
+AgreeOn texts own rows = All (λ (row : Row). texts row.line ≡ own row.line) rows
 
 -- a text that goes on with more, where it is asked for
 abbrev pub with_text : List ℕ → Option (List ℕ) → Option (List ℕ)

@@ -6,7 +6,6 @@ use Rattle.xm_config.specs.Day.{Day, opening_day, told_behind, told_of_rows}
 use Rattle.xm_texts.specs.RowAnswers.{record_line}
 use Rattle.xm_texts.specs.Statement.{name_at, trade_word}
 use Rattle.xm_files.specs.Names.{NameLists}
-use Rattle.xm_files.specs.RecordTexts.{text_of_record}
 use Rattle.xm_rules.specs.State.{State}
 use Rattle.xm_rules.specs.declared.orders.Trade.{Trade}
 use Rattle.xm_rules.specs.declared.replies.Refusal.{Refusal}
@@ -54,6 +53,6 @@ trades_of names texts d rows = told_of_rows (told_trades names texts) d rows
 abbrev pub trades_header : List ℕ
 trades_header = codes "record,security,sweep,kind,price,quantity,buyer,buy_reference,seller,sell_reference,text\n"
 
--- the trades of the rows of a day, which are those of an order file of these bytes
-abbrev pub trades_text : NameLists → SegmentConfig → List ℕ → List Row → List ℕ
-trades_text names config orders rows = trades_header ++ trades_of names (text_of_record orders) (opening_day config) rows
+-- the trades of the rows of a day, where records have these texts by their numbers
+abbrev pub trades_text : NameLists → SegmentConfig → (ℕ → List ℕ) → List Row → List ℕ
+trades_text names config texts rows = trades_header ++ trades_of names texts (opening_day config) rows

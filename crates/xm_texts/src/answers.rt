@@ -1,9 +1,9 @@
 //! The answers to rows, line by line.
 ghost use Rattle.std.specs.Prelude.{◌≡◌, ◌≢◌, ◌*◌, ◌++◌, map, option_map, pos, slice_get, true, IfOk, None, Some, OnErr, OnOk};
 ghost use Rattle.xm_texts.specs.RowAnswers.{answer_fields, answer_line, answer_word, answers_header, market_fields, number_field, priced_fields, reply_fields, rest_named, security_fields, unknown_fields, where_asked, with_text};
-ghost use Rattle.xm_files.specs.RecordTexts.{text_of_record};
 ghost use Rattle.xm_rules.specs.Step.{replay};
 ghost use Rattle.xm_ticks.specs.Writing.{money_text};
+ghost use Rattle.xm_files.specs.RecordTexts.{texts_in};
 
 use crate::fields::{
     push_comma, push_line_feed, push_money, push_number, push_price, push_text, security_name,
@@ -33,8 +33,8 @@ pub(crate) fn tell_answer<A: Allocator + Copy>(
     row: &Row,
     answer: &Result<Reply, Refusal>,
 ) -> Result<(), OutOfMemory>
-    ensures told { OnOk result (lines.new ≡ with_text (answer_line names.now row.now (text_of_record texts.old.orders row.now.line) answer.now (slice_get (map replay desks.now) row.now.security)) lines.old) }
-    ensures texts { texts.new.orders ≡ texts.old.orders }
+    ensures told { OnOk result (lines.new ≡ with_text (answer_line names.now row.now (texts_in texts.old row.now.line) answer.now (slice_get (map replay desks.now) row.now.security)) lines.old) }
+    ensures texts { texts_in texts.new ≡ texts_in texts.old }
     ensures asked { OnErr result (lines.old ≢ None) }
 {
     let Some(text) = &mut lines.text else {

@@ -5,8 +5,8 @@ ghost use Rattle.xm_texts.specs.Feeds.{next_feed};
 ghost use Rattle.xm_texts.specs.MarketDepth.{depth_header, market_depth};
 ghost use Rattle.xm_texts.specs.RowAnswers.{answer_line, answers_header, where_asked, with_text};
 ghost use Rattle.xm_texts.specs.RowTrades.{trade_lines, trades_header};
-ghost use Rattle.xm_files.specs.RecordTexts.{text_of_record};
 ghost use Rattle.xm_rules.specs.Step.{replay};
+ghost use Rattle.xm_files.specs.RecordTexts.{texts_in};
 
 use crate::answers::{self, tell_answer};
 use crate::asked::AskedTexts;
@@ -71,10 +71,10 @@ impl Told {
         row: &Row,
         answer: &Result<Reply, Refusal>,
     ) -> Result<(), OutOfMemory>
-        ensures answers { OnOk result (self.new.answers ≡ with_text (answer_line names.now row.now (text_of_record texts.old.orders row.now.line) answer.now (slice_get (map replay desks.now) row.now.security)) self.old.answers) }
-        ensures trades { OnOk result (self.new.trades ≡ with_text (trade_lines names.now row.now (text_of_record texts.old.orders row.now.line) answer.now (slice_get (map replay desks.now) row.now.security)) self.old.trades) }
+        ensures answers { OnOk result (self.new.answers ≡ with_text (answer_line names.now row.now (texts_in texts.old row.now.line) answer.now (slice_get (map replay desks.now) row.now.security)) self.old.answers) }
+        ensures trades { OnOk result (self.new.trades ≡ with_text (trade_lines names.now row.now (texts_in texts.old row.now.line) answer.now (slice_get (map replay desks.now) row.now.security)) self.old.trades) }
         ensures depth { OnOk result (self.new.depth ≡ option_map (next_feed names.now row.now (slice_get (map replay desks.now) row.now.security)) self.old.depth) }
-        ensures texts { texts.new.orders ≡ texts.old.orders }
+        ensures texts { texts_in texts.new ≡ texts_in texts.old }
         ensures asked { OnErr result (TellsNothing self.old → ⊥) }
     {
         tell_answer(&mut self.answers, names, texts, desks, row, answer)?;

@@ -3,9 +3,9 @@ ghost use Rattle.std.specs.Prelude.{◌≡◌, ◌≢◌, ◌++◌, true, map, o
 ghost use Rattle.std.specs.List.{flat_map};
 ghost use Rattle.xm_texts.specs.RowAnswers.{record_line, where_asked, with_text};
 ghost use Rattle.xm_texts.specs.RowTrades.{party_fields, trade_fields, trade_lines, trades_by, trades_from, trades_header};
-ghost use Rattle.xm_files.specs.RecordTexts.{text_of_record};
 ghost use Rattle.xm_rules.specs.Step.{replay};
 ghost use Rattle.xm_rules.specs.declared.orders.Trade.{Trade};
+ghost use Rattle.xm_files.specs.RecordTexts.{texts_in};
 
 use crate::fields::{
     member_name, push_comma, push_line_feed, push_number, push_price, push_text, security_name,
@@ -35,8 +35,8 @@ pub(crate) fn tell_trades<A: Allocator + Copy>(
     row: &Row,
     answer: &Result<Reply, Refusal>,
 ) -> Result<(), OutOfMemory>
-    ensures told { OnOk result (lines.new ≡ with_text (trade_lines names.now row.now (text_of_record texts.old.orders row.now.line) answer.now (slice_get (map replay desks.now) row.now.security)) lines.old) }
-    ensures texts { texts.new.orders ≡ texts.old.orders }
+    ensures told { OnOk result (lines.new ≡ with_text (trade_lines names.now row.now (texts_in texts.old row.now.line) answer.now (slice_get (map replay desks.now) row.now.security)) lines.old) }
+    ensures texts { texts_in texts.new ≡ texts_in texts.old }
     ensures asked { OnErr result (lines.old ≢ None) }
 {
     let Some(text) = &mut lines.text else {
@@ -60,8 +60,8 @@ fn push_trades<A: Allocator, B: Allocator + Copy>(
     row: &Row,
     answer: Result<Reply, Refusal>,
 ) -> Result<(), OutOfMemory>
-    ensures told { OnOk result (text.new.items ≡ text.old.items ++ trade_lines names.now row.now (text_of_record texts.old.orders row.now.line) answer (Some (replay desk.now))) }
-    ensures texts { texts.new.orders ≡ texts.old.orders }
+    ensures told { OnOk result (text.new.items ≡ text.old.items ++ trade_lines names.now row.now (texts_in texts.old row.now.line) answer (Some (replay desk.now))) }
+    ensures texts { texts_in texts.new ≡ texts_in texts.old }
 {
     let trades = trades_by(desk.trades(), &answer);
     if trades.is_empty() {

@@ -18,7 +18,6 @@ use Rattle.xm_texts.specs.RowAnswers.{answers_header, answers_text, told_of, whe
 use Rattle.xm_texts.specs.RowTrades.{told_trades, trades_header, trades_text}
 use Rattle.xm_texts.specs.declared.asked.AskedTexts.{AskedTexts}
 use Rattle.xm_files.specs.Names.{NameLists}
-use Rattle.xm_files.specs.RecordTexts.{text_of_record}
 use Rattle.xm_rules.specs.State.{State}
 use Rattle.xm_rules.specs.Step.{Journal, replay}
 use Rattle.xm_rules.specs.declared.replies.Refusal.{Refusal}
@@ -80,11 +79,11 @@ same-rows : (texts : ℕ → List ℕ) (rows : List Row) (s : LanesAndTexts) →
 same-rows texts [] s = record { long = refl; each = λ k d inside. (refl, refl) }
 same-rows texts (row ∷ rows) s = same-then s.lanes (told_row texts s row).lanes (fold (told_row texts) (told_row texts s row) rows).lanes (same-row texts row s) (same-rows texts rows (told_row texts s row))
 
-same-added : (orders : List ℕ) (rows : List Row) (old new : List LaneView) (before after : TextsView) → IsAdded orders rows old before new after → AreSame old new
-same-added orders rows old new before after is = subst (AreSame old) (sym (ap (λ (s : LanesAndTexts). s.lanes) is)) (go (tells_any before))
+same-added : (own : ℕ → List ℕ) (rows : List Row) (old new : List LaneView) (before after : TextsView) → IsAdded own rows old before new after → AreSame old new
+same-added own rows old new before after is = subst (AreSame old) (sym (ap (λ (s : LanesAndTexts). s.lanes) is)) (go (tells_any before))
   where
-    go : (b : Bool) → AreSame old (if b then fold (told_row (text_of_record orders)) (record { lanes = old; texts = before }) rows else record { lanes = old; texts = before }).lanes
-    go true = same-rows (text_of_record orders) rows (record { lanes = old; texts = before })
+    go : (b : Bool) → AreSame old (if b then fold (told_row own) (record { lanes = old; texts = before }) rows else record { lanes = old; texts = before }).lanes
+    go true = same-rows own rows (record { lanes = old; texts = before })
     go false = record { long = refl; each = λ k d inside. (refl, refl) }
 
 same-taken : (config : SegmentConfig) (rows : List Row) (mid new : List LaneView) → AreSame mid new → AreTaken config rows mid → AreTaken config rows new
@@ -106,15 +105,15 @@ text-more told header begun at taken rows is =
     ∙ ap (λ (text : List ℕ). header ++ text) (sym (told_of_rows-append told begun taken rows))
 
 -- rows more are taken and told
-pub took-more : (names : NameLists) (orders : List ℕ) (rows : List Row) (old mid new : List LaneView) (before after : MergedView) → length mid ≡ length old → TookOwnRows names 0 old rows mid
-    → (after.lacks_memory ≡ false → (before.lacks_memory ≡ false) × IsAdded orders rows mid before.texts new after.texts) → TookMore names orders rows old before new after
-took-more names orders rows old mid new before after kept took adds = record {
+pub took-more : (names : NameLists) (own : ℕ → List ℕ) (rows : List Row) (old mid new : List LaneView) (before after : MergedView) → length mid ≡ length old → TookOwnRows names 0 old rows mid
+    → (after.lacks_memory ≡ false → (before.lacks_memory ≡ false) × IsAdded own rows mid before.texts new after.texts) → TookMore names own rows old before new after
+took-more names own rows old mid new before after kept took adds = record {
   since_opening = λ config earlier so had.
       let added = adds had in
-      same-taken config (earlier ++ rows) mid new (same-added orders rows mid new before.texts after.texts added.1) (taken-more names config earlier rows old mid kept took (so added.0));
+      same-taken config (earlier ++ rows) mid new (same-added own rows mid new before.texts after.texts added.1) (taken-more names config earlier rows old mid kept took (so added.0));
   told = λ asked config earlier each so had all.
       let added = adds had in
-      let same = same-added orders rows mid new before.texts after.texts added.1 in
+      let same = same-added own rows mid new before.texts after.texts added.1 in
       let opened : List Journal = map (journal_of config) config.securities in
       let js = all_rows opened earlier in
       let long : length opened ≡ length old = length-map config.securities (journal_of config) ∙ sym each in
@@ -125,10 +124,10 @@ took-more names orders rows old mid new before after kept took adds = record {
       let stood : (k : ℕ) (d : LaneView) → k < length old → get_or js k d.journal ≡ own_rows k (get_or opened k d.journal) earlier = λ k d inside. rows-at opened earlier k d.journal (omega (arith, long, inside)) in
       let counts = counts-of opened earlier 0 0 in
       let at : day_of js counts.accepted counts.refused ≡ after_rows (opening_day config) earlier = sym counts.is ∙ ap (λ (d : TheDay). after_rows d earlier) (day-opened config opened refl) in
-      let added_to : IsAdded orders rows mid (texts_where asked (answers_text names config orders earlier) (trades_text names config orders earlier) (depth_text names config earlier)) new after.texts =
-      subst (λ (t : TextsView). IsAdded orders rows mid t new after.texts) was.texts_are added.1 in
+      let added_to : IsAdded own rows mid (texts_where asked (answers_text names config own earlier) (trades_text names config own earlier) (depth_text names config earlier)) new after.texts =
+      subst (λ (t : TextsView). IsAdded own rows mid t new after.texts) was.texts_are added.1 in
       let told =
-      told-added asked names (text_of_record orders) js counts.accepted counts.refused rows mid new (answers_text names config orders earlier) (trades_text names config orders earlier) (depth_text names config earlier) after.texts as_long
+      told-added asked names own js counts.accepted counts.refused rows mid new (answers_text names config own earlier) (trades_text names config own earlier) (depth_text names config earlier) after.texts as_long
       (λ k d inside.
       let within : k < length old = omega (arith, kept, inside) in
       let same_index : 0 + k ≡ k = omega arith in
@@ -143,15 +142,15 @@ took-more names orders rows old mid new before after kept took adds = record {
             ∙ ap (fresh_lane asked) (sym (fold-append (own_row k) (get_or opened k d.journal) earlier rows));
         texts_are =
             told.texts_are
-            ∙ texts-are asked _ _ _ _ _ _ (text-more (told_of names (text_of_record orders)) answers_header (opening_day config) _ earlier rows at)
-            (text-more (told_trades names (text_of_record orders)) trades_header (opening_day config) _ earlier rows at) (text-more (told_depth names) depth_header (opening_day config) _ earlier rows at);
+            ∙ texts-are asked _ _ _ _ _ _ (text-more (told_of names own) answers_header (opening_day config) _ earlier rows at)
+            (text-more (told_trades names own) trades_header (opening_day config) _ earlier rows at) (text-more (told_depth names) depth_header (opening_day config) _ earlier rows at);
       };
 }
 
 -- none are, where the segment was opened just now
-pub fresh-told : (asked : AskedTexts) (names : NameLists) (orders : List ℕ) (config : SegmentConfig) (lanes : List LaneView) (merged : MergedView) → lanes ≡ map (fresh_lane asked) (map (journal_of config) config.securities)
-    → (merged.lacks_memory ≡ false → merged.texts ≡ texts_where asked answers_header trades_header depth_header) → AreTold asked names orders config [] lanes merged
-fresh-told asked names orders config lanes merged fresh begun had all = record {
+pub fresh-told : (asked : AskedTexts) (names : NameLists) (own : ℕ → List ℕ) (config : SegmentConfig) (lanes : List LaneView) (merged : MergedView) → lanes ≡ map (fresh_lane asked) (map (journal_of config) config.securities)
+    → (merged.lacks_memory ≡ false → merged.texts ≡ texts_where asked answers_header trades_header depth_header) → AreTold asked names own config [] lanes merged
+fresh-told asked names own config lanes merged fresh begun had all = record {
   lanes_are = λ k d inside. fresh-at asked (map (journal_of config) config.securities) lanes k d fresh inside;
   texts_are = begun had ∙ texts-are asked _ _ _ _ _ _ (sym (append-nil answers_header)) (sym (append-nil trades_header)) (sym (append-nil depth_header));
 }

@@ -15,7 +15,6 @@ use Rattle.xm_files.specs.Batches.{RowsLeft, RowsRead, rows_from, rows_so_far}
 use Rattle.xm_files.specs.FileFaults.{is_from_outside}
 use Rattle.xm_files.specs.Names.{NameLists}
 use Rattle.xm_files.specs.Orders.{max_lines}
-use Rattle.xm_files.specs.RecordTexts.{text_of_record}
 use Rattle.xm_files.specs.declared.file_faults.FileCause.TheVariants.{OutOfMemory as NoMemory}
 use Rattle.xm_files.specs.declared.file_faults.FileFault.{FileFault}
 use Rattle.xm_rules.specs.Refusals.{refusal_of}
@@ -146,34 +145,34 @@ told_by_lane row text (Some l) s = record { lanes = slice_set s.lanes row.securi
 abbrev pub told_row : (ℕ → List ℕ) → LanesAndTexts → Row → LanesAndTexts
 told_row texts s row = told_by_lane row (texts row.line) (slice_get s.lanes row.security) s
 
--- texts go on with what securities keep of these rows of an order file of these bytes, one after another; nothing happens where no text is asked for
-abbrev pub IsAdded : List ℕ → List Row → List LaneView → TextsView → List LaneView → TextsView → Type 0
-IsAdded orders rows old before new after =
-    record { lanes = new; texts = after } ≡ if tells_any before then fold (told_row (text_of_record orders)) (record { lanes = old; texts = before }) rows else record { lanes = old; texts = before }
+-- texts go on with what securities keep of these rows, one after another, where records have these texts of their own by their numbers; nothing happens where no text is asked for
+abbrev pub IsAdded : (ℕ → List ℕ) → List Row → List LaneView → TextsView → List LaneView → TextsView → Type 0
+IsAdded own rows old before new after =
+    record { lanes = new; texts = after } ≡ if tells_any before then fold (told_row own) (record { lanes = old; texts = before }) rows else record { lanes = old; texts = before }
 
 -- the texts, and whether memory was wanting for them
 pub record MergedView : Type 0 where
   pub texts : TextsView
   pub lacks_memory : Bool
 
--- securities have told all of these rows of an order file of these bytes
-pub record ToldRows (asked : AskedTexts) (names : NameLists) (orders : List ℕ) (config : SegmentConfig) (rows : List Row) (lanes : List LaneView) (texts : TextsView) : Type 0 where
+-- securities have told all of these rows, where records have these texts of their own by their numbers
+pub record ToldRows (asked : AskedTexts) (names : NameLists) (own : ℕ → List ℕ) (config : SegmentConfig) (rows : List Row) (lanes : List LaneView) (texts : TextsView) : Type 0 where
   pub lanes_are : (k : ℕ) (d : LaneView) → k < length lanes → slice_index_or lanes k d ≡ fresh_lane asked (own_rows k (slice_index_or (map (journal_of config) config.securities) k d.journal) rows)
-  pub texts_are : texts ≡ texts_where asked (answers_text names config orders rows) (trades_text names config orders rows) (depth_text names config rows)
+  pub texts_are : texts ≡ texts_where asked (answers_text names config own rows) (trades_text names config own rows) (depth_text names config rows)
 
 -- the same, unless memory was wanting
-abbrev pub AreTold : AskedTexts → NameLists → List ℕ → SegmentConfig → List Row → List LaneView → MergedView → Type 0
-AreTold asked names orders config rows lanes merged =
-    merged.lacks_memory ≡ false → All (λ (l : LaneView). l.lacks_memory ≡ false) lanes → ToldRows asked names orders config rows lanes merged.texts
+abbrev pub AreTold : AskedTexts → NameLists → (ℕ → List ℕ) → SegmentConfig → List Row → List LaneView → MergedView → Type 0
+AreTold asked names own config rows lanes merged =
+    merged.lacks_memory ≡ false → All (λ (l : LaneView). l.lacks_memory ≡ false) lanes → ToldRows asked names own config rows lanes merged.texts
 
 -- they have taken these rows, unless memory was wanting for what they tell
 abbrev pub AreTakenSoFar : SegmentConfig → List Row → List LaneView → MergedView → Type 0
 AreTakenSoFar config rows lanes merged = merged.lacks_memory ≡ false → AreTaken config rows lanes
 
 -- they have taken their rows of these as well, and told of them
-pub record TookMore (names : NameLists) (orders : List ℕ) (rows : List Row) (old : List LaneView) (before : MergedView) (new : List LaneView) (after : MergedView) : Type 0 where
+pub record TookMore (names : NameLists) (own : ℕ → List ℕ) (rows : List Row) (old : List LaneView) (before : MergedView) (new : List LaneView) (after : MergedView) : Type 0 where
   pub since_opening : (config : SegmentConfig) (earlier : List Row) → AreTakenSoFar config earlier old before → AreTakenSoFar config (earlier ++ rows) new after
-  pub told : (asked : AskedTexts) (config : SegmentConfig) (earlier : List Row) → length old ≡ length config.securities → AreTold asked names orders config earlier old before → AreTold asked names orders config (earlier ++ rows) new after
+  pub told : (asked : AskedTexts) (config : SegmentConfig) (earlier : List Row) → length old ≡ length config.securities → AreTold asked names own config earlier old before → AreTold asked names own config (earlier ++ rows) new after
 
 -- the securities of a segment were opened, unless it can't be, or memory was wanting
 abbrev pub AreOpened : {A : Type 0} → (A → List LaneView) → AskedTexts → SegmentConfig → Result A DayFault → Type 0

@@ -5,6 +5,7 @@ ghost use Rattle.xm_replay.specs.Taken.{RowsRun, RowsTaken};
 ghost use Rattle.xm_threads.specs.Lanes.{AreOpened, AreTold, AreTakenSoFar, IsReadBehind, TookMore};
 ghost use Rattle.xm_texts.specs.declared.asked.AskedTexts.{AskedTexts};
 ghost use Rattle.xm_files.specs.Batches.{rows_so_far, text_left};
+ghost use Rattle.xm_files.specs.RecordTexts.{text_of_record, texts_in};
 ghost use Rattle.xm_files.specs.declared.bytes.TheConstants.{MAX_BYTES};
 
 use crate::lanes::{DeskLane, closed, open_lanes, take_apart};
@@ -31,10 +32,10 @@ pub fn run_apart<T: Threads + Sync>(
 ) -> Result<Result<OpenDay, DayFault>, FileFault>
     requires threads { 1 ≤ threads }
     requires short { length bytes.items ≤ MAX_BYTES }
-    ensures { RowsRun (RowsTaken asked names.now bytes.items) config.now names.now (text_left bytes.items None 1) result }
+    ensures { RowsRun (RowsTaken asked names.now (text_of_record bytes.items)) config.now names.now (text_left bytes.items None 1) result }
 {
-    let mut file = RowReader::of(bytes.as_slice());
-    let mut texts = RecordTexts::of(storage.alloc, bytes.as_slice());
+    let mut file = RowReader::of(bytes.as_slice(), 1);
+    let mut texts = RecordTexts::of(storage.alloc, bytes.as_slice(), 1);
     let opened = open_lanes(storage, config, asked);
     take_file(
         rt,
@@ -64,7 +65,7 @@ fn take_file<T: Threads + Sync>(
 ) -> Result<Result<OpenDay, DayFault>, FileFault>
     requires threads { 1 ≤ threads }
     requires opened { AreOpened (λ lanes. lanes.items) asked config.now opened }
-    ensures { RowsRun (RowsTaken asked names.now texts.old.orders) config.now names.now file.old result }
+    ensures { RowsRun (RowsTaken asked names.now (texts_in texts.old)) config.now names.now file.old result }
 {
     match opened {
         Ok(mut lanes) => {
@@ -120,7 +121,7 @@ fn take_batches<T: Threads + Sync>(
 ) -> Result<Batch, FileFault>
     requires { 1 ≤ threads }
     ensures { RowsRun (λ config rows batch. (rows_so_far batch ≡ rows) × (AreTakenSoFar config [] lanes.old merged.old → AreTakenSoFar config rows lanes.new merged.new)
-        × ((asked : AskedTexts) → length lanes.old ≡ length config.securities → AreTold asked names.now texts.old.orders config [] lanes.old merged.old → AreTold asked names.now texts.old.orders config rows lanes.new merged.new)) config.now names.now file.old result }
+        × ((asked : AskedTexts) → length lanes.old ≡ length config.securities → AreTold asked names.now (texts_in texts.old) config [] lanes.old merged.old → AreTold asked names.now (texts_in texts.old) config rows lanes.new merged.new)) config.now names.now file.old result }
 {
     let size = lanes.len().div_ceil(threads as usize).max(1);
     let mut parts = match FileParts::new(alloc, threads) {
@@ -165,8 +166,8 @@ fn take_beside<T: Threads + Sync>(
     file: &mut RowReader<'_>,
 ) -> Result<bool, FileFault>
     requires { 0 < size }
-    ensures taken { TookMore names.now texts.old.orders batch.now.rows lanes.old merged.old lanes.new merged.new }
-    ensures texts { texts.new.orders ≡ texts.old.orders }
+    ensures taken { TookMore names.now (texts_in texts.old) batch.now.rows lanes.old merged.old lanes.new merged.new }
+    ensures texts { texts_in texts.new ≡ texts_in texts.old }
     ensures read { IsReadBehind names.now config.now (rows_so_far batch.now) file.old file.new next.new result }
 {
     let (more, ()) = thread::join_mut(

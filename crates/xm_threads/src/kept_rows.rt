@@ -49,7 +49,7 @@ impl KeptRows {
     ghost use Rattle.xm_threads.specs.KeptRows.{behind_first};
     ghost use Rattle.xm_threads.specs.Lanes.{kept_row, with_first};
     ghost use Rattle.xm_texts.specs.MarketDepth.{change_lines};
-    ghost use Rattle.xm_files.specs.RecordTexts.{text_of_record};
+    ghost use Rattle.xm_files.specs.RecordTexts.{texts_in};
     ghost use Rattle.xm_rules.specs.Step.{replay};
 
     /// No row.
@@ -97,9 +97,9 @@ impl KeptRows {
         texts: &mut RecordTexts<'_>,
         row: &Row,
     ) -> Result<(), OutOfMemory>
-        ensures told { OnOk result (told.new ≡ with_first row.now (text_of_record texts.old.orders row.now.line) self.old told.old) }
+        ensures told { OnOk result (told.new ≡ with_first row.now (texts_in texts.old row.now.line) self.old told.old) }
         ensures left { OnOk result (self.new ≡ behind_first self.old) }
-        ensures texts { texts.new.orders ≡ texts.old.orders }
+        ensures texts { texts_in texts.new ≡ texts_in texts.old }
     {
         if self.told == self.rows.len() {
             return Ok(());

@@ -8,6 +8,7 @@ ghost use Rattle.xm_texts.specs.MarketDepth.{market_depth};
 ghost use Rattle.xm_texts.specs.declared.asked.AskedTexts.{AskedTexts};
 ghost use Rattle.xm_files.specs.Batches.{rows_so_far};
 ghost use Rattle.xm_files.specs.Names.{NameLists};
+ghost use Rattle.xm_files.specs.RecordTexts.{texts_in};
 ghost use Rattle.xm_files.specs.declared.orders.TheConstants.{MAX_ROWS};
 ghost use Rattle.xm_rules.specs.Step.{replay};
 ghost use Rattle.xm_config.specs.Opening.{segment_fault};
@@ -58,7 +59,7 @@ impl DeskLane {
     ghost use Rattle.std.specs.Prelude.{◌≡◌, IfOk, OnErr, OnOk, false, true};
     ghost use Rattle.xm_threads.specs.KeptRows.{behind_first};
     ghost use Rattle.xm_threads.specs.Lanes.{fresh_lane, lane_after, with_first};
-    ghost use Rattle.xm_files.specs.RecordTexts.{text_of_record};
+    ghost use Rattle.xm_files.specs.RecordTexts.{texts_in};
 
     /// A desk that takes rows, of which these texts are told.
     fn of(alloc: Global, desk: Desk<Global>, asked: AskedTexts) -> DeskLane
@@ -113,9 +114,9 @@ impl DeskLane {
         texts: &mut RecordTexts<'_>,
         row: &Row,
     ) -> Result<(), OutOfMemory>
-        ensures told { OnOk result (told.new ≡ with_first row.now (text_of_record texts.old.orders row.now.line) self.old.kept told.old) }
+        ensures told { OnOk result (told.new ≡ with_first row.now (texts_in texts.old row.now.line) self.old.kept told.old) }
         ensures left { OnOk result (self.new ≡ record self.old { kept = behind_first self.old.kept }) }
-        ensures texts { texts.new.orders ≡ texts.old.orders }
+        ensures texts { texts_in texts.new ≡ texts_in texts.old }
     {
         self.kept.tell(told, texts, row)
     }
@@ -204,8 +205,8 @@ pub(crate) fn take_apart<T: Threads + Sync>(
     merged: &mut Merged,
 )
     requires { 0 < size }
-    ensures more { TookMore names.now texts.old.orders batch.now.rows lanes.old merged.old lanes.new merged.new }
-    ensures texts { texts.new.orders ≡ texts.old.orders }
+    ensures more { TookMore names.now (texts_in texts.old) batch.now.rows lanes.old merged.old lanes.new merged.new }
+    ensures texts { texts_in texts.new ≡ texts_in texts.old }
 {
     let rows = batch.rows();
     take_parts(rt, size, names, rows, lanes);
@@ -265,7 +266,7 @@ pub(crate) fn closed(
 ) -> Result<OpenDay, DayFault>
     requires sound { segment_fault config.now ≡ None }
     requires taken { AreTakenSoFar config.now (rows_so_far batch.now) lanes.items merged }
-    ensures { (asked : AskedTexts) (names : NameLists) (orders : List ℕ) → AreTold asked names orders config.now (rows_so_far batch.now) lanes.items merged → RowsTaken asked names orders config.now (rows_so_far batch.now) result }
+    ensures { (asked : AskedTexts) (names : NameLists) (texts : ℕ → List ℕ) → AreTold asked names texts config.now (rows_so_far batch.now) lanes.items merged → RowsTaken asked names texts config.now (rows_so_far batch.now) result }
 {
     let rows = batch.total() as u64;
     let desks = into_desks(lanes)?;

@@ -1,7 +1,7 @@
 //! What the securities of a segment tell of their rows, in the order of the rows.
 ghost use Rattle.std.specs.Prelude.{◌≡◌, OnOk};
 ghost use Rattle.xm_threads.specs.Lanes.{IsAdded, told_row};
-ghost use Rattle.xm_files.specs.RecordTexts.{text_of_record};
+ghost use Rattle.xm_files.specs.RecordTexts.{texts_in};
 
 use crate::lanes::DeskLane;
 use crate::row_texts::RowTexts;
@@ -36,6 +36,7 @@ impl Merged {
     ghost use Rattle.xm_texts.specs.MarketDepth.{depth_header, market_depth};
     ghost use Rattle.xm_texts.specs.RowAnswers.{answers_header};
     ghost use Rattle.xm_texts.specs.RowTrades.{trades_header};
+    ghost use Rattle.xm_files.specs.RecordTexts.{texts_in};
     ghost use Rattle.xm_rules.specs.Step.{replay};
 
     /// What is told of no row: the headers of the texts that are asked for.
@@ -56,8 +57,8 @@ impl Merged {
 
     /// Adds what securities are to tell of rows that they have taken. The texts are those of the file of the rows.
     pub(crate) fn add(&mut self, texts: &mut RecordTexts<'_>, rows: &[Row], lanes: &mut [DeskLane])
-        ensures added { self.new.lacks_memory ≡ false → (self.old.lacks_memory ≡ false) × IsAdded texts.old.orders rows.now lanes.old self.old.texts lanes.new self.new.texts }
-        ensures texts { texts.new.orders ≡ texts.old.orders }
+        ensures added { self.new.lacks_memory ≡ false → (self.old.lacks_memory ≡ false) × IsAdded (texts_in texts.old) rows.now lanes.old self.old.texts lanes.new self.new.texts }
+        ensures texts { texts_in texts.new ≡ texts_in texts.old }
     {
         if self.wanting.is_none() {
             self.wanting = tell_rows(&mut self.told, texts, rows, lanes).err();
@@ -86,8 +87,8 @@ fn tell_rows(
     rows: &[Row],
     lanes: &mut [DeskLane],
 ) -> Result<(), OutOfMemory>
-    ensures added { OnOk result (IsAdded texts.old.orders rows.now lanes.old told.old lanes.new told.new) }
-    ensures texts { texts.new.orders ≡ texts.old.orders }
+    ensures added { OnOk result (IsAdded (texts_in texts.old) rows.now lanes.old told.old lanes.new told.new) }
+    ensures texts { texts_in texts.new ≡ texts_in texts.old }
 {
     if !told.tells_any() {
         return Ok(());
@@ -105,8 +106,8 @@ fn tell_row(
     row: &Row,
     lanes: &mut [DeskLane],
 ) -> Result<(), OutOfMemory>
-    ensures added { OnOk result (record { lanes = lanes.new; texts = told.new } ≡ told_row (text_of_record texts.old.orders) (record { lanes = lanes.old; texts = told.old }) row.now) }
-    ensures texts { texts.new.orders ≡ texts.old.orders }
+    ensures added { OnOk result (record { lanes = lanes.new; texts = told.new } ≡ told_row (texts_in texts.old) (record { lanes = lanes.old; texts = told.old }) row.now) }
+    ensures texts { texts_in texts.new ≡ texts_in texts.old }
 {
     let index = row.security as usize;
     if index < lanes.len() {

@@ -41,7 +41,7 @@ impl RowTexts {
     ghost use Rattle.xm_texts.specs.MarketDepth.{depth_header, market_depth};
     ghost use Rattle.xm_texts.specs.RowAnswers.{answers_header, record_line, with_text};
     ghost use Rattle.xm_texts.specs.RowTrades.{trades_header};
-    ghost use Rattle.xm_files.specs.RecordTexts.{text_of_record};
+    ghost use Rattle.xm_files.specs.RecordTexts.{texts_in};
     ghost use Rattle.xm_rules.specs.Step.{replay};
 
     /// None is asked for.
@@ -80,8 +80,8 @@ impl RowTexts {
         row: &Row,
         fields: &[u8],
     ) -> Result<(), OutOfMemory>
-        ensures added { OnOk result (self.new ≡ record self.old { answers = with_text (record_line row.now (text_of_record texts.old.orders row.now.line) fields.now) self.old.answers }) }
-        ensures texts { texts.new.orders ≡ texts.old.orders }
+        ensures added { OnOk result (self.new ≡ record self.old { answers = with_text (record_line row.now (texts_in texts.old row.now.line) fields.now) self.old.answers }) }
+        ensures texts { texts_in texts.new ≡ texts_in texts.old }
     {
         let Some(text) = &mut self.answers else {
             return Ok(());
@@ -100,8 +100,8 @@ impl RowTexts {
         end: usize,
     ) -> Result<(), OutOfMemory>
         requires { end ≤ length lines.now }
-        ensures added { OnOk result (self.new ≡ record self.old { trades = with_text (flat_map (record_line row.now (text_of_record texts.old.orders row.now.line)) (slice_range lines.now begin end)) self.old.trades }) }
-        ensures texts { texts.new.orders ≡ texts.old.orders }
+        ensures added { OnOk result (self.new ≡ record self.old { trades = with_text (flat_map (record_line row.now (texts_in texts.old row.now.line)) (slice_range lines.now begin end)) self.old.trades }) }
+        ensures texts { texts_in texts.new ≡ texts_in texts.old }
     {
         let Some(text) = &mut self.trades else {
             return Ok(());
@@ -130,8 +130,8 @@ impl RowTexts {
         texts: &mut RecordTexts<'_>,
         row: &Row,
     ) -> Result<(), OutOfMemory>
-        ensures added { OnOk result (self.new ≡ with_kept row.now (text_of_record texts.old.orders row.now.line) unknown_row self.old) }
-        ensures texts { texts.new.orders ≡ texts.old.orders }
+        ensures added { OnOk result (self.new ≡ with_kept row.now (texts_in texts.old row.now.line) unknown_row self.old) }
+        ensures texts { texts_in texts.new ≡ texts_in texts.old }
     {
         let Some(text) = &self.answers else {
             return Ok(());

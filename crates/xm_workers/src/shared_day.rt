@@ -77,7 +77,7 @@ fn run_named<S: Naming + Send + Sync, T: Threads + Wait + Sync, G: Gate + Sync>(
     requires short { length bytes.items ≤ MAX_BYTES }
     ensures { RowsRun (DesksEnd (IsShared workers)) config.now names.now (text_left bytes.items None 1) result }
 {
-    let mut file = RowReader::of(bytes.as_slice());
+    let mut file = RowReader::of(bytes.as_slice(), 1);
     let day = SharedDay::<S>::open(alloc, workers, opened, config);
     match take_file(rt, gate, alloc, day, config, names, &mut file) {
         Ok(day) => Ok(closed(alloc, day)),

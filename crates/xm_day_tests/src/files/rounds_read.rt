@@ -56,7 +56,7 @@ impl Reading {
 fn read_parts(alloc: Global, orders: &str, part: Part) -> Result<Reading, Fail> {
     let (config, names) = read_segment(alloc, &mut SEGMENT.as_bytes())?;
     let bytes = read_orders(alloc, &mut orders.as_bytes())?;
-    let mut file = RowReader::of(bytes.as_slice());
+    let mut file = RowReader::of(bytes.as_slice(), 1);
     let mut batch = Batch::new(alloc);
     let mut reading = Reading {
         rows: Vec::new(alloc),

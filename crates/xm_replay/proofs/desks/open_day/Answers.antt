@@ -11,7 +11,7 @@ use Rattle.xm_config.specs.Opening.{journal_of}
 use Rattle.xm_replay.proofs.desks.open_day.Goals as goal
 
 pub returns : goal.returns
-returns c = λ names orders.
+returns c = λ names texts.
     let config = c.args.config.now in
     let opened = c.in_ok-desks.ensures.opened in
     record {
@@ -25,6 +25,6 @@ returns c = λ names orders.
     }
 
 pub returns-in_err-told : goal.returns-in_err-told
-returns-in_err-told c = λ names orders.
-    if_memory c.args.asked names orders c.args.config.now [] c.from_residual-in_err-told.result c.from_residual-in_err-told.ensures.1 c.in_ok-desks.ensures.sound
+returns-in_err-told c = λ names texts.
+    if_memory c.args.asked names texts c.args.config.now [] c.from_residual-in_err-told.result c.from_residual-in_err-told.ensures.1 c.in_ok-desks.ensures.sound
     (λ unasked. absurd (c.in_err-told.ensures.asked unasked))

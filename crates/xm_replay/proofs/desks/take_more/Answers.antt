@@ -1,27 +1,27 @@
-use Rattle.std.proofs.Common.{Bool, List, ◌++◌, length, ap, sym, subst, ◌∙◌, arith}
+use Rattle.std.proofs.Common.{ℕ, Bool, List, ◌++◌, length, ap, sym, subst, ◌∙◌, arith}
 use Rattle.std.proofs.lemmas.List.{length-append}
 use Rattle.xm_rules.specs.Step.{Journal}
 use Rattle.xm_config.proofs.Days.{after_rows-append, lacks-later, lent_back}
 use Rattle.xm_replay.proofs.Taking.{if_memory}
 use Rattle.xm_texts.proofs.Feeding.{feed-joined}
-use Rattle.xm_texts.proofs.Tells.{told-joined}
+use Rattle.xm_texts.proofs.Tells.{told-alike, told-joined}
 use Rattle.xm_replay.specs.Taken.{HasTaken}
 use Rattle.xm_config.specs.Day.{Day, LacksMemoryAt, after_rows, day_of, opening_day}
 use Rattle.xm_texts.specs.Feeds.{feed_of}
-use Rattle.xm_texts.specs.RowAnswers.{answers_header, answers_text, told_of, where_asked}
-use Rattle.xm_texts.specs.RowTrades.{told_trades, trades_header, trades_text}
-use Rattle.xm_files.specs.RecordTexts.{text_of_record}
+use Rattle.xm_texts.specs.RowAnswers.{answer_line, answers_header, answers_text, told_of, where_asked, with_text}
+use Rattle.xm_texts.specs.RowTrades.{told_trades, trade_lines, trades_header, trades_text}
+use Rattle.xm_files.specs.RecordTexts.{texts_in}
 use Rattle.xm_replay.proofs.desks.take_more.Goals as goal
 
 pub returns-clause-taken : goal.returns-clause-taken
-returns-clause-taken c = λ asked config taken has.
+returns-clause-taken c = λ config asked texts taken agree has.
     let old = c.in_ok-desks.field-0 in
     let new = c.take_rows.new.desks in
     let names = c.args.names.now in
-    let orders = c.args.texts.now.orders in
+    let own = texts_in c.args.texts.now in
     let report = c.in_ok-report.report in
     let rows = c.args.rows.now in
-    let before = subst (HasTaken asked names orders config taken) c.in_ok-desks.was has in
+    let before = subst (HasTaken asked names texts config taken) c.in_ok-desks.was has in
     let kept = c.take_rows.auto.desks ∙ ap length c.as_mut_slice.ensures.value in
     let lent = lent_back new old.desks.items old.desks.len kept old.desks.ok.0 in
     let day = ap (λ (js : List Journal). day_of js old.report.accepted old.report.refused) c.as_mut_slice.ensures.value ∙ before.day_is in
@@ -36,23 +36,22 @@ returns-clause-taken c = λ asked config taken has.
           ∙ ap (λ (d : Day). after_rows d rows) day
           ∙ sym (after_rows-append (opening_day config) taken rows);
       all = omega (arith, both, counted, count);
-      answers_are = told-joined asked.answers (told_of names (text_of_record orders)) answers_header config taken rows _ _ _ before.answers_are day c.in_ok-report.ensures.answers;
-      trades_are = told-joined asked.trades (told_trades names (text_of_record orders)) trades_header config taken rows _ _ _ before.trades_are day c.in_ok-report.ensures.trades;
+      answers_are = told-joined asked.answers (told_of names texts) answers_header config taken rows _ _ _ before.answers_are day (c.in_ok-report.ensures.answers ∙ ap (λ (text : List ℕ). with_text text old.told.answers) (told-alike (answer_line names) texts own _ rows agree));
+      trades_are = told-joined asked.trades (told_trades names texts) trades_header config taken rows _ _ _ before.trades_are day (c.in_ok-report.ensures.trades ∙ ap (λ (text : List ℕ). with_text text old.told.trades) (told-alike (trade_lines names) texts own _ rows agree));
       depth_is = feed-joined asked.depth names config taken rows _ _ _ before.depth_is day c.in_ok-report.ensures.depth;
     }
 
 pub returns-in_err-report-clause-taken : goal.returns-in_err-report-clause-taken
-returns-in_err-report-clause-taken c = λ asked config taken has.
+returns-in_err-report-clause-taken c = λ config asked texts taken agree has.
     let old = c.in_ok-desks.field-0 in
     let rows = c.args.rows.now in
     let names = c.args.names.now in
-    let orders = c.args.texts.now.orders in
-    let before = subst (HasTaken asked names orders config taken) c.in_ok-desks.was has in
+    let before = subst (HasTaken asked names texts config taken) c.in_ok-desks.was has in
     let day = ap (λ (js : List Journal). day_of js old.report.accepted old.report.refused) c.as_mut_slice.ensures.value ∙ before.day_is in
     let Lacks : Day → Type 0 = λ d. LacksMemoryAt d rows in
-    if_memory asked names orders config (taken ++ rows) c.from_residual-in_err-report.result c.from_residual-in_err-report.ensures.1 before.sound
+    if_memory asked names texts config (taken ++ rows) c.from_residual-in_err-report.result c.from_residual-in_err-report.ensures.1 before.sound
     (λ unasked. lacks-later (opening_day config) taken rows (subst Lacks day (c.in_err-report.ensures.memory (record {
-      answers = before.answers_are ∙ ap (λ (b : Bool). where_asked b (answers_text names config orders taken)) unasked.answers;
-      trades = before.trades_are ∙ ap (λ (b : Bool). where_asked b (trades_text names config orders taken)) unasked.trades;
+      answers = before.answers_are ∙ ap (λ (b : Bool). where_asked b (answers_text names config texts taken)) unasked.answers;
+      trades = before.trades_are ∙ ap (λ (b : Bool). where_asked b (trades_text names config texts taken)) unasked.trades;
       depth = before.depth_is ∙ ap (λ (b : Bool). where_asked b (feed_of names config taken)) unasked.depth;
     }))))

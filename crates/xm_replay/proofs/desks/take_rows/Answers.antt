@@ -12,8 +12,8 @@ use Rattle.xm_config.specs.Day.{after_rows, day_of}
 use Rattle.xm_texts.specs.Feeds.{feed_after}
 use Rattle.xm_texts.specs.RowAnswers.{answer_line, answers_of, with_text}
 use Rattle.xm_texts.specs.RowTrades.{trade_lines, trades_of}
-use Rattle.xm_files.specs.RecordTexts.{text_of_record}
 use Rattle.xm_config.specs.declared.rows.Row.{Row}
+use Rattle.xm_files.specs.RecordTexts.{texts_in}
 use Rattle.xm_replay.proofs.desks.take_rows.Goals as goal
 
 pub loop-row-init : goal.loop-row-init
@@ -38,7 +38,7 @@ loop-row-preserved g c =
     let took = c.in_ok-answer.ensures.taken old.accepted old.refused in
     let step = took ∙ sym (c.counted-report.ensures.counted (map replay c.take_row.new.desks)) in
     let more = λ (tells : Row → List ℕ → Result Reply Refusal → Option State → List ℕ) (first before after : Option (List ℕ)).
-    told-more tells c.loop-row.texts.orders c.args.texts.now.orders begun c.loop-row.desks c.take_row.new.desks old.accepted old.refused c.in_ok-answer.answer rows i _ first before after within c.loop-row.invariant.texts
+    told-more tells (texts_in c.loop-row.texts) (texts_in c.args.texts.now) begun c.loop-row.desks c.take_row.new.desks old.accepted old.refused c.in_ok-answer.answer rows i _ first before after within c.loop-row.invariant.texts
     c.loop-row.invariant.so_far c.in_ok-answer.ensures.answer took in
     record {
       so_far = rows-step begun c.loop-row.desks rows i _ old.accepted old.refused (day_of c.take_row.new.desks new.accepted new.refused) within c.loop-row.invariant.so_far step;
@@ -67,13 +67,13 @@ pub returns-clause-answers : goal.returns-clause-answers
 returns-clause-answers g c =
     let rows = c.args.rows.now in
     c.loop-row.invariant.answers
-    ∙ ap (λ (rs : List Row). with_text (answers_of c.args.names.now (text_of_record c.args.texts.now.orders) (day_of c.args.desks.now c.args.before.accepted c.args.before.refused) rs) c.args.told.now.answers) (take_all c.loop-row.row-index rows (omega arith))
+    ∙ ap (λ (rs : List Row). with_text (answers_of c.args.names.now (texts_in c.args.texts.now) (day_of c.args.desks.now c.args.before.accepted c.args.before.refused) rs) c.args.told.now.answers) (take_all c.loop-row.row-index rows (omega arith))
 
 pub returns-clause-trades : goal.returns-clause-trades
 returns-clause-trades g c =
     let rows = c.args.rows.now in
     c.loop-row.invariant.trades
-    ∙ ap (λ (rs : List Row). with_text (trades_of c.args.names.now (text_of_record c.args.texts.now.orders) (day_of c.args.desks.now c.args.before.accepted c.args.before.refused) rs) c.args.told.now.trades) (take_all c.loop-row.row-index rows (omega arith))
+    ∙ ap (λ (rs : List Row). with_text (trades_of c.args.names.now (texts_in c.args.texts.now) (day_of c.args.desks.now c.args.before.accepted c.args.before.refused) rs) c.args.told.now.trades) (take_all c.loop-row.row-index rows (omega arith))
 
 pub returns-clause-depth : goal.returns-clause-depth
 returns-clause-depth g c =
@@ -90,3 +90,6 @@ returns-in_err-tell-clause-memory g c =
       trades = c.loop-row.invariant.trades ∙ ap (with_text _) unasked.trades;
       depth = c.loop-row.invariant.depth ∙ ap (option_map _) unasked.depth;
     })))
+
+pub returns-in_err-tell-clause-texts : goal.returns-in_err-tell-clause-texts
+returns-in_err-tell-clause-texts g c = c.tell.ensures.texts ∙ c.loop-row.invariant.texts

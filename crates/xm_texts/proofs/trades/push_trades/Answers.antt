@@ -4,10 +4,10 @@ use Rattle.std.specs.List.{flat_map}
 use Rattle.xm_texts.proofs.Then.{ok-then}
 use Rattle.xm_texts.specs.RowAnswers.{record_line}
 use Rattle.xm_texts.specs.RowTrades.{trade_fields, trades_by}
-use Rattle.xm_files.specs.RecordTexts.{TextsRead, text_of_record}
 use Rattle.xm_rules.specs.Step.{replay}
 use Rattle.xm_rules.specs.declared.orders.Trade.{Trade}
 use Rattle.xm_rules.specs.declared.settings.DeskSettings.{DeskSettings}
+use Rattle.xm_files.specs.RecordTexts.{texts_in}
 use Rattle.xm_texts.proofs.trades.push_trades.Goals as goal
 
 pub returns-clause-told : goal.returns-clause-told
@@ -17,8 +17,8 @@ returns-clause-told g c =
     let state = replay c.args.desk.now in
     let trades = c.trades_by-trades.result.now in
     let tick = c.settings.result.now.tick in
-    let own = text_of_record c.args.texts.now.orders row.line in
-    let own_is = c.text.ensures ∙ ap (λ (t : TextsRead). t.text) c.in_ok-read.ensures.read in
+    let own = texts_in c.args.texts.now row.line in
+    let own_is = c.text.ensures ∙ c.in_ok-read.ensures.read in
     let tick_is = ap (λ (s : DeskSettings). s.tick) c.settings.ensures.kept in
     let trades_are = c.trades_by-trades.ensures ∙ ap (trades_by c.args.answer) c.trades.ensures.trades in
     let lines = λ (text : List ℕ) (n : ℕ) (ts : List Trade). flat_map (λ (t : Trade). record_line row text (trade_fields names row n t)) ts in

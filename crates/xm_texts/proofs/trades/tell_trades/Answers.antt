@@ -4,9 +4,9 @@ use Rattle.xm_files.proofs.PassedErrors.{on_err}
 use Rattle.xm_texts.proofs.Tells.{with_text-nil}
 use Rattle.xm_texts.specs.RowAnswers.{with_text}
 use Rattle.xm_texts.specs.RowTrades.{trade_lines}
-use Rattle.xm_files.specs.RecordTexts.{text_of_record}
 use Rattle.xm_rules.specs.State.{State}
 use Rattle.xm_rules.specs.Step.{replay}
+use Rattle.xm_files.specs.RecordTexts.{texts_in}
 use Rattle.xm_texts.proofs.trades.tell_trades.Goals as goal
 
 pub returns-then-index-desks-clause-told : goal.returns-then-index-desks-clause-told
@@ -17,7 +17,7 @@ returns-then-index-desks-clause-told g c =
     let none : slice_get (map replay desks) row.security ≡ None = slice_get-map replay desks row.security ∙ ap (option_map replay) (slice_get_past desks row.security past) in
     let begun : Some c.in-Some.text.items ≡ c.args.lines.now = search rules in
     begun ∙ with_text-nil c.args.lines.now
-    ∙ ap (λ (o : Option State). with_text (trade_lines c.args.names.now row (text_of_record c.args.texts.now.orders row.line) c.args.answer.now o) c.args.lines.now) (sym none)
+    ∙ ap (λ (o : Option State). with_text (trade_lines c.args.names.now row (texts_in c.args.texts.now row.line) c.args.answer.now o) c.args.lines.now) (sym none)
 
 pub returns-clause-told : goal.returns-clause-told
 returns-clause-told g c =
@@ -28,7 +28,7 @@ returns-clause-told g c =
     let some = slice_get_read desks (length desks) row.security desk refl within c.index-desks-index.is in
     let mapped : slice_get (map replay desks) row.security ≡ Some (replay desk) = slice_get-map replay desks row.security ∙ ap (option_map replay) some in
     let begun : Some c.in-Some.text.items ≡ c.args.lines.now = search rules in
-    let lines = λ (o : Option State). trade_lines c.args.names.now row (text_of_record c.args.texts.now.orders row.line) c.args.answer.now o in
+    let lines = λ (o : Option State). trade_lines c.args.names.now row (texts_in c.args.texts.now row.line) c.args.answer.now o in
     ap Some c.in_ok-push_trades.ensures.told ∙ ap (with_text (lines (Some (replay desk)))) begun ∙ ap (λ (o : Option State). with_text (lines o) c.args.lines.now) (sym mapped)
 
 pub returns-in_err-push_trades-clause-asked : goal.returns-in_err-push_trades-clause-asked

@@ -24,7 +24,7 @@ overflow_sub-refused c =
     omega (arith, few, same, c.total-rows.ensures.total, c.commands_in-accepted.ensures)
 
 pub returns : goal.returns
-returns c = λ asked names orders tells.
+returns c = λ asked names texts tells.
     let rows = rows_so_far c.args.batch.now in
     let lanes = c.args.lanes.items in
     let taken = c.requires.taken c.in_ok-told.ensures.had_memory in

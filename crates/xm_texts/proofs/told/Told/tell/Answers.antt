@@ -2,7 +2,6 @@ use Rattle.std.proofs.Common.{◌∙◌, ℕ, List, ap, map, slice_get}
 use Rattle.xm_files.proofs.PassedErrors.{on_err}
 use Rattle.xm_texts.specs.RowAnswers.{with_text}
 use Rattle.xm_texts.specs.RowTrades.{trade_lines}
-use Rattle.xm_files.specs.RecordTexts.{text_of_record}
 use Rattle.xm_rules.specs.Step.{replay}
 use Rattle.xm_texts.proofs.told.Told.tell.Goals as goal
 
@@ -19,4 +18,4 @@ pub returns-clause-trades : goal.returns-clause-trades
 returns-clause-trades g c =
     let row = c.args.row.now in
     c.in_ok-tell_trades.ensures.told
-    ∙ ap (λ (bytes : List ℕ). with_text (trade_lines c.args.names.now row (text_of_record bytes row.line) c.args.answer.now (slice_get (map replay c.args.desks.now) row.security)) c.args.self.now.trades) c.tell_answer.ensures.texts
+    ∙ ap (λ (by_number : ℕ → List ℕ). with_text (trade_lines c.args.names.now row (by_number row.line) c.args.answer.now (slice_get (map replay c.args.desks.now) row.security)) c.args.self.now.trades) c.tell_answer.ensures.texts

@@ -5,8 +5,8 @@ use Rattle.xm_threads.proofs.Kept.{row-lines}
 use Rattle.xm_threads.specs.KeptRows.{IsPartOf, KeptRow, part_at, row_of_lines}
 use Rattle.xm_threads.specs.Lanes.{TextsView, with_first, with_kept}
 use Rattle.xm_texts.specs.RowAnswers.{record_line, with_text}
-use Rattle.xm_files.specs.RecordTexts.{text_of_record}
 use Rattle.xm_threads.specs.declared.kept_lines.Span.{Span}
+use Rattle.xm_files.specs.RecordTexts.{texts_in}
 use Rattle.xm_threads.proofs.kept_rows.KeptRows.tell.Goals as goal
 
 pub returns-clause-told : goal.returns-clause-told
@@ -16,7 +16,7 @@ returns-clause-told c =
     let rows = c.self.inside.rows.items in
     let told = c.self.inside.told in
     let row = c.args.row.now in
-    let text = text_of_record c.args.texts.now.orders row.line in
+    let text = texts_in c.args.texts.now row.line in
     let texts = c.args.told.now in
     let within : told < length rows = omega arith in
     let at : get_or rows told place ≡ place = search rules in
@@ -24,7 +24,7 @@ returns-clause-told c =
     let seen = (λ (s : Span). row_of_lines (part_at lines s)) in
     let first : c.args.self.now ≡ seen place ∷ map seen (drop (told + 1) rows) = sym c.self.view_is ∙ ap (map seen) (drop_more rows told place within ∙ ap (λ (s : Span). s ∷ drop (told + 1) rows) at) in
     c.in_ok-add_trades.ensures.added
-    ∙ ap (λ (orders : List ℕ). record c.add_levels.new.self { trades = with_text (flat_map (record_line row (text_of_record orders row.line)) (slice_range lines (place.begin + 2) place.end)) c.add_levels.new.self.trades }) c.add_answer.ensures.texts
+    ∙ ap (λ (by_number : ℕ → List ℕ). record c.add_levels.new.self { trades = with_text (flat_map (record_line row (by_number row.line)) (slice_range lines (place.begin + 2) place.end)) c.add_levels.new.self.trades }) c.add_answer.ensures.texts
     ∙ ap (λ (t : TextsView). record t { trades = with_text (flat_map (record_line row text) (slice_range lines (place.begin + 2) place.end)) t.trades })
     (c.in_ok-add_levels.ensures
     ∙ ap₂ (λ (t : TextsView) (levels : List ℕ). record t { levels = with_text levels t.levels })
