@@ -39,6 +39,20 @@ csv-more names config format all csv taken rows sum fields read good took = read
 pub csv-ended : (names : NameLists) (config : SegmentConfig) (format : OrderFormat) (csv : CsvLeft) (rows : List Row) → with_ahead csv.ahead csv.behind ≡ [] → rows_from names config (csv_left (Some format) csv) rows ≡ Ok rows
 csv-ended names config format csv rows none = ap (rows_after names config format csv.line rows) none
 
+-- how many records there are in all, with those that were taken: a look at the next one changes nothing
+pub csv-looked-count : (old new : CsvLeft) (total : ℕ) → with_ahead new.ahead new.behind ≡ with_ahead old.ahead old.behind → new.line ≡ old.line → old.line + length (with_ahead old.ahead old.behind) ≡ total
+    → new.line + length (with_ahead new.ahead new.behind) ≡ total
+csv-looked-count old new total same line counted = let count = ap length same in omega (arith, count, line, counted)
+
+-- nor does it when one is taken
+pub csv-taken-count : (csv taken : CsvLeft) (fields : List (List ℕ)) (total : ℕ) → csv.ahead ≡ Some fields → taken ≡ record { ahead = None; behind = csv.behind; line = csv.line + 1 } → csv.line + length (with_ahead csv.ahead csv.behind) ≡ total
+    → taken.line + length (with_ahead taken.ahead taken.behind) ≡ total
+csv-taken-count csv taken fields total ahead is counted =
+    let line = ap (λ (t : CsvLeft). t.line) is in
+    let count = ap (λ (t : CsvLeft). length (with_ahead t.ahead t.behind)) is in
+    let before = ap (λ (a : Option (List (List ℕ))). length (with_ahead a csv.behind)) ahead in
+    omega (arith, line, count, before, counted)
+
 pub given-test : (n : ℕ) (fields : List (List ℕ)) (test : Bool) → length fields ≡ n → (if length fields == n then test else false) ≡ test
 given-test n fields test e = rw (e, same-number n) refl
 

@@ -3,7 +3,8 @@ use Rattle.std.proofs.Common.{◌≡◌, ℕ, zero, suc, ◌+◌, ◌-◌, ◌<�
 use Rattle.std.proofs.lemmas.List.{append-nil, append_cancel_left, length-append}
 use Rattle.xm_files.proofs.LineRecords.{line-shorter}
 use Rattle.xm_files.proofs.PartsRead.{rows-added}
-use Rattle.xm_files.proofs.Progress.{Lines, lines-begin, lines-end, lines-more, rows-fit}
+use Rattle.csv.specs.Reading.{default_config, records}
+use Rattle.xm_files.proofs.Progress.{Lines, fed-count, line-count, lines-begin, lines-end, lines-more, rows-fit}
 use Rattle.xm_files.specs.Batches.{RowsRead, rows_so_far}
 use Rattle.xm_files.specs.InParts.{LinesGive, last_bytes}
 use Rattle.xm_files.specs.Names.{NameLists}
@@ -37,17 +38,20 @@ pub record LinesRead (names : NameLists) (config : SegmentConfig) (format : Orde
   pub onward : first ≤ line
   pub further : 0 < length rows → first < line
   pub short : line + length more < max_lines
+  pub counted : line + length (records default_config (10 ∷ more)) ≡ first + length (records_in text)
 
 pub part-begins : (names : NameLists) (config : SegmentConfig) (format : OrderFormat) (text more : List ℕ) (first : ℕ) (rows : List Row) → text ≡ 10 ∷ more → first + length text ≤ max_lines → rows ≡ [] → LinesRead names config format text first more first rows
 part-begins names config format text more first rows fed short none =
     let size = ap length fed in
     let empty = ap length none in
+    let count = fed-count text more fed in
     record {
       so = λ before fits. subst (λ (r : List Row). Lines names config format (rows_after names config format first before (records_in text)) more first r) (sym (ap (λ (r : List Row). before ++ r) none ∙ append-nil before))
           (lines-begin names config format text more first before fed short);
       onward = omega arith;
       further = λ some. absurd (omega (arith, some, empty));
       short = omega (arith, size, short);
+      counted = omega (arith, count);
     }
 
 pub part-more : (names : NameLists) (config : SegmentConfig) (format other : OrderFormat) (all text more : List ℕ) (first line : ℕ) (old new : RowsRead) (fields : List (List ℕ)) → LinesRead names config format all first text line old.rows
@@ -59,8 +63,10 @@ part-more names config format other all text more first line old new fields p re
     append_cancel_left old.earlier new.rows (old.rows ++ added.0) (ap (λ (a : List Row). a ++ new.rows) (sym before_them) ∙ added.2 ∙ append_assoc old.earlier old.rows added.0) in
     let size = ap length rows ∙ length-append old.rows added.0 in
     let shorter = line-shorter text more fields reads in
+    let one = line-count text more fields reads in
     let onward = p.onward in
     let short = p.short in
+    let counted = p.counted in
     record {
       so = λ before fits.
           let both = length-append before old.rows in
@@ -71,17 +77,21 @@ part-more names config format other all text more first line old new fields p re
       onward = omega (arith, onward);
       further = λ some. omega (arith, onward);
       short = omega (arith, shorter, short);
+      counted = omega (arith, one, counted);
     }
 
 pub part-ends : (names : NameLists) (config : SegmentConfig) (format : OrderFormat) (text left more : List ℕ) (first line : ℕ) (rows : List Row) → LinesRead names config format text first more line rows → left ≡ 10 ∷ more → LinesGive names config format text first left line rows
 part-ends names config format text left more first line rows p fed =
     let size = ap length fed in
     let short = p.short in
+    let count = fed-count left more fed in
+    let counted = p.counted in
     record {
       so = λ before fits. lines-end names config format (rows_after names config format first before (records_in text)) left more line (before ++ rows) (p.so before fits) fed;
       onward = p.onward;
       further = p.further;
       short = omega (arith, size, short);
+      counted = omega (arith, count, counted);
     }
 
 further-by : (first line next a b : ℕ) → (0 < a → first < line) → (0 < b → line < next) → first ≤ line → line ≤ next → 0 < a + b → first < next
@@ -96,6 +106,8 @@ parts-join names config format text middle left first line next rows more p q =
     let onward = p.onward in
     let on = q.onward in
     let short = q.short in
+    let first_counted = p.counted in
+    let counted = q.counted in
     record {
       so = λ before fits.
           let both = length-append before rows in
@@ -103,4 +115,5 @@ parts-join names config format text middle left first line next rows more p q =
       onward = omega (arith, onward, on);
       further = λ some. further-by first line next (length rows) (length more) p.further q.further onward on (omega (arith, size, some));
       short = short;
+      counted = omega (arith, first_counted, counted);
     }

@@ -73,7 +73,7 @@ later-then : (before : ℕ) (rows : Result (List Row) FileFault) (next next' : L
 later-then before (Ok sum) next next' same = same sum
 later-then before (Err fault) next next' same = refl
 
-later-after : (names : NameLists) (config : SegmentConfig) (format : OrderFormat) (before line line' : ℕ) (rows : List Row) (records : List (List (List ℕ))) → 1 ≤ line → line' ≡ before + line
+pub later-after : (names : NameLists) (config : SegmentConfig) (format : OrderFormat) (before line line' : ℕ) (rows : List Row) (records : List (List (List ℕ))) → 1 ≤ line → line' ≡ before + line
     → rows_after names config format line' (map (later_row before) rows) records ≡ later_orders before (rows_after names config format line rows records)
 later-after names config format before line line' rows [] counted on = refl
 later-after names config format before line line' rows (fields ∷ more) counted on =
@@ -100,6 +100,11 @@ pub later-file : (names : NameLists) (config : SegmentConfig) (before : ℕ) (by
 later-file names config before bytes =
     later-short before (nat_lt max_bytes (length bytes)) (rows_of_records names config 1 [] (records_in bytes)) (rows_of_records names config (before + 1) [] (records_in bytes))
     (later-records names config before (records_in bytes))
+
+-- the rows that a file has alone, by those that it has behind others
+pub alone : (before : ℕ) (r : Result (List Row) FileFault) (own : List Row) → later_orders before r ≡ Ok own → (rows : List Row) × (r ≡ Ok rows) × (map (later_row before) rows ≡ own)
+alone before (Ok rows) own e = (rows, refl, cc)
+alone before (Err fault) own e = cc
 
 own-of : (before line : ℕ) (cause : FileCause) (none : Bool) → (line == 0) ≡ none → own_fault before (if none then fault_at line cause else fault_at (before + line) cause) ≡ fault_at line cause
 own-of before line cause true test = let same : line - before ≡ line = (let zero : line ≡ 0 = grind (arith, nat_tests) in omega (arith, zero)) in ap (λ (n : ℕ). fault_at n cause) same

@@ -31,6 +31,10 @@ mod Advances
 mod TextsOf
 pub mod FewRecords
 pub mod LaterFiles
+pub mod FilesRead
+pub mod CutFiles
+pub mod RowLines
+pub mod TextsInFiles
 mod WideRecords
 pub mod WrittenNumbers
 pub mod WrittenLines

@@ -1,5 +1,5 @@
 -- How far the rows of an order file were read.
-use Rattle.std.proofs.Common.{◌++◌, nat_lt, ◌≡◌, ℕ, ◌+◌, ◌<◌, ◌≤◌, false, ◌==◌, List, ◌∷◌, length, Some, Result, Ok, Err, refl, ap, arith, sym, ◌∙◌}
+use Rattle.std.proofs.Common.{◌++◌, nat_lt, ◌≡◌, ℕ, suc, ◌+◌, ◌<◌, ◌≤◌, false, ◌==◌, List, ◌∷◌, length, Some, Result, Ok, Err, refl, ap, arith, sym, ◌∙◌}
 use Rattle.std.proofs.lemmas.Bool.Decides.{nat_tests}
 use Rattle.csv.specs.Reading.{default_config, records, strip_bom}
 use Rattle.xm_files.proofs.CsvFields.{same-number}
@@ -37,6 +37,14 @@ pub record Lines (names : NameLists) (config : SegmentConfig) (format : OrderFor
 fed-text : (names : NameLists) (config : SegmentConfig) (format : OrderFormat) (text more : List ℕ) (line : ℕ) (rows : List Row) → text ≡ 10 ∷ more
     → rows_after names config format line rows (records_in text) ≡ rows_after names config format line rows (records default_config (10 ∷ more))
 fed-text names config format text more line rows fed = ap (λ (t : List ℕ). rows_after names config format line rows (records default_config t)) (ap strip_bom fed ∙ strip-fed more)
+
+-- a text that begins with a line feed has the records of what comes behind that
+pub fed-count : (text more : List ℕ) → text ≡ 10 ∷ more → length (records_in text) ≡ length (records default_config (10 ∷ more))
+fed-count text more fed = ap (λ (t : List ℕ). length (records default_config t)) (ap strip_bom fed ∙ strip-fed more)
+
+-- a line that is read is one record
+pub line-count : (text more : List ℕ) (fields : List (List ℕ)) → ReadsLine text fields more → length (records default_config (10 ∷ text)) ≡ suc (length (records default_config (10 ∷ more)))
+line-count text more fields reads = ap length (fed-records text ∙ line-records text more fields reads)
 
 pub lines-begin : (names : NameLists) (config : SegmentConfig) (format : OrderFormat) (text more : List ℕ) (line : ℕ) (rows : List Row) → text ≡ 10 ∷ more → line + length text ≤ max_lines
     → Lines names config format (rows_after names config format line rows (records_in text)) more line rows

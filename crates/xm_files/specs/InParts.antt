@@ -2,7 +2,7 @@
 use Rattle.std.specs.Prelude.{◌≡◌, ℕ, ◌+◌, ◌-◌, ◌<◌, ◌≤◌, List, ◌++◌, Some, true, drop, length}
 use Rattle.xm_files.specs.Batches.{rows_from, text_left}
 use Rattle.xm_files.specs.Names.{NameLists}
-use Rattle.xm_files.specs.Orders.{max_lines, max_rows}
+use Rattle.xm_files.specs.Orders.{max_lines, max_rows, records_in}
 use Rattle.xm_files.specs.declared.file_parts.FilePart.{FilePart}
 use Rattle.xm_files.specs.declared.order_format.OrderFormat.{OrderFormat}
 use Rattle.xm_config.specs.declared.config.SegmentConfig.{SegmentConfig}
@@ -19,6 +19,7 @@ pub record LinesGive (names : NameLists) (config : SegmentConfig) (format : Orde
   pub onward : line ≤ next
   pub further : 0 < length rows → line < next
   pub short : next + length left ≤ max_lines
+  pub counted : next + length (records_in left) ≡ line + length (records_in text)
 
 -- where all of a part of a file was read, its lines give its rows
 abbrev pub PartGives : NameLists → SegmentConfig → OrderFormat → List ℕ → FilePart → Type 0

@@ -5,6 +5,7 @@ pub mod FileFaults
 pub mod Hints
 pub mod InParts
 pub mod Names
+pub mod OrderFiles
 pub mod Orders
 pub mod Parts
 pub mod Plain

@@ -16,14 +16,19 @@ use Rattle.xm_config.specs.declared.rows.Row.{Row}
 abbrev pub max_rows : ℕ
 max_rows = 1000000
 
--- the most records that may come before an order file: those of 255 files, each of a header and as many records as it may have rows
+-- the most records that an order file without a fault has: its header takes eleven bytes at least for its twelve fields, and each other
+-- record one
+abbrev pub max_records : ℕ
+max_records = 16777206
+
+-- the most records that may come before an order file: those of 255 files without a fault
 abbrev pub max_before : ℕ
-max_before = 255000255
+max_before = 4278187530
 
 -- no record of an order file that is read has a higher number: so many records come before its header at most, and each of its own has
 -- a byte at least
 abbrev pub max_lines : ℕ
-max_lines = 271777473
+max_lines = 4294964748
 
 -- the records of a text: CSV with the usual marks, a byte order mark before it dropped
 abbrev pub records_in : List ℕ → List (List (List ℕ))

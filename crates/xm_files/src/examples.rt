@@ -4,7 +4,8 @@ ghost use Rattle.std.specs.List.{range_with_len};
 ghost use Rattle.xm_files.specs.Examples.{carry_record, carry_titles, change_record, entered_row, every_title, left_order, left_record, left_stop, left_stop_record, order_listed, order_record, phase_record, record_names, record_settings, round_rows, row_of, says, second_titles, record_with_text, with_ticks};
 ghost use Rattle.xm_files.specs.Carry.{empty_lists, lists_in, with_carry_record, with_lists, with_one_more};
 ghost use Rattle.xm_files.specs.FileFaults.{own_fault};
-ghost use Rattle.xm_files.specs.Orders.{format_of, later_orders, rows_of_records, with_record};
+ghost use Rattle.xm_files.specs.OrderFiles.{after_file, behind_cut};
+ghost use Rattle.xm_files.specs.Orders.{format_of, later_orders, later_row, rows_of_records, with_record};
 ghost use Rattle.xm_files.specs.RecordTexts.{record_at, text_in};
 ghost use Rattle.xm_files.specs.Rows.{by_column, columns_of, condition_in, field, is_header, kind_in, name_index, names_members_command, restriction_of, rows_of_record, side_named, title_of, validity_of, whole_of};
 ghost use Rattle.xm_files.specs.Segment.{are_distinct_texts, is_name};
@@ -184,6 +185,15 @@ pub fn records_of_later_files()
     ensures above { record_at 5 (second_titles ∷ record_with_text (phase_record (codes "close") (codes "XYZ")) (codes "note") ∷ []) 7 ≡ [] }
     ensures text { text_in (record_with_text (phase_record (codes "close") (codes "XYZ")) (codes "note")) ≡ codes "note" }
     ensures no_text { text_in [] ≡ [] }
+{}
+
+/// A fault of the second of a day's order files, and where a row of a file stands, in its second record, that is cut behind that or
+/// behind its header.
+pub fn files_of_a_day()
+    ensures fault { after_file 2 (Err (record { line = 3; cause = BadField })) (λ own. Ok own) ≡ Err (record { file = 2; fault = record { line = 3; cause = BadField } }) }
+    ensures before_the_cut { behind_cut 2 (row_of 0 Uncross) ≡ record { line = 2; security = 0; command = Uncross } }
+    ensures behind_the_cut { behind_cut 1 (row_of 0 Uncross) ≡ record { line = 3; security = 0; command = Uncross } }
+    ensures of_two_files { later_row 5 (row_of 1 Uncross) ≡ record { line = 7; security = 1; command = Uncross } }
 {}
 
 /// Rounds of members' rows and the phase rows after them, and what each of two workers works of them.

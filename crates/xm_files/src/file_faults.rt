@@ -3,6 +3,7 @@ ghost use Rattle.std.specs.Prelude.{◌≡◌, ◌≢◌};
 ghost use Rattle.toml.specs.Errors.{IsMemory};
 ghost use Rattle.xm_files.specs.declared.file_faults.FileCause.TheVariants.{OutOfMemory};
 
+use std::{error, fmt};
 use thiserror::Error;
 use xm_memory::OutOfMemory;
 
@@ -40,15 +41,36 @@ pub enum FileCause {
 
 /// What is wrong with a file, and where.
 ///
-/// In an order file or a carry file `line` is the number of the record, the header being 1; in an order file behind others the number
-/// counts on over the records of all. In a segment file it is 0 for the whole text and the top keys, and k for the k-th security,
-/// counted from 1. It is 0 for `ReadFailed`, `TooLong` and `OutOfMemory`.
+/// In an order file or a carry file `line` is the number of the record, the header being 1; where a `RowReader` tells it of an order file
+/// behind others, the number counts on over the records of all. In a segment file it is 0 for the whole text and the top keys, and k for
+/// the k-th security, counted from 1. It is 0 for `ReadFailed`, `TooLong` and `OutOfMemory`.
 #[derive(Clone, Copy, PartialEq, Eq, Debug, Error)]
 #[error("line {line}: {cause:?}")]
 pub struct FileFault {
     pub line: u32,
     pub cause: FileCause,
 }
+
+/// What is wrong with the order files of a day: the first fault of the first file that has one. Its number among the files is `file`, the
+/// first being 1, and the fault's `line` is that in this file alone.
+#[derive(Clone, Copy, PartialEq, Eq, Debug)]
+pub struct OrdersFault {
+    pub file: u32,
+    pub fault: FileFault,
+}
+
+/// The first file is told without its number, as a lone one is.
+impl fmt::Display for OrdersFault {
+    fn fmt<W: fmt::Write>(&self, f: &mut fmt::Formatter<W>) -> fmt::Result {
+        if self.file == 1 {
+            write!(f, "order file, {}", self.fault)
+        } else {
+            write!(f, "order file {}, {}", self.file, self.fault)
+        }
+    }
+}
+
+impl error::Error for OrdersFault {}
 
 impl FileCause {
     /// The fault that a cause is at a line. Want of memory has none.

@@ -1,16 +1,16 @@
 //! The order file.
 ghost use Rattle.std.specs.Prelude.{ℕ, ◌≡◌, ◌≢◌, ◌==◌, ◌+◌, ◌<◌, ◌≤◌, ◌∷◌, ◌++◌, List, [], length, map, true, false, OnOk, OnErr, IfOk, IfErr, IfSome, None, Some, Ok, Err, if◌then◌else◌};
-ghost use Rattle.std.specs.Bool.{OnTrue, OnFalse};
+ghost use Rattle.std.specs.Bool.{IsTrue, OnTrue, OnFalse};
 ghost use Rattle.std.specs.List.{range_with_len};
 ghost use Rattle.csv.specs.Records.{fields_of};
 ghost use Rattle.xm_files.specs.Batches.{rows_from, rows_so_far, text_left};
-ghost use Rattle.xm_files.specs.FileFaults.{is_from_outside};
+ghost use Rattle.xm_files.specs.FileFaults.{is_from_outside, of_reading};
 ghost use Rattle.xm_files.specs.Names.{NameLists};
 ghost use Rattle.xm_files.specs.Orders.{IsHeaded, NoHeader, orders_of, records_in, rows_after, with_entry_rows, with_record, with_rows};
 ghost use Rattle.xm_files.specs.Parts.{IsFull, IsRound, ends_before, is_so_far};
 ghost use Rattle.xm_files.specs.Plain.{IsBehind, rest_of};
 ghost use Rattle.xm_files.specs.Rows.{columns_of, command_in, entry_with, phase_entry, rows_of_entry, rows_of_record, texts_of};
-ghost use Rattle.xm_files.specs.Unread.{csv_left};
+ghost use Rattle.xm_files.specs.Unread.{csv_left, with_ahead};
 
 use crate::batch::Batch;
 use crate::bytes::{MAX_BYTES, read_whole};
@@ -42,12 +42,15 @@ pub const MAX_ROWS: usize = 1_000_000;
 /// How many rows are read at once where no part can be read beside others.
 const ROWS_ALONE: usize = 32_768;
 
-/// The most records that may come before an order file: those of 255 files, each of a header and as many records as it may have
-/// rows.
-pub const MAX_BEFORE: u32 = 255_000_255;
+/// The most records that an order file without a fault has: its header takes eleven bytes at least for its twelve fields, and each other
+/// record one.
+pub const MAX_RECORDS: u32 = 16_777_206;
+
+/// The most records that may come before an order file: those of 255 files without a fault.
+pub const MAX_BEFORE: u32 = 4_278_187_530;
 
 /// The highest number that the next record of an order file may have.
-pub const MAX_LINES: u32 = 271_777_473;
+pub const MAX_LINES: u32 = 4_294_964_748;
 
 /// Reads an order file: its rows, for the members and the securities with these names.
 ///
@@ -80,6 +83,7 @@ pub fn read_rows<R: Read>(
 pub fn read_orders<R: Read>(alloc: Global, reader: &mut R) -> Result<Vec<u8>, FileFault>
     ensures bytes { IfOk result (λ read. IfSome (R.remaining reader.old) (λ bytes. read.items ≡ bytes)) }
     ensures short { IfOk result (λ read. length read.items ≤ MAX_BYTES) }
+    ensures causes { IfErr result (λ fault. (fault.line ≡ 0) × IsTrue (of_reading fault.cause)) }
     ensures fault { IfErr result (λ fault. OnFalse (is_from_outside fault.cause) (IfSome (R.remaining reader.old) (λ bytes. (names : NameLists) (config : SegmentConfig) → orders_of names config bytes ≡ Err fault))) }
     ensures outside { IfErr result (λ fault. OnTrue (is_from_outside fault.cause) (fault.line ≡ 0)) }
 {
@@ -145,6 +149,16 @@ impl<'a> RowReader<'a> {
         }
     }
 
+    /// The number of the next record: behind the last one, that of the header of the file behind this one.
+    pub fn line(&self) -> u32
+        ensures { result ≡ self.now.line }
+    {
+        match &self.csv {
+            Some(csv) => csv.line(),
+            None => self.line,
+        }
+    }
+
     /// Reads a part on: until a batch has so many rows, or the rows of a round, or the file ends. Answers whether there may
     /// be more. Lines without quotes are taken apart in place; from the first record on that isn't such a line, CSV reads
     /// the file.
@@ -165,6 +179,8 @@ impl<'a> RowReader<'a> {
         ensures few { OnOk result (length (rows_so_far batch.new) ≤ MAX_ROWS) }
         ensures full { result ≡ Ok true → IsFull part batch.new.rows }
         ensures round { part ≡ Part.Round → OnOk result (IsRound names.now config.now self.new batch.new) }
+        ensures counted { OnOk result (self.new.line + length self.new.records ≡ self.old.line + length self.old.records) }
+        ensures none { result ≡ Ok false → self.new.records ≡ [] }
         ensures further { result ≡ Ok true → self.old.line < self.new.line }
         ensures bounded { self.new.line ≤ MAX_LINES }
         ensures err { IfErr result (λ fault. fault.cause ≢ FileCause.OutOfMemory tt → rows_from names.now config.now self.old (rows_so_far batch.old) ≡ Err fault) }
@@ -210,6 +226,8 @@ impl<'a> RowReader<'a> {
         ensures ended { result ≡ Ok false → rows_from names.now config.now self.new (rows_so_far batch.new) ≡ Ok (rows_so_far batch.new) }
         ensures earlier { OnOk result (batch.new.earlier ≡ rows_so_far batch.old) }
         ensures few { OnOk result (length (rows_so_far batch.new) ≤ MAX_ROWS) }
+        ensures counted { OnOk result (self.new.line + length self.new.records ≡ self.old.line + length self.old.records) }
+        ensures none { result ≡ Ok false → self.new.records ≡ [] }
         ensures further { result ≡ Ok true → self.old.line < self.new.line }
         ensures bounded { self.new.line ≤ MAX_LINES }
         ensures err { IfErr result (λ fault. fault.cause ≢ FileCause.OutOfMemory tt → rows_from names.now config.now self.old (rows_so_far batch.old) ≡ Err fault) }
@@ -242,6 +260,7 @@ impl<'a> RowReader<'a> {
         ensures read { OnOk result (rows_from names.now config.now self.old (rows_so_far batch.old) ≡ rows_from names.now config.now self.new (rows_so_far batch.new)) }
         ensures earlier { OnOk result (batch.new.earlier ≡ batch.old.earlier) }
         ensures none { result ≡ Ok false → batch.new.rows ≡ [] }
+        ensures counted { OnOk result (self.new.line + length self.new.records ≡ self.old.line + length self.old.records) }
         ensures onward { self.old.line ≤ self.new.line }
         ensures further { result ≡ Ok true → self.old.line < self.new.line }
         ensures bounded { self.new.line ≤ MAX_LINES }
@@ -261,6 +280,7 @@ impl<'a> RowReader<'a> {
     fn begin(&mut self, alloc: Global) -> Result<OrderFormat, FileFault>
         ensures format { IfOk result (λ format. self.new.format ≡ Some format) }
         ensures read { OnOk result ((names : NameLists) (config : SegmentConfig) (rows : List Row) → rows_from names config self.old rows ≡ rows_from names config self.new rows) }
+        ensures counted { OnOk result (self.new.line + length self.new.records ≡ self.old.line + length self.old.records) }
         ensures onward { self.old.line ≤ self.new.line }
         ensures bounded { self.new.line ≤ MAX_LINES }
         ensures err { IfErr result (λ fault. fault.cause ≢ FileCause.OutOfMemory tt → (names : NameLists) (config : SegmentConfig) (rows : List Row) → rows_from names config self.old rows ≡ Err fault) }
@@ -278,6 +298,7 @@ impl<'a> RowReader<'a> {
         requires { self.old.format ≡ None }
         ensures format { IfOk result (λ format. self.new.format ≡ Some format) }
         ensures headed { IfOk result (λ format. IsHeaded self.old.records format self.new.records) }
+        ensures counted { OnOk result (self.new.line + length self.new.records ≡ self.old.line + length self.old.records) }
         ensures line { OnOk result (self.new.line ≡ self.old.line + 1) }
         ensures err { IfErr result (λ fault. fault.cause ≢ FileCause.OutOfMemory tt → NoHeader self.old.line self.old.records fault) }
         ensures kept { OnErr result (self.new ≡ self.old) }
@@ -321,6 +342,8 @@ impl<'a> RowReader<'a> {
         ensures earlier { OnOk result (batch.new.earlier ≡ batch.old.earlier) }
         ensures full { result ≡ Ok true → IsFull part batch.new.rows }
         ensures round { part ≡ Part.Round → OnOk result (IsRound names.now config.now self.new batch.new) }
+        ensures counted { OnOk result (self.new.line + length self.new.records ≡ left.now.line + length (records_in left.now.text.now)) }
+        ensures none { result ≡ Ok false → self.new.records ≡ [] }
         ensures within { OnOk result (self.new.line ≤ MAX_LINES) }
         ensures onward { OnOk result (left.now.line ≤ self.new.line) }
         ensures further { result ≡ Ok true → length batch.old.rows ≡ 0 → left.now.line < self.new.line }
@@ -358,6 +381,8 @@ fn add_records(
     ensures earlier { OnOk result (batch.new.earlier ≡ batch.old.earlier) }
     ensures full { result ≡ Ok true → IsFull part batch.new.rows }
     ensures round { part ≡ Part.Round → OnOk result (IsRound names.now config.now (csv_left (Some format) csv.new) batch.new) }
+    ensures counted { OnOk result (csv.new.line + length (with_ahead csv.new.ahead csv.new.behind) ≡ csv.old.line + length (with_ahead csv.old.ahead csv.old.behind)) }
+    ensures none { result ≡ Ok false → with_ahead csv.new.ahead csv.new.behind ≡ [] }
     ensures onward { csv.old.line ≤ csv.new.line }
     ensures further { result ≡ Ok true → length batch.old.rows ≡ 0 → csv.old.line < csv.new.line }
     ensures within { csv.new.line ≤ MAX_LINES }
@@ -422,6 +447,7 @@ fn add_lines<'a>(
     requires empty { batch.old.rows ≡ [] }
     ensures ok { IfOk result (λ left. rows_from names.now config.now (text_left text.now (Some format) first) (rows_so_far batch.old) ≡ rows_from names.now config.now (text_left left.text.now (Some format) left.line) (rows_so_far batch.new)) }
     ensures earlier { OnOk result (batch.new.earlier ≡ batch.old.earlier) }
+    ensures counted { IfOk result (λ left. left.line + length (records_in left.text.now) ≡ first + length (records_in text.now)) }
     ensures lines { IfOk result (λ left. (first ≤ left.line) × (left.line + length left.text.now ≤ MAX_LINES)) }
     ensures begun { OnOk result (is_so_far part batch.new.rows ≡ true) }
     ensures further { IfOk result (λ left. 0 < length batch.new.rows → first < left.line) }

@@ -2,7 +2,7 @@ use Rattle.std.proofs.Common.{◌≡◌, Ok, Some, ◌+◌, length, true, false,
 use Rattle.csv.specs.Reading.{default_config, records}
 use Rattle.xm_files.proofs.LineRecords.{line-shorter}
 use Rattle.xm_files.proofs.PartsRead.{ended-part, no-rows, round-before, so-far-rows}
-use Rattle.xm_files.proofs.Progress.{line-next, lines-begin, lines-end, lines-fault, lines-more}
+use Rattle.xm_files.proofs.Progress.{fed-count, line-count, line-next, lines-begin, lines-end, lines-fault, lines-more}
 use Rattle.xm_files.specs.Batches.{rows_so_far, text_left}
 use Rattle.xm_files.specs.Orders.{with_rows}
 use Rattle.xm_files.specs.Parts.{ends_before}
@@ -20,6 +20,7 @@ lines-init c =
       behind = c.in-Some.ensures.behind;
       format = c.empty-fields.ensures;
       earlier = refl;
+      counted = (let count = fed-count c.args.text.now (rest_of c.in-Some.marks) c.in-Some.ensures.fed in omega (arith, count));
       so_far = no-rows c.args.part c.args.batch.now.rows c.requires.empty;
       onward = omega arith;
       further = λ some. absurd (omega (arith, some, none));
@@ -83,9 +84,33 @@ lines-preserved c =
       format = same;
       earlier = c.in-Ok.ensures.earlier ∙ c.lines.invariant.earlier;
       so_far = so-far-rows c.args.part c.args.names.now c.args.config.now c.args.format c.lines.line fields c.lines.batch c.add_record.new.batch c.in-Ok.ensures.earlier good goes c.lines.invariant.so_far;
+      counted = (
+          let one = line-count (rest_of c.lines.marks) (rest_of c.read_line.new.line) fields read.ensures.line in
+          let counted = c.lines.invariant.counted in
+          omega (arith, one, counted));
       onward = omega (arith, onward);
       further = λ some. omega (arith, onward);
     }
+
+pub returns-in_default-read_line-clause-counted : goal.returns-in_default-read_line-clause-counted
+returns-in_default-read_line-clause-counted c =
+    let count = fed-count c.left-left.result.now (rest_of c.lines.marks) (c.left-left.ensures ∙ c.lines.invariant.behind) in
+    let counted = c.lines.invariant.counted in
+    omega (arith, count, counted)
+
+pub returns-then-ends_before-clause-counted : goal.returns-then-ends_before-clause-counted
+returns-then-ends_before-clause-counted c =
+    let count = fed-count c.left-left.result.now (rest_of c.lines.marks) (c.left-left.ensures ∙ c.lines.invariant.behind) in
+    let counted = c.lines.invariant.counted in
+    omega (arith, count, counted)
+
+pub returns-then-is_whole_part-clause-counted : goal.returns-then-is_whole_part-clause-counted
+returns-then-is_whole_part-clause-counted c =
+    let read = c.in-Some-read_line in
+    let one = line-count (rest_of c.lines.marks) (rest_of c.read_line.new.line) c.read_line.new.self.in_order read.ensures.line in
+    let count = fed-count c.left.result.now (rest_of c.read_line.new.line) (c.left.ensures ∙ read.ensures.behind) in
+    let counted = c.lines.invariant.counted in
+    omega (arith, one, count, counted)
 
 pub returns-then-is_whole_part-clause-ok : goal.returns-then-is_whole_part-clause-ok
 returns-then-is_whole_part-clause-ok c =

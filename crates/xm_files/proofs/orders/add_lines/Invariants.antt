@@ -1,6 +1,8 @@
-use Rattle.std.proofs.Common.{◌≡◌, ◌<◌, ◌≤◌, length, true, Some}
+use Rattle.std.proofs.Common.{◌≡◌, ◌+◌, ◌<◌, ◌≤◌, ◌∷◌, length, true, Some}
+use Rattle.csv.specs.Reading.{default_config, records}
 use Rattle.xm_files.proofs.Progress.{Lines}
 use Rattle.xm_files.specs.Batches.{rows_from, rows_so_far, text_left}
+use Rattle.xm_files.specs.Orders.{records_in}
 use Rattle.xm_files.specs.Parts.{is_so_far}
 use Rattle.xm_files.specs.Plain.{IsBehind, rest_of}
 use Rattle.xm_files.proofs.orders.add_lines.Given as goal
@@ -12,6 +14,7 @@ invariant-lines l = record {
   format : l.fields.format ≡ l.fn.format;
   earlier : l.batch.earlier ≡ l.initial.batch.earlier;
   so_far : is_so_far l.part l.batch.rows ≡ true;
+  counted : l.line + length (records default_config (10 ∷ rest_of l.marks)) ≡ l.first + length (records_in l.text);
   onward : l.first ≤ l.line;
   further : 0 < length l.batch.rows → l.first < l.line;
 }

@@ -1,6 +1,6 @@
 use Rattle.std.proofs.Common.{◌≡◌, ℕ, List, length, Some, Ok, refl, ap, sym, arith, ◌∙◌}
 use Rattle.csv.specs.Records.{fields_of}
-use Rattle.xm_files.proofs.CsvParts.{csv-ended, csv-fault, csv-more, csv-next, same-fields, tested, waiting}
+use Rattle.xm_files.proofs.CsvParts.{csv-ended, csv-fault, csv-looked-count, csv-more, csv-next, csv-taken-count, same-fields, tested, waiting}
 use Rattle.xm_files.proofs.PartsRead.{round-before, round-ended, so-far-record}
 use Rattle.xm_files.specs.Batches.{rows_so_far}
 use Rattle.xm_files.specs.Orders.{with_record}
@@ -13,6 +13,19 @@ pub returns-in-Ok-false-clause-ended : goal.returns-in-Ok-false-clause-ended
 returns-in-Ok-false-clause-ended c = λ _.
     let arm = c.in-Ok-false in
     csv-ended c.args.names.now c.args.config.now c.args.format c.look_ahead.new.self (rows_so_far c.records.batch) (arm.ensures.ended (ap Ok arm.field-0-test))
+
+pub returns-in-Ok-false-clause-counted : goal.returns-in-Ok-false-clause-counted
+returns-in-Ok-false-clause-counted c = csv-looked-count c.records.csv c.look_ahead.new.self _ c.in-Ok-false.ensures.same c.look_ahead.ensures.line c.records.invariant.counted
+
+pub returns-then-ends_before-clause-counted : goal.returns-then-ends_before-clause-counted
+returns-then-ends_before-clause-counted c = csv-looked-count c.records.csv c.look_ahead.new.self _ c.in-Ok-true.ensures.same c.look_ahead.ensures.line c.records.invariant.counted
+
+pub returns-then-is_whole_part-clause-counted : goal.returns-then-is_whole_part-clause-counted
+returns-then-is_whole_part-clause-counted c =
+    let csv = c.look_ahead.new.self in
+    let arm = c.in-Ok-true in
+    let ahead = waiting csv.ahead (arm.ensures.waits (ap Ok arm.field-0-test)) in
+    csv-taken-count csv c.take.new.self ahead.0 _ ahead.1 c.take.ensures.taken (csv-looked-count c.records.csv csv _ arm.ensures.same c.look_ahead.ensures.line c.records.invariant.counted)
 
 pub returns-in-Ok-false-clause-round : goal.returns-in-Ok-false-clause-round
 returns-in-Ok-false-clause-round c = λ round.
@@ -69,6 +82,7 @@ records-preserved c =
       read = csv-more c.args.names.now c.args.config.now c.args.format _ csv c.take.new.self (rows_so_far c.records.batch) (rows_so_far c.add_fields.new.batch) ahead.0 read good c.take.ensures.taken;
       earlier = c.in-Ok.ensures.earlier ∙ c.records.invariant.earlier;
       so_far = so-far-record c.args.part c.args.names.now c.args.config.now c.args.format csv.line ahead.0 c.records.batch c.add_fields.new.batch c.in-Ok.ensures.earlier good (rw first at (sym c.ends_before.ensures ∙ c.if-ends_before.false)) c.records.invariant.so_far;
+      counted = csv-taken-count csv c.take.new.self ahead.0 _ ahead.1 c.take.ensures.taken (csv-looked-count c.records.csv csv _ arm.ensures.same line c.records.invariant.counted);
       onward = omega (arith, onward, line, taken);
       further = λ none some. omega (arith, onward, line, taken);
     }
