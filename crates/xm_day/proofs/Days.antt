@@ -1,8 +1,7 @@
 -- A day as a value: from rows that were taken to its texts, and from these to what is written.
 use Rattle.std.proofs.Common.{◌≡◌, ◌∙◌, ℕ, Bool, true, false, List, [], Option, None, Some, Result, Ok, Err, IfOk, length, option_map, unwrap_or, refl, ap, ap₂, sym, subst, inl, inr, ◌⊎◌, ◌<◌, take, append-nil, arith}
 use Rattle.std.specs.Io.KnownBytes.{Appends}
-use Rattle.xm_day.proofs.Endings.{rows-of-file}
-use Rattle.xm_day.specs.Answers.{DayEnds, DayOfRowsEnds, FileRun, InFileOrder, IsSegmentOf, OrdersEnd, StatementEnds, statement_of}
+use Rattle.xm_day.specs.Answers.{DayEnds, DayOfRowsEnds, OrdersRun, InFileOrder, IsSegmentOf, OrdersEnd, StatementEnds, statement_of}
 use Rattle.xm_day.specs.CarriedDays.{BothEnd, CarriedDayEnds, IsCutOff, OpensWith, Outputs}
 use Rattle.xm_day.specs.Days.{BothBegun, BothWritten, DayFiles, HasTextsOf, IsDay, IsDayOfRows, IsStated, OpeningRead, OpensBy, SharesRows, StatementWritten, TakesFile, nothing_asked, taken_day, text_where}
 use Rattle.xm_day.specs.declared.value.DayTexts.{DayTexts}
@@ -46,8 +45,8 @@ Takes days asked names texts config rows (Err (Open fault)) = IsOpenFault config
 Takes days asked names texts config rows (Err (OutOfMemory _)) = segment_fault config ≡ None
 Takes days asked names texts config rows (Err fault) = ⊥
 
-pub in-order : (asked : AskedTexts) (config : SegmentConfig) (names : NameLists) (orders : Option (List ℕ)) (taken : Result OpenDay DayFault) → FileRun (RowsTaken asked names) config names orders taken
-    → FileRun (Takes InFileOrder asked names) config names orders taken
+pub in-order : (asked : AskedTexts) (config : SegmentConfig) (names : NameLists) (orders : List (Option (List ℕ))) (taken : Result OpenDay DayFault) → OrdersRun (RowsTaken asked names) config names orders taken
+    → OrdersRun (Takes InFileOrder asked names) config names orders taken
 in-order asked config names orders (Ok d) run =
     (run.0, run.1, run.2, run.3, record { sound = run.4.sound; each = run.4.each; is_of_rows = run.4.day_is; answers_are = run.4.answers_are; trades_are = run.4.trades_are; depth_is = run.4.depth_is })
 in-order asked config names orders (Err (Segment fault)) run = run
@@ -57,8 +56,8 @@ in-order asked config names orders (Err (Open fault)) run = run
 in-order asked config names orders (Err (OutOfMemory _)) run = run
 in-order asked config names orders (Err WriteFailed) run = run
 
-pub shared : (workers : ℕ) (config : SegmentConfig) (names : NameLists) (orders : Option (List ℕ)) (taken : Result OpenDay DayFault) → FileRun (SharesRows workers) config names orders taken
-    → FileRun (Takes (IsShared workers) nothing_asked names) config names orders taken
+pub shared : (workers : ℕ) (config : SegmentConfig) (names : NameLists) (orders : List (Option (List ℕ))) (taken : Result OpenDay DayFault) → OrdersRun (SharesRows workers) config names orders taken
+    → OrdersRun (Takes (IsShared workers) nothing_asked names) config names orders taken
 shared workers config names orders (Ok d) run =
     (run.0, run.1, run.2, run.3, record { sound = run.4.0.0; each = run.4.0.1; is_of_rows = run.4.0.2; answers_are = run.4.1.answers; trades_are = run.4.1.trades; depth_is = run.4.1.depth })
 shared workers config names orders (Err (Segment fault)) run = run
@@ -69,12 +68,12 @@ shared workers config names orders (Err (OutOfMemory _)) run = run
 shared workers config names orders (Err WriteFailed) run = run
 
 -- their segment was opened
-pub opened : (days : SegmentConfig → List Row → Day → Type 0) (asked : AskedTexts) (config : SegmentConfig) (names : NameLists) (orders : Option (List ℕ)) (taken : Result OpenDay DayFault) → FileRun (Takes days asked names) config names orders taken
+pub opened : (days : SegmentConfig → List Row → Day → Type 0) (asked : AskedTexts) (config : SegmentConfig) (names : NameLists) (orders : List (Option (List ℕ))) (taken : Result OpenDay DayFault) → OrdersRun (Takes days asked names) config names orders taken
     → IfOk taken (λ d. (segment_fault config ≡ None) × (length d.desks.items ≡ length config.securities))
 opened days asked config names orders (Ok d) run = (run.4.sound, run.4.each)
 opened days asked config names orders (Err fault) run = tt
 
-untaken : (days : SegmentConfig → List Row → Day → Type 0) (asked : AskedTexts) (config : SegmentConfig) (names : NameLists) (orders : Option (List ℕ)) (fault : DayFault) → FileRun (Takes days asked names) config names orders (Err fault)
+untaken : (days : SegmentConfig → List Row → Day → Type 0) (asked : AskedTexts) (config : SegmentConfig) (names : NameLists) (orders : List (Option (List ℕ))) (fault : DayFault) → OrdersRun (Takes days asked names) config names orders (Err fault)
     → TakesFile days asked config names orders (Err fault)
 untaken days asked config names orders (Segment fault) run = run
 untaken days asked config names orders (Carry fault) run = run
@@ -84,8 +83,8 @@ untaken days asked config names orders (OutOfMemory _) run = run
 untaken days asked config names orders WriteFailed run = run
 
 -- what took them has its statement
-pub stated : (days : SegmentConfig → List Row → Day → Type 0) (asked : AskedTexts) (config : SegmentConfig) (names : NameLists) (orders : Option (List ℕ)) (taken : Result OpenDay DayFault) (result : Result TakenDay DayFault)
-    → FileRun (Takes days asked names) config names orders taken → IsStated names taken result → TakesFile days asked config names orders result
+pub stated : (days : SegmentConfig → List Row → Day → Type 0) (asked : AskedTexts) (config : SegmentConfig) (names : NameLists) (orders : List (Option (List ℕ))) (taken : Result OpenDay DayFault) (result : Result TakenDay DayFault)
+    → OrdersRun (Takes days asked names) config names orders taken → IsStated names taken result → TakesFile days asked config names orders result
 stated days asked config names orders (Err fault) result run s = subst (TakesFile days asked config names orders) (sym s) (untaken days asked config names orders fault run)
 stated days asked config names orders (Ok d) (Err fault) run s =
     subst (λ (f : DayFault). TakesFile days asked config names orders (Err f)) (sym s) (run.0, run.1, run.2, run.3, run.4.sound)
@@ -116,7 +115,7 @@ levels-where : (b : Bool) (feed : Feed) → unwrap_or (option_map (λ (f : Feed)
 levels-where true feed = refl
 levels-where false feed = refl
 
-untexted : (days : SegmentConfig → List Row → Day → Type 0) (asked : AskedTexts) (handing : HandsOn) (config : SegmentConfig) (names : NameLists) (orders : Option (List ℕ)) (fault : DayFault) → TakesFile days asked config names orders (Err fault)
+untexted : (days : SegmentConfig → List Row → Day → Type 0) (asked : AskedTexts) (handing : HandsOn) (config : SegmentConfig) (names : NameLists) (orders : List (Option (List ℕ))) (fault : DayFault) → TakesFile days asked config names orders (Err fault)
     → IsDayOfRows days asked handing config names orders (Err fault)
 untexted days asked handing config names orders (Segment fault) run = run
 untexted days asked handing config names orders (Carry fault) run = run
@@ -126,7 +125,7 @@ untexted days asked handing config names orders (OutOfMemory _) run = run
 untexted days asked handing config names orders WriteFailed run = run
 
 -- the texts of what took rows are those of a day of these rows
-pub texted : (days : SegmentConfig → List Row → Day → Type 0) (asked : AskedTexts) (handing : HandsOn) (config : SegmentConfig) (names : NameLists) (orders : Option (List ℕ)) (taken : Result TakenDay DayFault) (result : Result DayTexts DayFault)
+pub texted : (days : SegmentConfig → List Row → Day → Type 0) (asked : AskedTexts) (handing : HandsOn) (config : SegmentConfig) (names : NameLists) (orders : List (Option (List ℕ))) (taken : Result TakenDay DayFault) (result : Result DayTexts DayFault)
     → TakesFile days asked config names orders taken → HasTextsOf names handing taken result → IsDayOfRows days asked handing config names orders result
 texted days asked handing config names orders (Err fault) result run s = subst (IsDayOfRows days asked handing config names orders) (sym s) (untexted days asked handing config names orders fault run)
 texted days asked handing config names orders (Ok t) (Err fault) run s =
@@ -152,26 +151,26 @@ texted days asked handing config names orders (Ok t) (Ok texts) run s = (
 
 -- ---- what is written
 
-unmade : (Written : NameLists → (Day → Type 0) → Result DayReport DayFault → Type 0) (days : SegmentConfig → List Row → Day → Type 0) (asked : AskedTexts) (handing : HandsOn) (config : SegmentConfig) (names : NameLists) (orders : Option (List ℕ)) (fault : DayFault)
+unmade : (Written : NameLists → (Day → Type 0) → Result DayReport DayFault → Type 0) (days : SegmentConfig → List Row → Day → Type 0) (asked : AskedTexts) (handing : HandsOn) (config : SegmentConfig) (names : NameLists) (orders : List (Option (List ℕ))) (fault : DayFault)
     → IsDayOfRows days asked handing config names orders (Err fault) → DayOfRowsEnds Written days config names orders (Err fault)
 unmade Written days asked handing config names orders (Segment fault) run = absurd run.4
 unmade Written days asked handing config names orders (Carry fault) run = absurd run.4
 unmade Written days asked handing config names orders (Orders fault) run = run
-unmade Written days asked handing config names orders (Open fault) run = (run.2, rows-of-file orders config names run.0 run.2 run.1 run.3, run.4)
-unmade Written days asked handing config names orders (OutOfMemory _) run = (run.2, rows-of-file orders config names run.0 run.2 run.1 run.3, run.4)
+unmade Written days asked handing config names orders (Open fault) run = (run.2, (run.0, run.1, run.3), run.4)
+unmade Written days asked handing config names orders (OutOfMemory _) run = (run.2, (run.0, run.1, run.3), run.4)
 unmade Written days asked handing config names orders WriteFailed run = absurd run.4
 
-pub orders-end : (days : SegmentConfig → List Row → Day → Type 0) (asked : AskedTexts) (handing : HandsOn) (config : SegmentConfig) (names : NameLists) (orders old new : Option (List ℕ)) (made : Result DayTexts DayFault) (result : Result DayReport DayFault)
+pub orders-end : (days : SegmentConfig → List Row → Day → Type 0) (asked : AskedTexts) (handing : HandsOn) (config : SegmentConfig) (names : NameLists) (orders : List (Option (List ℕ))) (old new : Option (List ℕ)) (made : Result DayTexts DayFault) (result : Result DayReport DayFault)
     → IsDayOfRows days asked handing config names orders made → StatementWritten old new made result → OrdersEnd days config names orders old new result
 orders-end days asked handing config names orders old new (Err fault) result run w = subst (OrdersEnd days config names orders old new) (sym w) (unmade (StatementEnds old new) days asked handing config names orders fault run)
 orders-end days asked handing config names orders old new (Ok t) (Err fault) run w =
     let texts = run.4 in
     subst (λ (f : DayFault). OrdersEnd days config names orders old new (Err f)) (sym w.0)
-    (run.2, rows-of-file orders config names run.0 run.2 run.1 run.3, (texts.sound, record { day = texts.day; is_of_rows = texts.is_of_rows; written = subst (AppendsPrefix old new) texts.statement_is w.1 }))
+    (run.2, (run.0, run.1, run.3), (texts.sound, record { day = texts.day; is_of_rows = texts.is_of_rows; written = subst (AppendsPrefix old new) texts.statement_is w.1 }))
 orders-end days asked handing config names orders old new (Ok t) (Ok report) run w =
     let texts = run.4 in (
       run.2,
-      rows-of-file orders config names run.0 run.2 run.1 run.3,
+      (run.0, run.1, run.3),
       (
         texts.sound,
         record {
@@ -200,7 +199,7 @@ cut-off out statement names states (inl begun) = go begun.0
     go (inl part) = inl (part, begun.1)
     go (inr whole) = inr (whole, (0, some names states, subst (λ (kept : Option (List ℕ)). Appends out.kept_old kept (take 0 (carry_text names states))) (sym begun.1) (nothing out.kept_old (carry_text names states))))
 
-pub both-end : (days : SegmentConfig → List Row → Day → Type 0) (asked : AskedTexts) (config : SegmentConfig) (names : NameLists) (orders : Option (List ℕ)) (out : Outputs) (made : Result DayTexts DayFault) (result : Result DayReport DayFault)
+pub both-end : (days : SegmentConfig → List Row → Day → Type 0) (asked : AskedTexts) (config : SegmentConfig) (names : NameLists) (orders : List (Option (List ℕ))) (out : Outputs) (made : Result DayTexts DayFault) (result : Result DayReport DayFault)
     → IsDayOfRows days asked WhatIsLeft config names orders made → BothWritten out made result → DayOfRowsEnds (BothEnd out) days config names orders result
 both-end days asked config names orders out (Err fault) result run w = subst (DayOfRowsEnds (BothEnd out) days config names orders) (sym w) (unmade (BothEnd out) days asked WhatIsLeft config names orders fault run)
 both-end days asked config names orders out (Ok t) (Err fault) run w =
@@ -208,11 +207,11 @@ both-end days asked config names orders out (Ok t) (Err fault) run w =
     let begun = subst (λ (text : List ℕ). BothBegun out text t.carry.items) texts.statement_is w.1 in
     let cut = cut-off out (statement_of names texts.day) names texts.day.states (subst (BothBegun out (statement_of names texts.day)) texts.carry_is begun) in
     subst (λ (f : DayFault). DayOfRowsEnds (BothEnd out) days config names orders (Err f)) (sym w.0)
-    (run.2, rows-of-file orders config names run.0 run.2 run.1 run.3, (texts.sound, record { day = texts.day; is_of_rows = texts.is_of_rows; cut_off = cut }))
+    (run.2, (run.0, run.1, run.3), (texts.sound, record { day = texts.day; is_of_rows = texts.is_of_rows; cut_off = cut }))
 both-end days asked config names orders out (Ok t) (Ok report) run w =
     let texts = run.4 in (
       run.2,
-      rows-of-file orders config names run.0 run.2 run.1 run.3,
+      (run.0, run.1, run.3),
       (
         texts.sound,
         record {
@@ -228,7 +227,7 @@ both-end days asked config names orders out (Ok t) (Ok report) run w =
 
 -- ---- files that are opened
 
-pub unopened : (days : SegmentConfig → List Row → Day → Type 0) (segment orders old new : Option (List ℕ)) (fault : DayFault) → OpeningRead segment None (Err fault) → DayEnds days segment orders old new (Err fault)
+pub unopened : (days : SegmentConfig → List Row → Day → Type 0) (segment : Option (List ℕ)) (orders : List (Option (List ℕ))) (old new : Option (List ℕ)) (fault : DayFault) → OpeningRead segment None (Err fault) → DayEnds days segment orders old new (Err fault)
 unopened days segment orders old new (Segment fault) read = read
 unopened days segment orders old new (Carry fault) read = absurd read
 unopened days segment orders old new (Orders fault) read = absurd read
@@ -236,7 +235,7 @@ unopened days segment orders old new (Open fault) read = absurd read
 unopened days segment orders old new (OutOfMemory _) read = absurd read
 unopened days segment orders old new WriteFailed read = absurd read
 
-pub day-ends : (days : SegmentConfig → List Row → Day → Type 0) (segment orders old new : Option (List ℕ)) (config : SegmentConfig) (names : NameLists) (result : Result DayReport DayFault)
+pub day-ends : (days : SegmentConfig → List Row → Day → Type 0) (segment : Option (List ℕ)) (orders : List (Option (List ℕ))) (old new : Option (List ℕ)) (config : SegmentConfig) (names : NameLists) (result : Result DayReport DayFault)
     → IsSegmentOf segment config names → OrdersEnd days config names orders old new result → DayEnds days segment orders old new result
 day-ends days segment orders old new config names (Ok report) read ends = (config, names, read, ends)
 day-ends days segment orders old new config names (Err (Segment fault)) read ends = absurd ends.2
@@ -246,7 +245,7 @@ day-ends days segment orders old new config names (Err (Open fault)) read ends =
 day-ends days segment orders old new config names (Err (OutOfMemory _)) read ends = (config, names, read, ends)
 day-ends days segment orders old new config names (Err WriteFailed) read ends = (config, names, read, ends)
 
-pub carry-unopened : (days : SegmentConfig → List Row → Day → Type 0) (segment carry orders : Option (List ℕ)) (out : Outputs) (fault : DayFault) → OpeningRead segment (Some carry) (Err fault) → CarriedDayEnds days segment carry orders out (Err fault)
+pub carry-unopened : (days : SegmentConfig → List Row → Day → Type 0) (segment carry : Option (List ℕ)) (orders : List (Option (List ℕ))) (out : Outputs) (fault : DayFault) → OpeningRead segment (Some carry) (Err fault) → CarriedDayEnds days segment carry orders out (Err fault)
 carry-unopened days segment carry orders out (Segment fault) read = read
 carry-unopened days segment carry orders out (Carry fault) read = read
 carry-unopened days segment carry orders out (Orders fault) read = absurd read
@@ -263,7 +262,7 @@ uncarried segment carry (Open fault) read = absurd read
 uncarried segment carry (OutOfMemory _) read = absurd read
 uncarried segment carry WriteFailed read = absurd read
 
-pub carried-day-ends : (days : SegmentConfig → List Row → Day → Type 0) (segment carry orders : Option (List ℕ)) (out : Outputs) (config : SegmentConfig) (names : NameLists) (result : Result DayReport DayFault)
+pub carried-day-ends : (days : SegmentConfig → List Row → Day → Type 0) (segment carry : Option (List ℕ)) (orders : List (Option (List ℕ))) (out : Outputs) (config : SegmentConfig) (names : NameLists) (result : Result DayReport DayFault)
     → OpensWith segment carry config names → DayOfRowsEnds (BothEnd out) days config names orders result → CarriedDayEnds days segment carry orders out result
 carried-day-ends days segment carry orders out config names (Ok report) read ends = (config, names, read, ends)
 carried-day-ends days segment carry orders out config names (Err (Segment fault)) read ends = absurd ends.2

@@ -1,22 +1,15 @@
 -- How a run of a day ends.
-use Rattle.std.proofs.Common.{◌≡◌, ℕ, List, Option, None, Some, Result, Ok, Err, IfErr, IfSome, sym, subst, Vec}
+use Rattle.std.proofs.Common.{◌≡◌, ℕ, List, Option, Result, Ok, Err, IfErr, sym, subst, Vec}
 use Rattle.std.specs.Global.{Global}
-use Rattle.xm_day.specs.Answers.{AreRowsOf, FileRun, IsOfWriting, IsSegmentOf}
+use Rattle.xm_day.specs.Answers.{IsOfWriting, IsSegmentOf, OrdersRun}
 use Rattle.xm_replay.specs.Taken.{HasTaken, RowsTaken}
 use Rattle.xm_day.specs.Checks.{IsCheck, OpensTo}
 use Rattle.xm_replay.specs.declared.desks.OpenDay.{OpenDay}
-use Rattle.xm_files.specs.Orders.{orders_of}
 use Rattle.xm_files.specs.Names.{NameLists}
 use Rattle.xm_config.specs.declared.config.SegmentConfig.{SegmentConfig}
 use Rattle.xm_replay.specs.declared.faults.DayFault.{DayFault}
 use Rattle.xm_texts.specs.declared.asked.AskedTexts.{AskedTexts}
 use Rattle.xm_replay.specs.declared.faults.DayFault.TheVariants.{Segment, Carry, Orders, Open, OutOfMemory, WriteFailed}
-use Rattle.xm_config.specs.declared.rows.Row.{Row}
-
--- the rows of known bytes are those of their file
-pub rows-of-file : (orders : Option (List ℕ)) (config : SegmentConfig) (names : NameLists) (bytes : List ℕ) (rows : List Row) → IfSome orders (λ known. bytes ≡ known) → orders_of names config bytes ≡ Ok rows → AreRowsOf orders config names rows
-rows-of-file None config names bytes rows are read = tt
-rows-of-file (Some known) config names bytes rows are read = subst (λ (b : List ℕ). orders_of names config b ≡ Ok rows) are read
 
 -- a failed write is one of writing
 pub failed-of_writing : {A : Type 0} (r : Result A DayFault) → IfErr r (λ fault. fault ≡ WriteFailed) → IfErr r IsOfWriting
@@ -36,7 +29,7 @@ checked segment config names (Err WriteFailed) read opens = absurd opens
 -- ---- a day whose rows are taken
 
 -- it isn't told at which row memory was wanting
-pub taken-anyhow : (asked : AskedTexts) (config : SegmentConfig) (names : NameLists) (orders : Option (List ℕ)) (taken : Result OpenDay DayFault) → FileRun (HasTaken asked names) config names orders taken → FileRun (RowsTaken asked names) config names orders taken
+pub taken-anyhow : (asked : AskedTexts) (config : SegmentConfig) (names : NameLists) (orders : List (Option (List ℕ))) (taken : Result OpenDay DayFault) → OrdersRun (HasTaken asked names) config names orders taken → OrdersRun (RowsTaken asked names) config names orders taken
 taken-anyhow asked config names orders (Ok d) run = run
 taken-anyhow asked config names orders (Err (Segment fault)) run = run
 taken-anyhow asked config names orders (Err (Carry fault)) run = run

@@ -3,12 +3,11 @@ use Rattle.std.specs.Prelude.{◌≡◌, ℕ, List, Option, None, Result, Ok, Er
 use Rattle.std.specs.Bool.{OnFalse, OnTrue}
 use Rattle.std.specs.Io.KnownBytes.{Appends}
 use Rattle.xm_config.specs.Day.{Day, day}
-use Rattle.xm_replay.specs.Taken.{IsOpenFault}
+use Rattle.xm_replay.specs.Taken.{IsOpenFault, IsOrdersFault}
 use Rattle.xm_config.specs.Opening.{segment_fault}
 use Rattle.xm_files.specs.FileFaults.{is_from_outside}
 use Rattle.xm_files.specs.Names.{NameLists}
-use Rattle.xm_files.specs.Orders.{orders_of}
-use Rattle.xm_files.specs.RecordTexts.{text_of_record}
+use Rattle.xm_files.specs.OrderFiles.{AreBytesOf, orders_of_files, text_in_files}
 use Rattle.xm_files.specs.Segment.{segment_of}
 use Rattle.xm_texts.specs.Statement.{statement}
 use Rattle.xm_config.specs.declared.config.SegmentConfig.{SegmentConfig}
@@ -23,9 +22,9 @@ use Rattle.xm_ticks.specs.Writing.{AppendsPrefix}
 abbrev pub IsSegmentOf : Option (List ℕ) → SegmentConfig → NameLists → Type 0
 IsSegmentOf file config names = IfSome file (λ bytes. segment_of bytes ≡ Ok (config, names))
 
--- the rows are those of the order file
-abbrev pub AreRowsOf : Option (List ℕ) → SegmentConfig → NameLists → List Row → Type 0
-AreRowsOf file config names rows = IfSome file (λ bytes. orders_of names config bytes ≡ Ok rows)
+-- the rows are those of the order files, one after another
+abbrev pub AreRowsOf : List (Option (List ℕ)) → SegmentConfig → NameLists → List Row → Type 0
+AreRowsOf orders config names rows = (files : List (List ℕ)) × AreBytesOf orders files × (orders_of_files names config files ≡ Ok rows)
 
 -- the fault is the one that the bytes have, or the reader or the memory failed, which has no line
 pub record IsFileFault {A : Type 0} (reads : List ℕ → Result A FileFault) (file : Option (List ℕ)) (fault : FileFault) : Type 0 where
@@ -53,18 +52,18 @@ pub record WritesPart (days : Day → Type 0) (names : NameLists) (old new : Opt
   pub is_of_rows : days day
   pub written : AppendsPrefix old new (statement_of names day)
 
--- what has taken the rows of an order file, whose records have the texts of that file, or the fault of the file
-abbrev pub FileRun : {A : Type 0} → ((ℕ → List ℕ) → SegmentConfig → List Row → Result A DayFault → Type 0) → SegmentConfig → NameLists → Option (List ℕ) → Result A DayFault → Type 0
-FileRun taken config names orders (Err (Orders fault)) = IsFileFault (orders_of names config) orders fault
-FileRun taken config names orders result =
-    (bytes : List ℕ) × IfSome orders (λ known. bytes ≡ known) × (rows : List Row) × (orders_of names config bytes ≡ Ok rows) × taken (text_of_record bytes) config rows result
+-- what has taken the rows of the order files, whose records have the texts of these files, or their first fault
+abbrev pub OrdersRun : {A : Type 0} → ((ℕ → List ℕ) → SegmentConfig → List Row → Result A DayFault → Type 0) → SegmentConfig → NameLists → List (Option (List ℕ)) → Result A DayFault → Type 0
+OrdersRun taken config names orders (Err (Orders fault)) = IsOrdersFault names config orders fault
+OrdersRun taken config names orders result =
+    (files : List (List ℕ)) × AreBytesOf orders files × (rows : List Row) × (orders_of_files names config files ≡ Ok rows) × taken (text_in_files files) config rows result
 
 -- how the statement of one of these days is written
 abbrev pub StatementEnds : Option (List ℕ) → Option (List ℕ) → NameLists → (Day → Type 0) → Result DayReport DayFault → Type 0
 StatementEnds old new names days (Ok report) = WritesDay days names report old new
 StatementEnds old new names days (Err fault) = WritesPart days names old new
 
--- how the rows of an order file are run that has no fault, where they may have these days, and what is written of a day
+-- how the rows of order files are run that have no fault, where they may have these days, and what is written of a day
 abbrev pub RowsEnd : (NameLists → (Day → Type 0) → Result DayReport DayFault → Type 0) → (SegmentConfig → List Row → Day → Type 0) → SegmentConfig → NameLists → List Row → Result DayReport DayFault → Type 0
 RowsEnd Written days config names rows (Ok report) = (segment_fault config ≡ None) × Written names (days config rows) (Ok report)
 RowsEnd Written days config names rows (Err (Open fault)) = IsOpenFault config fault
@@ -74,17 +73,17 @@ RowsEnd Written days config names rows (Err (Segment fault)) = ⊥
 RowsEnd Written days config names rows (Err (Carry fault)) = ⊥
 RowsEnd Written days config names rows (Err (Orders fault)) = ⊥
 
--- how the day of a segment ends whose rows are those of an order file
-abbrev pub DayOfRowsEnds : (NameLists → (Day → Type 0) → Result DayReport DayFault → Type 0) → (SegmentConfig → List Row → Day → Type 0) → SegmentConfig → NameLists → Option (List ℕ) → Result DayReport DayFault → Type 0
-DayOfRowsEnds Written days config names orders (Err (Orders fault)) = IsFileFault (orders_of names config) orders fault
+-- how the day of a segment ends whose rows are those of order files
+abbrev pub DayOfRowsEnds : (NameLists → (Day → Type 0) → Result DayReport DayFault → Type 0) → (SegmentConfig → List Row → Day → Type 0) → SegmentConfig → NameLists → List (Option (List ℕ)) → Result DayReport DayFault → Type 0
+DayOfRowsEnds Written days config names orders (Err (Orders fault)) = IsOrdersFault names config orders fault
 DayOfRowsEnds Written days config names orders result = (rows : List Row) × AreRowsOf orders config names rows × RowsEnd Written days config names rows result
 
 -- how the day of a segment file ends that has no fault
-abbrev pub OrdersEnd : (SegmentConfig → List Row → Day → Type 0) → SegmentConfig → NameLists → Option (List ℕ) → Option (List ℕ) → Option (List ℕ) → Result DayReport DayFault → Type 0
+abbrev pub OrdersEnd : (SegmentConfig → List Row → Day → Type 0) → SegmentConfig → NameLists → List (Option (List ℕ)) → Option (List ℕ) → Option (List ℕ) → Result DayReport DayFault → Type 0
 OrdersEnd days config names orders old new result = DayOfRowsEnds (StatementEnds old new) days config names orders result
 
--- how the day of two files ends
-abbrev pub DayEnds : (SegmentConfig → List Row → Day → Type 0) → Option (List ℕ) → Option (List ℕ) → Option (List ℕ) → Option (List ℕ) → Result DayReport DayFault → Type 0
+-- how the day of a segment file and its order files ends
+abbrev pub DayEnds : (SegmentConfig → List Row → Day → Type 0) → Option (List ℕ) → List (Option (List ℕ)) → Option (List ℕ) → Option (List ℕ) → Result DayReport DayFault → Type 0
 DayEnds days segment orders old new (Err (Segment fault)) = IsFileFault segment_of segment fault
 DayEnds days segment orders old new result =
     (config : SegmentConfig) × (names : NameLists) × IsSegmentOf segment config names × OrdersEnd days config names orders old new result

@@ -66,8 +66,8 @@ pub record IsCarryFault (segment carry : Option (List ℕ)) (fault : FileFault) 
   pub is_segment : IsSegmentOf segment config names
   pub is_fault : IsFileFault (carry_of names config) carry fault
 
--- how the day of three files ends
-abbrev pub CarriedDayEnds : (SegmentConfig → List Row → Day → Type 0) → Option (List ℕ) → Option (List ℕ) → Option (List ℕ) → Outputs → Result DayReport DayFault → Type 0
+-- how the day of a segment file, a carry file and its order files ends
+abbrev pub CarriedDayEnds : (SegmentConfig → List Row → Day → Type 0) → Option (List ℕ) → Option (List ℕ) → List (Option (List ℕ)) → Outputs → Result DayReport DayFault → Type 0
 CarriedDayEnds days segment carry orders out (Err (Segment fault)) = IsFileFault segment_of segment fault
 CarriedDayEnds days segment carry orders out (Err (Carry fault)) = IsCarryFault segment carry fault
 CarriedDayEnds days segment carry orders out result =

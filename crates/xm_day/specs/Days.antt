@@ -1,7 +1,7 @@
 -- The day of a segment as a value: its texts, or the fault that it has. The bytes of a file may be unknown.
 use Rattle.std.specs.Prelude.{◌≡◌, ◌⊎◌, ℕ, Bool, false, true, List, [], length, map, Option, None, Some, option_map, unwrap_or, Result, Ok, Err}
 use Rattle.std.specs.Io.KnownBytes.{Appends}
-use Rattle.xm_day.specs.Answers.{FileRun, IsFileFault, IsSegmentOf, statement_of}
+use Rattle.xm_day.specs.Answers.{OrdersRun, IsFileFault, IsSegmentOf, statement_of}
 use Rattle.xm_day.specs.CarriedDays.{IsCarryFault, OpensWith, Outputs, carry_text_of}
 use Rattle.xm_day.specs.declared.value.DayTexts.{DayTexts}
 use Rattle.xm_day.specs.declared.value.HandsOn.{HandsOn}
@@ -32,11 +32,11 @@ use Rattle.xm_workers.specs.Workers.{IsShared}
 
 -- ---- what a day is read from
 
--- the files of a day, as far as their bytes are known: the second is a carry file, if the day opens with one
+-- the files of a day, as far as their bytes are known: a carry file is among them, if the day opens with one
 pub record DayFiles : Type 0 where
   pub segment : Option (List ℕ)
   pub carried : Option (Option (List ℕ))
-  pub orders : Option (List ℕ)
+  pub orders : List (Option (List ℕ))
 
 -- a segment opens with the settings and the names of its file, and with what the carry file lists for each security, if there is one
 abbrev pub OpensBy : Option (List ℕ) → Option (Option (List ℕ)) → SegmentConfig → NameLists → Type 0
@@ -79,9 +79,9 @@ TakesRows days asked names texts config rows (Err (Open fault)) = IsOpenFault co
 TakesRows days asked names texts config rows (Err (OutOfMemory _)) = segment_fault config ≡ None
 TakesRows days asked names texts config rows (Err fault) = ⊥
 
--- how the rows of an order file are taken, which may have a fault
-abbrev pub TakesFile : (SegmentConfig → List Row → Day → Type 0) → AskedTexts → SegmentConfig → NameLists → Option (List ℕ) → Result TakenDay DayFault → Type 0
-TakesFile days asked config names orders result = FileRun (TakesRows days asked names) config names orders result
+-- how the rows of order files are taken, which may have a fault
+abbrev pub TakesFile : (SegmentConfig → List Row → Day → Type 0) → AskedTexts → SegmentConfig → NameLists → List (Option (List ℕ)) → Result TakenDay DayFault → Type 0
+TakesFile days asked config names orders result = OrdersRun (TakesRows days asked names) config names orders result
 
 -- the statement alone is asked for
 abbrev pub nothing_asked : AskedTexts
@@ -157,10 +157,10 @@ GivesTexts days asked handing names texts config rows (Err (Open fault)) = IsOpe
 GivesTexts days asked handing names texts config rows (Err (OutOfMemory _)) = segment_fault config ≡ None
 GivesTexts days asked handing names texts config rows (Err fault) = ⊥
 
--- what a day is whose segment is read, and whose rows may have such days: its texts, or its first fault: of the order file, of the
+-- what a day is whose segment is read, and whose rows may have such days: its texts, or its first fault: of the order files, of the
 -- opening, or want of memory
-abbrev pub IsDayOfRows : (SegmentConfig → List Row → Day → Type 0) → AskedTexts → HandsOn → SegmentConfig → NameLists → Option (List ℕ) → Result DayTexts DayFault → Type 0
-IsDayOfRows days asked handing config names orders result = FileRun (GivesTexts days asked handing names) config names orders result
+abbrev pub IsDayOfRows : (SegmentConfig → List Row → Day → Type 0) → AskedTexts → HandsOn → SegmentConfig → NameLists → List (Option (List ℕ)) → Result DayTexts DayFault → Type 0
+IsDayOfRows days asked handing config names orders result = OrdersRun (GivesTexts days asked handing names) config names orders result
 
 -- what the day of these files is: that of the rows, or a fault of the segment file or of the carry file before it
 abbrev pub IsDay : (SegmentConfig → List Row → Day → Type 0) → AskedTexts → HandsOn → DayFiles → Result DayTexts DayFault → Type 0

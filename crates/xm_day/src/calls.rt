@@ -11,6 +11,7 @@ ghost use Rattle.xm_rules.specs.Step.{replay};
 ghost use Rattle.xm_ticks.specs.Writing.{AppendsPrefix};
 ghost use Rattle.xm_workers.specs.Workers.{IsShared};
 ghost use Rattle.xm_config.specs.declared.opening.TheConstants.{MAX_WORKERS};
+ghost use Rattle.xm_files.specs.declared.order_files.TheConstants.{MAX_FILES};
 
 use crate::opening::{open_carried_files, open_files};
 use crate::statement_text::StatementText;
@@ -73,22 +74,23 @@ pub fn carry<A: Allocator, B: Allocator + Copy, W: Write>(
     write_text(out, text.as_slice())
 }
 
-/// Runs the day of a segment whose file is read: reads the order file, takes its rows, and writes
+/// Runs the day of a segment whose file is read: reads the order files, one after another, takes their rows, and writes
 /// the statement. The checks come in this order.
 ///
-/// `Orders`: the order file has a fault. `Open`: the segment can't be opened. `OutOfMemory`: a
+/// `Orders`: an order file has a fault. `Open`: the segment can't be opened. `OutOfMemory`: a
 /// growth was refused. After these nothing was written. `WriteFailed`: the writer failed; what went
 /// out is a proper prefix of the statement. A refused row is counted and changes nothing.
 pub fn run_orders<R: Read, W: Write>(
     storage: Storage<Global>,
     config: &SegmentConfig,
     names: &SegmentNames,
-    orders: &mut R,
+    orders: &mut [R],
     out: &mut W,
 ) -> Result<DayReport, DayFault>
     requires securities { length names.now.securities ≡ length config.now.securities }
     requires members { length names.now.members ≡ config.now.members }
-    ensures ends { OrdersEnd InFileOrder config.now names.now (R.remaining orders.old) (W.contents out.old) (W.contents out.new) result }
+    requires files { length orders.old ≤ MAX_FILES }
+    ensures ends { OrdersEnd InFileOrder config.now names.now (map R.remaining orders.old) (W.contents out.old) (W.contents out.new) result }
     ensures untouched { IfErr result (λ fault. fault ≢ DayFault.WriteFailed → out.new ≡ out.old) }
 {
     let taken = take_in_order(storage, config, names, orders, AskedTexts::nothing());
@@ -96,7 +98,7 @@ pub fn run_orders<R: Read, W: Write>(
     write_statement(made, out)
 }
 
-/// Runs the day of a segment file and an order file: reads both, takes the rows on the calling
+/// Runs the day of a segment file and its order files: reads them, takes the rows on the calling
 /// thread, and writes the statement.
 ///
 /// `Segment`: the segment file has a fault; it is read first. The other faults are those of
@@ -104,19 +106,20 @@ pub fn run_orders<R: Read, W: Write>(
 pub fn run_alone<S: Read, R: Read, W: Write>(
     storage: Storage<Global>,
     segment: &mut S,
-    orders: &mut R,
+    orders: &mut [R],
     out: &mut W,
 ) -> Result<DayReport, DayFault>
-    ensures ends { DayEnds InFileOrder (S.remaining segment.old) (R.remaining orders.old) (W.contents out.old) (W.contents out.new) result }
+    requires { length orders.old ≤ MAX_FILES }
+    ensures ends { DayEnds InFileOrder (S.remaining segment.old) (map R.remaining orders.old) (W.contents out.old) (W.contents out.new) result }
     ensures untouched { IfErr result (λ fault. fault ≢ DayFault.WriteFailed → out.new ≡ out.old) }
 {
     let (config, names) = open_files(storage, segment)?;
     run_orders(storage, &config, &names, orders, out)
 }
 
-/// Runs the day of a segment file and an order file with so many workers. One takes the rows as `run_alone` does.
+/// Runs the day of a segment file and its order files with so many workers. One takes the rows as `run_alone` does.
 ///
-/// Several take each round of the order file side by side, each the rows of its members, in their order, in a thread of its
+/// Several take each round of an order file side by side, each the rows of its members, in their order, in a thread of its
 /// own, or on the calling one where one worker alone has rows; then the round's phase rows are taken. So two runs may differ
 /// where members compete. What is written is the statement of lawful journals, one for each security, whose commands are the
 /// accepted rows.
@@ -126,15 +129,16 @@ pub fn run_day<T: Threads + Wait + Sync, G: Gate + Sync, S: Read, R: Read, W: Wr
     rt: &T,
     storage: Storage<Global>,
     segment: &mut S,
-    orders: &mut R,
+    orders: &mut [R],
     out: &mut W,
     workers: u32,
     gate: &G,
 ) -> Result<DayReport, DayFault>
     requires some { 1 ≤ workers }
     requires few { workers ≤ MAX_WORKERS }
-    ensures alone { workers ≡ 1 → DayEnds InFileOrder (S.remaining segment.old) (R.remaining orders.old) (W.contents out.old) (W.contents out.new) result }
-    ensures shared { workers ≢ 1 → DayEnds (IsShared workers) (S.remaining segment.old) (R.remaining orders.old) (W.contents out.old) (W.contents out.new) result }
+    requires files { length orders.old ≤ MAX_FILES }
+    ensures alone { workers ≡ 1 → DayEnds InFileOrder (S.remaining segment.old) (map R.remaining orders.old) (W.contents out.old) (W.contents out.new) result }
+    ensures shared { workers ≢ 1 → DayEnds (IsShared workers) (S.remaining segment.old) (map R.remaining orders.old) (W.contents out.old) (W.contents out.new) result }
     ensures untouched { IfErr result (λ fault. fault ≢ DayFault.WriteFailed → out.new ≡ out.old) }
 {
     let (config, names) = open_files(storage, segment)?;
@@ -143,7 +147,7 @@ pub fn run_day<T: Threads + Wait + Sync, G: Gate + Sync, S: Read, R: Read, W: Wr
     write_statement(made, out)
 }
 
-/// Runs the day of a segment file, a carry file and an order file: reads the three in this order, opens each security with the
+/// Runs the day of a segment file, a carry file and order files: reads them in this order, opens each security with the
 /// orders and stops that the carry file lists for it and that are still valid, takes the rows on the calling thread, writes the
 /// statement, and then, to `keep`, the carry file of the next day. Both texts are made whole first.
 ///
@@ -154,11 +158,12 @@ pub fn carry_alone<S: Read, C: Read, R: Read, W: Write, K: Write>(
     storage: Storage<Global>,
     segment: &mut S,
     carry: &mut C,
-    orders: &mut R,
+    orders: &mut [R],
     out: &mut W,
     keep: &mut K,
 ) -> Result<DayReport, DayFault>
-    ensures ends { CarriedDayEnds InFileOrder (S.remaining segment.old) (C.remaining carry.old) (R.remaining orders.old)
+    requires { length orders.old ≤ MAX_FILES }
+    ensures ends { CarriedDayEnds InFileOrder (S.remaining segment.old) (C.remaining carry.old) (map R.remaining orders.old)
         (record { old = W.contents out.old; new = W.contents out.new; kept_old = K.contents keep.old; kept_new = K.contents keep.new }) result }
     ensures untouched { IfErr result (λ fault. fault ≢ DayFault.WriteFailed → (out.new ≡ out.old) × (keep.new ≡ keep.old)) }
 {
@@ -168,7 +173,7 @@ pub fn carry_alone<S: Read, C: Read, R: Read, W: Write, K: Write>(
     write_both(made, out, keep)
 }
 
-/// Runs the day of a segment file, a carry file and an order file with so many workers, as `run_day` runs the rows, and as
+/// Runs the day of a segment file, a carry file and order files with so many workers, as `run_day` runs the rows, and as
 /// `carry_alone` reads the files and writes both texts.
 ///
 /// The faults are those of `carry_alone`, in their order. `OutOfMemory` also tells that a thread's start was refused.
@@ -185,7 +190,7 @@ pub fn carry_day<
     storage: Storage<Global>,
     segment: &mut S,
     carry: &mut C,
-    orders: &mut R,
+    orders: &mut [R],
     out: &mut W,
     keep: &mut K,
     workers: u32,
@@ -193,9 +198,10 @@ pub fn carry_day<
 ) -> Result<DayReport, DayFault>
     requires some { 1 ≤ workers }
     requires few { workers ≤ MAX_WORKERS }
-    ensures alone { workers ≡ 1 → CarriedDayEnds InFileOrder (S.remaining segment.old) (C.remaining carry.old) (R.remaining orders.old)
+    requires files { length orders.old ≤ MAX_FILES }
+    ensures alone { workers ≡ 1 → CarriedDayEnds InFileOrder (S.remaining segment.old) (C.remaining carry.old) (map R.remaining orders.old)
         (record { old = W.contents out.old; new = W.contents out.new; kept_old = K.contents keep.old; kept_new = K.contents keep.new }) result }
-    ensures shared { workers ≢ 1 → CarriedDayEnds (IsShared workers) (S.remaining segment.old) (C.remaining carry.old) (R.remaining orders.old)
+    ensures shared { workers ≢ 1 → CarriedDayEnds (IsShared workers) (S.remaining segment.old) (C.remaining carry.old) (map R.remaining orders.old)
         (record { old = W.contents out.old; new = W.contents out.new; kept_old = K.contents keep.old; kept_new = K.contents keep.new }) result }
     ensures untouched { IfErr result (λ fault. fault ≢ DayFault.WriteFailed → (out.new ≡ out.old) × (keep.new ≡ keep.old)) }
 {

@@ -2,7 +2,7 @@
 //! statement, beside it the answers to its rows, its trades and the levels behind its rows, and what it leaves to the next day.
 //!
 //! `opening` reads the segment file and the carry file. `taking` has the three ways, and makes the statement, in the pieces of
-//! `statement_text`; for each way `order_file` reads the order file and has its rows taken. `value` makes all texts. `calls` has days
+//! `statement_text`; for each way `order_files` has the order files read and their rows taken. `value` makes all texts. `calls` has days
 //! with readers and writers, and `send_statement`, which the program writes with too. `checks` makes the line of the command `check`.
 #![tactic(auto)]
 
@@ -10,7 +10,7 @@ mod calls;
 mod checks;
 pub mod examples;
 mod opening;
-mod order_file;
+mod order_files;
 mod statement_text;
 mod taking;
 mod value;

@@ -1,4 +1,4 @@
-//! The rows of an order file, taken in one of three ways, with the statement of their day.
+//! The rows of the order files of a day, taken in one of three ways, with its statement.
 ghost use Rattle.std.specs.Prelude.{◌≡◌, ◌≢◌, ◌≤◌, ◌<◌, IfOk, None, length, map};
 ghost use Rattle.xm_day.specs.Answers.{InFileOrder};
 ghost use Rattle.xm_day.specs.Days.{IsStated, TakesFile, nothing_asked};
@@ -7,8 +7,9 @@ ghost use Rattle.xm_workers.specs.Workers.{IsShared};
 ghost use Rattle.xm_rules.specs.Step.{replay};
 ghost use Rattle.xm_config.specs.Opening.{segment_fault};
 ghost use Rattle.xm_config.specs.declared.opening.TheConstants.{MAX_WORKERS};
+ghost use Rattle.xm_files.specs.declared.order_files.TheConstants.{MAX_FILES};
 
-use crate::order_file::{share_orders, take_orders, take_orders_apart};
+use crate::order_files::{share_orders, take_orders, take_orders_apart};
 use crate::statement_text::StatementText;
 use std::alloc::Global;
 use std::io::Read;
@@ -31,25 +32,26 @@ pub struct TakenDay {
     pub statement: StatementText,
 }
 
-/// Has the desks of a segment take the rows of an order file in their order, which tell the texts that are asked for.
+/// Has the desks of a segment take the rows of the order files, one after another, which tell the texts that are asked for.
 ///
-/// `Orders`: the order file has a fault. `Open`: the segment can't be opened. `OutOfMemory`: a growth was refused.
+/// `Orders`: an order file has a fault. `Open`: the segment can't be opened. `OutOfMemory`: a growth was refused.
 pub fn take_in_order<R: Read>(
     storage: Storage<Global>,
     config: &SegmentConfig,
     names: &SegmentNames,
-    orders: &mut R,
+    orders: &mut [R],
     asked: AskedTexts,
 ) -> Result<TakenDay, DayFault>
     requires securities { length names.now.securities ≡ length config.now.securities }
-    ensures taken { TakesFile InFileOrder asked config.now names.now (R.remaining orders.old) result }
+    requires files { length orders.old ≤ MAX_FILES }
+    ensures taken { TakesFile InFileOrder asked config.now names.now (map R.remaining orders.old) result }
     ensures each { IfOk result (λ t. length t.day.desks.items ≡ length config.now.securities) }
 {
     let taken = take_orders(storage, config, names, orders, asked);
     stated(storage.alloc, config, names, taken)
 }
 
-/// Has the securities of a segment take the rows of an order file as `take_in_order` does, on so many threads: each takes the rows of
+/// Has the securities of a segment take the rows of the order files as `take_in_order` does, on so many threads: each takes the rows of
 /// securities of its own, in their order, and the next rows are read beside it. What they give is what one thread gives.
 ///
 /// The faults are those of `take_in_order`.
@@ -59,12 +61,13 @@ pub fn take_on_threads<T: Threads + Sync, R: Read>(
     storage: Storage<Global>,
     config: &SegmentConfig,
     names: &SegmentNames,
-    orders: &mut R,
+    orders: &mut [R],
     asked: AskedTexts,
 ) -> Result<TakenDay, DayFault>
     requires some { 1 ≤ threads }
     requires securities { length names.now.securities ≡ length config.now.securities }
-    ensures taken { TakesFile InFileOrder asked config.now names.now (R.remaining orders.old) result }
+    requires files { length orders.old ≤ MAX_FILES }
+    ensures taken { TakesFile InFileOrder asked config.now names.now (map R.remaining orders.old) result }
     ensures each { IfOk result (λ t. length t.day.desks.items ≡ length config.now.securities) }
 {
     if threads == 1 {
@@ -74,9 +77,9 @@ pub fn take_on_threads<T: Threads + Sync, R: Read>(
     stated_apart(rt, threads, storage.alloc, config, names, taken)
 }
 
-/// Has so many workers take the rows of an order file. One takes them as `take_in_order` does.
+/// Has so many workers take the rows of the order files. One takes them as `take_in_order` does.
 ///
-/// Several take each round of the order file side by side, each the rows of its members, in their order, in a thread of its
+/// Several take each round of an order file side by side, each the rows of its members, in their order, in a thread of its
 /// own, or on the calling one where one worker alone has rows; then the round's phase rows are taken. So two runs may differ
 /// where members compete.
 ///
@@ -88,13 +91,14 @@ pub fn take_shared<T: Threads + Wait + Sync, G: Gate + Sync, R: Read>(
     storage: Storage<Global>,
     config: &SegmentConfig,
     names: &SegmentNames,
-    orders: &mut R,
+    orders: &mut [R],
 ) -> Result<TakenDay, DayFault>
     requires some { 1 ≤ workers }
     requires few { workers ≤ MAX_WORKERS }
     requires securities { length names.now.securities ≡ length config.now.securities }
-    ensures alone { workers ≡ 1 → TakesFile InFileOrder nothing_asked config.now names.now (R.remaining orders.old) result }
-    ensures shared { workers ≢ 1 → TakesFile (IsShared workers) nothing_asked config.now names.now (R.remaining orders.old) result }
+    requires files { length orders.old ≤ MAX_FILES }
+    ensures alone { workers ≡ 1 → TakesFile InFileOrder nothing_asked config.now names.now (map R.remaining orders.old) result }
+    ensures shared { workers ≢ 1 → TakesFile (IsShared workers) nothing_asked config.now names.now (map R.remaining orders.old) result }
     ensures each { IfOk result (λ t. length t.day.desks.items ≡ length config.now.securities) }
 {
     if workers == 1 {

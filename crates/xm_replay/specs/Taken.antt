@@ -1,5 +1,5 @@
 -- What desks have taken of the rows of an order file, and what they told of them.
-use Rattle.std.specs.Prelude.{◌≡◌, ℕ, ◌+◌, List, [], ◌++◌, length, sum_by, None, Some, Result, Ok, Err}
+use Rattle.std.specs.Prelude.{◌≡◌, ℕ, ◌+◌, List, [], ◌++◌, length, sum_by, Option, None, Some, Result, Ok, Err}
 use Rattle.std.specs.Bool.{OnFalse, OnTrue}
 use Rattle.xm_config.specs.Day.{Day, LacksMemoryAt, day, day_of, opening_day}
 use Rattle.xm_texts.specs.Feeds.{feed_of}
@@ -15,7 +15,9 @@ use Rattle.xm_config.specs.declared.opening.OpenFault.TheVariants as opening
 use Rattle.xm_files.specs.Batches.{RowsLeft, rows_from}
 use Rattle.xm_files.specs.FileFaults.{is_from_outside}
 use Rattle.xm_files.specs.Names.{NameLists}
+use Rattle.xm_files.specs.OrderFiles.{AreBytesOf, HaveFault, HaveNoneBefore, orders_of_files, text_in_files}
 use Rattle.xm_files.specs.declared.file_faults.FileFault.{FileFault}
+use Rattle.xm_files.specs.declared.file_faults.OrdersFault.{OrdersFault}
 use Rattle.xm_rules.specs.Step.{Journal}
 use Rattle.xm_config.specs.Opening.{segment_fault}
 use Rattle.xm_config.specs.declared.config.SegmentConfig.{SegmentConfig}
@@ -72,6 +74,19 @@ DesksEnd days config rows (Ok d) =
 DesksEnd days config rows (Err (Open fault)) = IsOpenFault config fault
 DesksEnd days config rows (Err (OutOfMemory _)) = segment_fault config ≡ None
 DesksEnd days config rows (Err fault) = ⊥
+
+-- the fault is the first one of the order files of a day, of each of which the bytes are told where they are known; or a reader or the memory
+-- failed, which has no line. The files before it have none
+abbrev pub IsOrdersFault : NameLists → SegmentConfig → List (Option (List ℕ)) → OrdersFault → Type 0
+IsOrdersFault names config known fault =
+    OnFalse (is_from_outside fault.fault.cause) (HaveFault names config known fault) × OnTrue (is_from_outside fault.fault.cause) (fault.fault.line ≡ 0)
+    × HaveNoneBefore names config known fault.file
+
+-- what has taken the rows of the order files of a day, whose records have the texts of these files, or their first fault
+abbrev pub FilesRun : {A : Type 0} → ((ℕ → List ℕ) → SegmentConfig → List Row → A → Type 0) → SegmentConfig → NameLists → List (Option (List ℕ)) → Result A OrdersFault → Type 0
+FilesRun taken config names known (Ok day) =
+    (files : List (List ℕ)) × AreBytesOf known files × (rows : List Row) × (orders_of_files names config files ≡ Ok rows) × taken (text_in_files files) config rows day
+FilesRun taken config names known (Err fault) = IsOrdersFault names config known fault
 
 -- what has taken the rows of an order file, if it has no fault
 abbrev pub RowsRun : {A : Type 0} → (SegmentConfig → List Row → A → Type 0) → SegmentConfig → NameLists → RowsLeft → Result A FileFault → Type 0

@@ -4,7 +4,7 @@ ghost use Rattle.xm_replay.specs.declared.faults.DayFault.TheVariants as day;
 
 use thiserror::Error;
 use xm_config::OpenFault;
-use xm_files::FileFault;
+use xm_files::{FileFault, OrdersFault};
 use xm_memory::OutOfMemory;
 
 /// Why a day has no statement, in the order of the checks. `WriteFailed` may also come before all of them, where a file that is to
@@ -17,9 +17,9 @@ pub enum DayFault {
     /// The carry file has a fault.
     #[error("carry file, {0}")]
     Carry(FileFault),
-    /// The order file has a fault.
-    #[error("order file, {0}")]
-    Orders(FileFault),
+    /// An order file has a fault.
+    #[error("{0}")]
+    Orders(OrdersFault),
     /// The segment can't be opened.
     #[error("{0}")]
     Open(OpenFault),

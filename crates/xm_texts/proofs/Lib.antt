@@ -6,5 +6,6 @@ mod LeftInRange
 mod CarryTexts
 mod CarriedBack
 pub mod Feeding
+pub mod FileTexts
 pub mod Tells
 pub mod Then

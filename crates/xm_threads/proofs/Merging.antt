@@ -1,21 +1,23 @@
 -- The texts that securities tell together, batch by batch.
-use Rattle.std.proofs.Common.{◌≡◌, ℕ, ◌+◌, ◌<◌, Bool, true, false, List, [], ◌∷◌, ◌++◌, append_assoc, fold, get_or, if◌then◌else◌, length, map, slice_get, Option, Some, None, Result, option_map, refl, ap, ap₂, sym, subst, arith, ◌∙◌}
+use Rattle.std.proofs.Common.{◌≡◌, ℕ, ◌+◌, ◌<◌, Bool, true, false, List, [], ◌∷◌, ◌++◌, append_assoc, fold, get_or, if◌then◌else◌, length, map, slice_get, take, Option, Some, None, Result, option_map, refl, ap, ap₂, sym, subst, arith, ◌∙◌}
 use Rattle.std.proofs.lemmas.Bool.{OnTrue_at}
 use Rattle.std.proofs.lemmas.List.{append-nil, length-map, length-set}
-use Rattle.std.proofs.lemmas.List.Sums.{fold-append}
+use Rattle.std.proofs.lemmas.List.Elements.{All-head, All-tail}
+use Rattle.std.proofs.lemmas.List.Sums.{fold-append, fold_more}
 use Rattle.std.specs.Bool.{OnTrue}
-use Rattle.xm_threads.proofs.Apart.{all_rows, counts-of, fresh-at, length-rows, rows-at, taken-more}
+use Rattle.xm_threads.proofs.Apart.{all_rows, counts-of, fresh-at, fresh-taken, length-rows, rows-at, taken-more}
 use Rattle.xm_config.proofs.Days.{day-opened}
 use Rattle.xm_threads.proofs.Telling.{keeps-asked, popped-same, set-popped, texts-are, told-added}
-use Rattle.xm_texts.proofs.Tells.{told_of_rows-append}
+use Rattle.xm_texts.proofs.Tells.{agree-left, agree-right, agree-with_itself, told_of_rows-append}
 use Rattle.xm_config.specs.Day.{Day as TheDay, after_rows, answer_on, day, day_of, opening_day, told_of_rows}
 use Rattle.xm_texts.specs.Feeds.{feed_of}
 use Rattle.xm_threads.specs.KeptRows.{KeptRow, behind_first}
-use Rattle.xm_threads.specs.Lanes.{AreTaken, AreTold, IsAdded, LaneView, LanesAndTexts, MergedView, TextsView, TookMore, TookOwnRows, asks_any, fresh_lane, if_asked, journal_after, kept_row, lane_after, lane_rows, own_kept, own_row, own_rows, tells_any, texts_where, told_by_lane, told_row}
+use Rattle.xm_threads.specs.Lanes.{AreTaken, AreTakenSoFar, AreTold, HaveBegun, HaveBegunUnless, IsAdded, LaneView, LanesAndTexts, MergedView, TextsView, TookFile, TookMore, TookOwnRows, asks_any, fresh_lane, if_asked, journal_after, kept_row, lane_after, lane_rows, own_kept, own_row, own_rows, tells_any, texts_where, told_by_lane, told_row}
 use Rattle.xm_texts.specs.MarketDepth.{change_lines, depth_header, depth_text, market_depth, told_change, told_depth}
 use Rattle.xm_texts.specs.declared.depth.MarketDepth.{MarketDepth}
-use Rattle.xm_texts.specs.RowAnswers.{answers_header, answers_text, told_of, where_asked}
+use Rattle.xm_texts.specs.RowAnswers.{AgreeOn, answers_header, answers_text, told_of, where_asked}
 use Rattle.xm_texts.specs.RowTrades.{told_trades, trades_header, trades_text}
+use Rattle.xm_replay.specs.declared.faults.DayFault.{DayFault}
 use Rattle.xm_texts.specs.declared.asked.AskedTexts.{AskedTexts}
 use Rattle.xm_files.specs.Names.{NameLists}
 use Rattle.xm_rules.specs.State.{State}
@@ -86,6 +88,23 @@ same-added own rows old new before after is = subst (AreSame old) (sym (ap (λ (
     go true = same-rows own rows (record { lanes = old; texts = before })
     go false = record { long = refl; each = λ k d inside. (refl, refl) }
 
+-- ---- texts that are the same for these records
+
+told-alike_row : (texts own : ℕ → List ℕ) (row : Row) (s : LanesAndTexts) → texts row.line ≡ own row.line → told_row own s row ≡ told_row texts s row
+told-alike_row texts own row s same = ap (λ (text : List ℕ). told_by_lane row text (slice_get s.lanes row.security) s) (sym same)
+
+told-alike_rows : (texts own : ℕ → List ℕ) (rows : List Row) (s : LanesAndTexts) → AgreeOn texts own rows → fold (told_row own) s rows ≡ fold (told_row texts) s rows
+told-alike_rows texts own [] s agree = refl
+told-alike_rows texts own (row ∷ rows) s agree =
+    let first : texts row.line ≡ own row.line = All-head (λ (r : Row). texts r.line ≡ own r.line) row rows agree in
+    told-alike_rows texts own rows (told_row own s row) (All-tail (λ (r : Row). texts r.line ≡ own r.line) row rows agree)
+    ∙ ap (λ (t : LanesAndTexts). fold (told_row texts) t rows) (told-alike_row texts own row s first)
+
+-- texts that went on with these rows by their own texts did so by any that agree with these
+added-alike : (texts own : ℕ → List ℕ) (rows : List Row) (old new : List LaneView) (before after : TextsView) → AgreeOn texts own rows → IsAdded own rows old before new after → IsAdded texts rows old before new after
+added-alike texts own rows old new before after agree is =
+    is ∙ ap (λ (s : LanesAndTexts). if tells_any before then s else record { lanes = old; texts = before }) (told-alike_rows texts own rows (record { lanes = old; texts = before }) agree)
+
 same-taken : (config : SegmentConfig) (rows : List Row) (mid new : List LaneView) → AreSame mid new → AreTaken config rows mid → AreTaken config rows new
 same-taken config rows mid new same has = record {
   each = same.long ∙ has.each;
@@ -94,6 +113,17 @@ same-taken config rows mid new same has = record {
       let is = same.each k d within in
       is.0 ∙ has.taken k d within (sym is.1 ∙ had);
 }
+
+-- ---- a row more
+
+-- texts that went on with some rows went on with one more
+pub told-one_more : (own at : ℕ → List ℕ) (rows : List Row) (i : ℕ) (row : Row) (begun old new : LanesAndTexts) → i < length rows → at ≡ own → old ≡ fold (told_row own) begun (take i rows) → new ≡ told_row at old (get_or rows i row)
+    → new ≡ fold (told_row own) begun (take (i + 1) rows)
+told-one_more own at rows i row begun old new within same so_far step =
+    step
+    ∙ ap (λ (by_number : ℕ → List ℕ). told_row by_number old (get_or rows i row)) same
+    ∙ ap (λ (s : LanesAndTexts). told_row own s (get_or rows i row)) so_far
+    ∙ sym (fold_more (told_row own) begun rows i row within)
 
 -- ---- since the opening
 
@@ -111,9 +141,10 @@ took-more names own rows old mid new before after kept took adds = record {
   since_opening = λ config earlier so had.
       let added = adds had in
       same-taken config (earlier ++ rows) mid new (same-added own rows mid new before.texts after.texts added.1) (taken-more names config earlier rows old mid kept took (so added.0));
-  told = λ asked config earlier each so had all.
+  told = λ asked texts config earlier agree each so had all.
       let added = adds had in
-      let same = same-added own rows mid new before.texts after.texts added.1 in
+      let is = added-alike texts own rows mid new before.texts after.texts agree added.1 in
+      let same = same-added texts rows mid new before.texts after.texts is in
       let opened : List Journal = map (journal_of config) config.securities in
       let js = all_rows opened earlier in
       let long : length opened ≡ length old = length-map config.securities (journal_of config) ∙ sym each in
@@ -124,10 +155,10 @@ took-more names own rows old mid new before after kept took adds = record {
       let stood : (k : ℕ) (d : LaneView) → k < length old → get_or js k d.journal ≡ own_rows k (get_or opened k d.journal) earlier = λ k d inside. rows-at opened earlier k d.journal (omega (arith, long, inside)) in
       let counts = counts-of opened earlier 0 0 in
       let at : day_of js counts.accepted counts.refused ≡ after_rows (opening_day config) earlier = sym counts.is ∙ ap (λ (d : TheDay). after_rows d earlier) (day-opened config opened refl) in
-      let added_to : IsAdded own rows mid (texts_where asked (answers_text names config own earlier) (trades_text names config own earlier) (depth_text names config earlier)) new after.texts =
-      subst (λ (t : TextsView). IsAdded own rows mid t new after.texts) was.texts_are added.1 in
+      let added_to : IsAdded texts rows mid (texts_where asked (answers_text names config texts earlier) (trades_text names config texts earlier) (depth_text names config earlier)) new after.texts =
+      subst (λ (t : TextsView). IsAdded texts rows mid t new after.texts) was.texts_are is in
       let told =
-      told-added asked names own js counts.accepted counts.refused rows mid new (answers_text names config own earlier) (trades_text names config own earlier) (depth_text names config earlier) after.texts as_long
+      told-added asked names texts js counts.accepted counts.refused rows mid new (answers_text names config texts earlier) (trades_text names config texts earlier) (depth_text names config earlier) after.texts as_long
       (λ k d inside.
       let within : k < length old = omega (arith, kept, inside) in
       let same_index : 0 + k ≡ k = omega arith in
@@ -142,9 +173,35 @@ took-more names own rows old mid new before after kept took adds = record {
             ∙ ap (fresh_lane asked) (sym (fold-append (own_row k) (get_or opened k d.journal) earlier rows));
         texts_are =
             told.texts_are
-            ∙ texts-are asked _ _ _ _ _ _ (text-more (told_of names own) answers_header (opening_day config) _ earlier rows at)
-            (text-more (told_trades names own) trades_header (opening_day config) _ earlier rows at) (text-more (told_depth names) depth_header (opening_day config) _ earlier rows at);
+            ∙ texts-are asked _ _ _ _ _ _ (text-more (told_of names texts) answers_header (opening_day config) _ earlier rows at)
+            (text-more (told_trades names texts) trades_header (opening_day config) _ earlier rows at) (text-more (told_depth names) depth_header (opening_day config) _ earlier rows at);
       };
+}
+
+-- no rows are
+pub took-none : (names : NameLists) (own : ℕ → List ℕ) (lanes : List LaneView) (merged : MergedView) → TookMore names own [] lanes merged lanes merged
+took-none names own lanes merged = record {
+  since_opening = λ config earlier so. subst (λ (rows : List Row). AreTakenSoFar config rows lanes merged) (sym (append-nil earlier)) so;
+  told = λ asked texts config earlier agree each so. subst (λ (rows : List Row). AreTold asked names texts config rows lanes merged) (sym (append-nil earlier)) so;
+}
+
+-- and more behind them
+pub took-then : (names : NameLists) (own : ℕ → List ℕ) (rows more : List Row) (old mid new : List LaneView) (before between after : MergedView) → length mid ≡ length old → TookMore names own rows old before mid between → TookMore names own more mid between new after
+    → TookMore names own (rows ++ more) old before new after
+took-then names own rows more old mid new before between after kept first next = record {
+  since_opening = λ config earlier so.
+      subst (λ (rs : List Row). AreTakenSoFar config rs new after) (append_assoc earlier rows more) (next.since_opening config (earlier ++ rows) (first.since_opening config earlier so));
+  told = λ asked texts config earlier agree each so.
+      let so_far = first.told asked texts config earlier (agree-left texts own rows more agree) each so in
+      subst (λ (rs : List Row). AreTold asked names texts config rs new after) (append_assoc earlier rows more)
+      (next.told asked texts config (earlier ++ rows) (agree-right texts own rows more agree) (kept ∙ each) so_far);
+}
+
+-- the same by texts that agree with these
+pub took-alike : (names : NameLists) (texts own : ℕ → List ℕ) (rows : List Row) (old new : List LaneView) (before after : MergedView) → AgreeOn texts own rows → TookMore names own rows old before new after → TookMore names texts rows old before new after
+took-alike names texts own rows old new before after same took = record {
+  since_opening = took.since_opening;
+  told = λ asked others config earlier agree each so. took.told asked others config earlier (λ k d within. agree k d within ∙ same k d within) each so;
 }
 
 -- none are, where the segment was opened just now
@@ -163,3 +220,17 @@ feed-behind asked names config rows states levels is stand = ap (option_map (λ 
     go : (b : Bool) → option_map (λ (text : List ℕ). record { text = text; shown = map market_depth states }) (where_asked b (depth_text names config rows)) ≡ where_asked b (feed_of names config rows)
     go false = refl
     go true = ap (λ (ss : List State). Some (record { text = depth_text names config rows; shown = map market_depth ss })) stand
+
+-- securities that were opened just now took the rows of a file, for which they were lent, and told of them
+pub file-taken : (asked : AskedTexts) (names : NameLists) (own : ℕ → List ℕ) (config : SegmentConfig) (rows : List Row) (count : ℕ) (unopened : Option DayFault) (opened lent lanes back : List LaneView) (before after : MergedView)
+    → unopened ≡ None → HaveBegunUnless unopened asked config opened before → lent ≡ opened → back ≡ lanes → TookFile names own lent before lanes after config rows count
+    → (length rows ≡ count) × AreTakenSoFar config rows back after × AreTold asked names own config rows back after
+file-taken asked names own config rows count unopened opened lent lanes back before after none begun is given file =
+    let all : HaveBegun asked config opened before = subst (λ (o : Option DayFault). HaveBegunUnless o asked config opened before) none begun in
+    let lanes_are = is ∙ all.lanes_are in
+    let fresh = fresh-taken asked config lent lanes_are in (
+      sym file.counted,
+      subst (λ (ls : List LaneView). AreTakenSoFar config rows ls after) (sym given) (file.took.since_opening config [] (λ had. fresh)),
+      subst (λ (ls : List LaneView). AreTold asked names own config rows ls after) (sym given)
+          (file.took.told asked own config [] (agree-with_itself own rows) fresh.each (fresh-told asked names own config lent before lanes_are all.texts_are)),
+    )

@@ -5,9 +5,9 @@ use Rattle.std.specs.List.{flat_map}
 use Rattle.xm_replay.specs.Taken.{IsOpenFault}
 use Rattle.xm_config.specs.Day.{answer_on}
 use Rattle.xm_threads.specs.KeptRows.{KeptRow, behind_first}
-use Rattle.xm_texts.specs.MarketDepth.{depth_text, told_change}
-use Rattle.xm_texts.specs.RowAnswers.{answers_text, record_line, security_fields, unknown_fields, where_asked, with_text}
-use Rattle.xm_texts.specs.RowTrades.{row_trades, trades_text}
+use Rattle.xm_texts.specs.MarketDepth.{depth_header, depth_text, told_change}
+use Rattle.xm_texts.specs.RowAnswers.{AgreeOn, answers_header, answers_text, record_line, security_fields, unknown_fields, where_asked, with_text}
+use Rattle.xm_texts.specs.RowTrades.{row_trades, trades_header, trades_text}
 use Rattle.xm_replay.specs.declared.faults.DayFault.{DayFault}
 use Rattle.xm_replay.specs.declared.faults.DayFault.TheVariants.{Open, OutOfMemory}
 use Rattle.xm_texts.specs.declared.asked.AskedTexts.{AskedTexts}
@@ -155,31 +155,56 @@ pub record MergedView : Type 0 where
   pub texts : TextsView
   pub lacks_memory : Bool
 
--- securities have told all of these rows, where records have these texts of their own by their numbers
-pub record ToldRows (asked : AskedTexts) (names : NameLists) (own : ℕ → List ℕ) (config : SegmentConfig) (rows : List Row) (lanes : List LaneView) (texts : TextsView) : Type 0 where
+-- securities have told all of these rows, whose records have these texts by their numbers
+pub record ToldRows (asked : AskedTexts) (names : NameLists) (texts : ℕ → List ℕ) (config : SegmentConfig) (rows : List Row) (lanes : List LaneView) (told : TextsView) : Type 0 where
   pub lanes_are : (k : ℕ) (d : LaneView) → k < length lanes → slice_index_or lanes k d ≡ fresh_lane asked (own_rows k (slice_index_or (map (journal_of config) config.securities) k d.journal) rows)
-  pub texts_are : texts ≡ texts_where asked (answers_text names config own rows) (trades_text names config own rows) (depth_text names config rows)
+  pub texts_are : told ≡ texts_where asked (answers_text names config texts rows) (trades_text names config texts rows) (depth_text names config rows)
 
 -- the same, unless memory was wanting
 abbrev pub AreTold : AskedTexts → NameLists → (ℕ → List ℕ) → SegmentConfig → List Row → List LaneView → MergedView → Type 0
-AreTold asked names own config rows lanes merged =
-    merged.lacks_memory ≡ false → All (λ (l : LaneView). l.lacks_memory ≡ false) lanes → ToldRows asked names own config rows lanes merged.texts
+AreTold asked names texts config rows lanes merged =
+    merged.lacks_memory ≡ false → All (λ (l : LaneView). l.lacks_memory ≡ false) lanes → ToldRows asked names texts config rows lanes merged.texts
 
 -- they have taken these rows, unless memory was wanting for what they tell
 abbrev pub AreTakenSoFar : SegmentConfig → List Row → List LaneView → MergedView → Type 0
 AreTakenSoFar config rows lanes merged = merged.lacks_memory ≡ false → AreTaken config rows lanes
 
--- they have taken their rows of these as well, and told of them
+-- they have taken so many rows of some day
+abbrev pub TookSoMany : SegmentConfig → ℕ → List LaneView → MergedView → Type 0
+TookSoMany config count lanes merged = (rows : List Row) × (length rows ≡ count) × AreTakenSoFar config rows lanes merged
+
+-- they have taken their rows of these as well, whose records have these texts, and told of them
 pub record TookMore (names : NameLists) (own : ℕ → List ℕ) (rows : List Row) (old : List LaneView) (before : MergedView) (new : List LaneView) (after : MergedView) : Type 0 where
   pub since_opening : (config : SegmentConfig) (earlier : List Row) → AreTakenSoFar config earlier old before → AreTakenSoFar config (earlier ++ rows) new after
-  pub told : (asked : AskedTexts) (config : SegmentConfig) (earlier : List Row) → length old ≡ length config.securities → AreTold asked names own config earlier old before → AreTold asked names own config (earlier ++ rows) new after
+  pub told : (asked : AskedTexts) (texts : ℕ → List ℕ) (config : SegmentConfig) (earlier : List Row) → AgreeOn texts own rows → length old ≡ length config.securities
+      → AreTold asked names texts config earlier old before → AreTold asked names texts config (earlier ++ rows) new after
+
+-- they have taken their rows of an order file, which are so many, whose records have these texts
+pub record TookFile (names : NameLists) (own : ℕ → List ℕ) (old : List LaneView) (before : MergedView) (new : List LaneView) (after : MergedView) (config : SegmentConfig) (rows : List Row) (count : ℕ) : Type 0 where
+  pub counted : count ≡ length rows
+  pub took : TookMore names own rows old before new after
+
+-- this fault keeps the segment from being opened, or memory was wanting
+abbrev pub IsUnopened : SegmentConfig → DayFault → Type 0
+IsUnopened config (Open fault) = IsOpenFault config fault
+IsUnopened config (OutOfMemory _) = segment_fault config ≡ None
+IsUnopened config fault = ⊥
 
 -- the securities of a segment were opened, unless it can't be, or memory was wanting
 abbrev pub AreOpened : {A : Type 0} → (A → List LaneView) → AskedTexts → SegmentConfig → Result A DayFault → Type 0
 AreOpened lanes_in asked config (Ok opened) = (segment_fault config ≡ None) × (lanes_in opened ≡ map (fresh_lane asked) (map (journal_of config) config.securities))
-AreOpened lanes_in asked config (Err (Open fault)) = IsOpenFault config fault
-AreOpened lanes_in asked config (Err (OutOfMemory _)) = segment_fault config ≡ None
-AreOpened lanes_in asked config (Err fault) = ⊥
+AreOpened lanes_in asked config (Err fault) = IsUnopened config fault
+
+-- they were opened, and have told nothing yet
+pub record HaveBegun (asked : AskedTexts) (config : SegmentConfig) (lanes : List LaneView) (merged : MergedView) : Type 0 where
+  pub sound : segment_fault config ≡ None
+  pub lanes_are : lanes ≡ map (fresh_lane asked) (map (journal_of config) config.securities)
+  pub texts_are : merged.lacks_memory ≡ false → merged.texts ≡ texts_where asked answers_header trades_header depth_header
+
+-- the same, unless a fault kept them from being opened
+abbrev pub HaveBegunUnless : Option DayFault → AskedTexts → SegmentConfig → List LaneView → MergedView → Type 0
+HaveBegunUnless None asked config lanes merged = HaveBegun asked config lanes merged
+HaveBegunUnless (Some fault) asked config lanes merged = IsUnopened config fault
 
 -- a batch of rows was read behind the rows so far, and perhaps the last of the file; or the fault of the file was met
 pub record IsReadBehind (names : NameLists) (config : SegmentConfig) (before : List Row) (old new : RowsLeft) (next : RowsRead) (result : Result Bool FileFault) : Type 0 where
@@ -188,5 +213,7 @@ pub record IsReadBehind (names : NameLists) (config : SegmentConfig) (before : L
   pub earlier : OnOk result (next.earlier ≡ before)
   pub further : result ≡ Ok true → old.line < new.line
   pub bounded : new.line ≤ max_lines
+  pub counted : OnOk result (new.line + length new.records ≡ old.line + length old.records)
+  pub none : result ≡ Ok false → new.records ≡ []
   pub err : IfErr result (λ fault. fault.cause ≢ NoMemory tt → rows_from names config old before ≡ Err fault)
   pub memory : IfErr result (λ fault. OnTrue (is_from_outside fault.cause) (fault.line ≡ 0))

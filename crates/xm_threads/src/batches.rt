@@ -1,57 +1,107 @@
-//! The rows of an order file, taken on threads, a batch while the next one is read.
-ghost use Rattle.std.specs.Prelude.{◌≡◌, ◌≤◌, ◌<◌, [], None, length};
+//! The rows of order files, taken on threads, a batch while the next one is read.
+ghost use Rattle.std.specs.Prelude.{◌≡◌, ◌≤◌, ◌<◌, ◌+◌, IfOk, OnOk, length, map};
 ghost use Rattle.std.specs.Thread.{IsSync};
-ghost use Rattle.xm_replay.specs.Taken.{RowsRun, RowsTaken};
-ghost use Rattle.xm_threads.specs.Lanes.{AreOpened, AreTold, AreTakenSoFar, IsReadBehind, TookMore};
-ghost use Rattle.xm_texts.specs.declared.asked.AskedTexts.{AskedTexts};
-ghost use Rattle.xm_files.specs.Batches.{rows_so_far, text_left};
-ghost use Rattle.xm_files.specs.RecordTexts.{text_of_record, texts_in};
-ghost use Rattle.xm_files.specs.declared.bytes.TheConstants.{MAX_BYTES};
+ghost use Rattle.xm_replay.specs.Taken.{FilesRun, RowsRun, RowsTaken};
+ghost use Rattle.xm_threads.specs.Lanes.{IsReadBehind, TookFile, TookMore};
+ghost use Rattle.xm_files.specs.Batches.{rows_so_far};
+ghost use Rattle.xm_files.specs.RecordTexts.{texts_in};
+ghost use Rattle.xm_files.specs.declared.order_files.TheConstants.{MAX_FILES};
+ghost use Rattle.xm_files.specs.declared.orders.TheConstants.{MAX_ROWS};
 
-use crate::lanes::{DeskLane, closed, open_lanes, take_apart};
+use crate::lanes::{DeskLane, OpenLanes, closed, open_apart, take_apart};
 use crate::merged::Merged;
 use std::alloc::Global;
+use std::io::Read;
 use std::thread::Threads;
 use std::{mem, thread};
 use xm_config::SegmentConfig;
-use xm_files::{Batch, FileFault, FileParts, RecordTexts, RowReader, SegmentNames};
+use xm_files::{
+    Batch, FileFault, FileParts, OrderFiles, OrdersFault, RecordTexts, RowReader, SegmentNames,
+};
 use xm_name_index::Storage;
 use xm_replay::{DayFault, OpenDay};
 use xm_texts::AskedTexts;
 
-/// Reads the rows of an order file of these bytes, and has the securities of a segment take them on so many threads, each its
-/// own, and tell the texts that are asked for. The fault of the file is answered, if it has one, and else what came of its rows.
-pub fn run_apart<T: Threads + Sync>(
+/// Reads the order files of a day, one after another, and has the securities of a segment take their rows on so many threads, each its
+/// own, and tell the texts that are asked for. The first fault of a file is answered, if one has any, and else what came of the rows.
+pub fn run_apart<T: Threads + Sync, R: Read>(
     rt: &T,
     threads: u32,
     storage: Storage<Global>,
     config: &SegmentConfig,
     names: &SegmentNames,
-    bytes: Vec<u8>,
+    orders: &mut [R],
     asked: AskedTexts,
-) -> Result<Result<OpenDay, DayFault>, FileFault>
+) -> Result<Result<OpenDay, DayFault>, OrdersFault>
     requires threads { 1 ≤ threads }
-    requires short { length bytes.items ≤ MAX_BYTES }
-    ensures { RowsRun (RowsTaken asked names.now (text_of_record bytes.items)) config.now names.now (text_left bytes.items None 1) result }
+    requires files { length orders.old ≤ MAX_FILES }
+    ensures { FilesRun (RowsTaken asked names.now) config.now names.now (map R.remaining orders.old) result }
 {
-    let mut file = RowReader::of(bytes.as_slice(), 1);
-    let mut texts = RecordTexts::of(storage.alloc, bytes.as_slice(), 1);
-    let opened = open_lanes(storage, config, asked);
-    take_file(
+    let alloc = storage.alloc;
+    let OpenLanes {
+        mut lanes,
+        mut merged,
+        unopened,
+    } = open_apart(storage, config, asked);
+    let rows = match take_files(
         rt,
         threads,
-        storage.alloc,
+        alloc,
         config,
         names,
-        &mut texts,
-        &mut file,
-        opened,
-        asked,
-    )
+        orders,
+        lanes.as_mut_slice(),
+        &mut merged,
+    ) {
+        Ok(rows) => rows,
+        Err(fault) => return Err(fault),
+    };
+    // A fault of a file comes before one of the opening.
+    match unopened {
+        Some(fault) => Ok(Err(fault)),
+        None => Ok(closed(alloc, config, lanes, merged, rows)),
+    }
 }
 
-/// Has the securities of a segment, if it could be opened, take the rows of an order file, whose texts these are. A fault of the file comes
-/// before any other.
+/// Reads the order files of a day, one after another, and has securities take their rows on so many threads, behind those that they took.
+/// Gives how many rows there are.
+fn take_files<T: Threads + Sync, R: Read>(
+    rt: &T,
+    threads: u32,
+    alloc: Global,
+    config: &SegmentConfig,
+    names: &SegmentNames,
+    orders: &mut [R],
+    lanes: &mut [DeskLane],
+    merged: &mut Merged,
+) -> Result<u64, OrdersFault>
+    requires threads { 1 ≤ threads }
+    requires files { length orders.old ≤ MAX_FILES }
+    ensures { FilesRun (λ texts. TookFile names.now texts lanes.old merged.old lanes.new merged.new) config.now names.now (map R.remaining orders.old) result }
+{
+    let mut files = OrderFiles::of(orders);
+    let mut count = 0;
+    'files: loop {
+        let file = match files.next(alloc) {
+            Ok(Some(file)) => file,
+            Ok(None) => return Ok(count),
+            Err(fault) => return Err(fault),
+        };
+        let mut rows = file.rows();
+        let mut texts = file.texts(alloc);
+        let own = match take_file(
+            rt, threads, alloc, config, names, &mut texts, &mut rows, lanes, merged,
+        ) {
+            Ok(own) => own,
+            Err(fault) => return Err(files.fault(fault)),
+        };
+        count += own;
+        files.end(rows.line());
+    }
+}
+
+/// Has securities take the rows of an order file, whose texts these are, behind the rows that they took, on so many threads, a batch while
+/// the next one is read, and adds what they tell of them. Gives how many rows the file has.
 fn take_file<T: Threads + Sync>(
     rt: &T,
     threads: u32,
@@ -60,68 +110,13 @@ fn take_file<T: Threads + Sync>(
     names: &SegmentNames,
     texts: &mut RecordTexts<'_>,
     file: &mut RowReader<'_>,
-    opened: Result<Vec<DeskLane>, DayFault>,
-    asked: AskedTexts,
-) -> Result<Result<OpenDay, DayFault>, FileFault>
-    requires threads { 1 ≤ threads }
-    requires opened { AreOpened (λ lanes. lanes.items) asked config.now opened }
-    ensures { RowsRun (RowsTaken asked names.now (texts_in texts.old)) config.now names.now file.old result }
-{
-    match opened {
-        Ok(mut lanes) => {
-            let mut merged = Merged::of(alloc, asked);
-            match take_batches(
-                rt,
-                threads,
-                alloc,
-                config,
-                names,
-                texts,
-                lanes.as_mut_slice(),
-                &mut merged,
-                file,
-            ) {
-                Ok(batch) => Ok(closed(alloc, config, lanes, merged, &batch)),
-                Err(fault) => Err(fault),
-            }
-        }
-        Err(unopened) => {
-            let mut none = Vec::new(alloc);
-            let mut nothing = Merged::of(alloc, AskedTexts::nothing());
-            match take_batches(
-                rt,
-                threads,
-                alloc,
-                config,
-                names,
-                texts,
-                none.as_mut_slice(),
-                &mut nothing,
-                file,
-            ) {
-                Ok(_) => Ok(Err(unopened)),
-                Err(fault) => Err(fault),
-            }
-        }
-    }
-}
-
-/// Has securities take the rows of an order file on so many threads, a batch while the next one is read, and adds what they tell of them.
-/// Gives the last batch.
-fn take_batches<T: Threads + Sync>(
-    rt: &T,
-    threads: u32,
-    alloc: Global,
-    config: &SegmentConfig,
-    names: &SegmentNames,
-    texts: &mut RecordTexts<'_>,
     lanes: &mut [DeskLane],
     merged: &mut Merged,
-    file: &mut RowReader<'_>,
-) -> Result<Batch, FileFault>
-    requires { 1 ≤ threads }
-    ensures { RowsRun (λ config rows batch. (rows_so_far batch ≡ rows) × (AreTakenSoFar config [] lanes.old merged.old → AreTakenSoFar config rows lanes.new merged.new)
-        × ((asked : AskedTexts) → length lanes.old ≡ length config.securities → AreTold asked names.now (texts_in texts.old) config [] lanes.old merged.old → AreTold asked names.now (texts_in texts.old) config rows lanes.new merged.new)) config.now names.now file.old result }
+) -> Result<u64, FileFault>
+    requires threads { 1 ≤ threads }
+    ensures taken { RowsRun (TookFile names.now (texts_in texts.old) lanes.old merged.old lanes.new merged.new) config.now names.now file.old result }
+    ensures few { IfOk result (λ rows. rows ≤ MAX_ROWS) }
+    ensures end { OnOk result (file.new.line ≡ file.old.line + length file.old.records) }
 {
     let size = lanes.len().div_ceil(threads as usize).max(1);
     let mut parts = match FileParts::new(alloc, threads) {
@@ -147,7 +142,7 @@ fn take_batches<T: Threads + Sync>(
         mem::swap(&mut batch, &mut next);
     }
     take_apart(rt, size, names, texts, &batch, lanes, merged);
-    Ok(batch)
+    Ok(batch.total() as u64)
 }
 
 /// Has securities take the rows of a batch, so many of them in a thread, and adds what they tell of them, while the next batch is read.

@@ -1,17 +1,16 @@
 //! Securities that take the rows of their segment apart, each its own.
-ghost use Rattle.std.specs.Prelude.{◌≡◌, ◌≤◌, ◌<◌, ◌+◌, ℕ, List, All, None, IfOk, OnErr, OnOk, Some, false, length, map, slice_index_or};
+ghost use Rattle.std.specs.Prelude.{◌≡◌, ◌<◌, ◌+◌, ◌^◌, ℕ, List, All, None, IfOk, OnErr, OnOk, Some, false, length, map, slice_index_or};
 ghost use Rattle.std.specs.Bool.{OnTrue};
 ghost use Rattle.xm_replay.specs.Taken.{RowsTaken, commands_in};
 ghost use Rattle.xm_config.specs.Day.{answer_on};
-ghost use Rattle.xm_threads.specs.Lanes.{AreOpened, AreTold, AreTakenSoFar, LaneView, TookMore, TookOwnRows, asks_any, fresh_lane, journal_after, lane_row};
+ghost use Rattle.xm_threads.specs.Lanes.{AreOpened, AreTold, AreTakenSoFar, HaveBegunUnless, LaneView, TookMore, TookOwnRows, TookSoMany, asks_any, fresh_lane, journal_after, lane_row};
 ghost use Rattle.xm_texts.specs.MarketDepth.{market_depth};
 ghost use Rattle.xm_texts.specs.declared.asked.AskedTexts.{AskedTexts};
-ghost use Rattle.xm_files.specs.Batches.{rows_so_far};
 ghost use Rattle.xm_files.specs.Names.{NameLists};
 ghost use Rattle.xm_files.specs.RecordTexts.{texts_in};
-ghost use Rattle.xm_files.specs.declared.orders.TheConstants.{MAX_ROWS};
 ghost use Rattle.xm_rules.specs.Step.{replay};
 ghost use Rattle.xm_config.specs.Opening.{segment_fault};
+ghost use Rattle.xm_config.specs.declared.rows.Row.{Row};
 
 use crate::kept_rows::KeptRows;
 use crate::merged::Merged;
@@ -22,7 +21,7 @@ use std::thread;
 use std::thread::Threads;
 use xm_config::{Row, SegmentConfig};
 use xm_desk::{Desk, open_desks};
-use xm_files::{Batch, MAX_ROWS, RecordTexts, SegmentNames};
+use xm_files::{Batch, RecordTexts, SegmentNames};
 use xm_memory::OutOfMemory;
 use xm_name_index::Storage;
 use xm_replay::{DayFault, DayReport, OpenDay, by_rule};
@@ -166,8 +165,39 @@ fn show(shown: &mut MarketDepth, asked: bool, desk: &Desk<Global>)
     }
 }
 
+/// The securities of a segment, what they tell together, and the fault that kept it from being opened, if one did: then there are none.
+#[derive(Drop)]
+pub(crate) struct OpenLanes {
+    pub(crate) lanes: Vec<DeskLane>,
+    pub(crate) merged: Merged,
+    pub(crate) unopened: Option<DayFault>,
+}
+
+/// Opens the securities of a segment, for their rows, of which these texts are told.
+pub(crate) fn open_apart(
+    storage: Storage<Global>,
+    config: &SegmentConfig,
+    asked: AskedTexts,
+) -> OpenLanes
+    ensures { HaveBegunUnless result.unopened asked config.now result.lanes.items result.merged }
+{
+    let alloc = storage.alloc;
+    match open_lanes(storage, config, asked) {
+        Ok(lanes) => OpenLanes {
+            lanes,
+            merged: Merged::of(alloc, asked),
+            unopened: None,
+        },
+        Err(fault) => OpenLanes {
+            lanes: Vec::new(alloc),
+            merged: Merged::of(alloc, AskedTexts::nothing()),
+            unopened: Some(fault),
+        },
+    }
+}
+
 /// Opens the desks of a segment, for their rows, of which these texts are told.
-pub(crate) fn open_lanes(
+fn open_lanes(
     storage: Storage<Global>,
     config: &SegmentConfig,
     asked: AskedTexts,
@@ -256,19 +286,19 @@ fn take_row(first: usize, names: &SegmentNames, lanes: &mut [DeskLane], row: &Ro
     }
 }
 
-/// The day of a segment whose securities have taken the rows up to a batch, and what they told of them.
+/// The day of a segment whose securities have taken so many rows, and what they told of them.
 pub(crate) fn closed(
     alloc: Global,
     config: &SegmentConfig,
     lanes: Vec<DeskLane>,
     merged: Merged,
-    batch: &Batch,
+    rows: u64,
 ) -> Result<OpenDay, DayFault>
     requires sound { segment_fault config.now ≡ None }
-    requires taken { AreTakenSoFar config.now (rows_so_far batch.now) lanes.items merged }
-    ensures { (asked : AskedTexts) (names : NameLists) (texts : ℕ → List ℕ) → AreTold asked names texts config.now (rows_so_far batch.now) lanes.items merged → RowsTaken asked names texts config.now (rows_so_far batch.now) result }
+    requires taken { TookSoMany config.now rows lanes.items merged }
+    ensures { (asked : AskedTexts) (names : NameLists) (texts : ℕ → List ℕ) (taken : List Row) → length taken ≡ rows → AreTakenSoFar config.now taken lanes.items merged
+        → AreTold asked names texts config.now taken lanes.items merged → RowsTaken asked names texts config.now taken result }
 {
-    let rows = batch.total() as u64;
     let desks = into_desks(lanes)?;
     let told = merged.told(alloc, desks.as_slice())?;
     let accepted = commands_in(desks.as_slice());
@@ -294,7 +324,7 @@ fn into_desks(lanes: Vec<DeskLane>) -> Result<Vec<Desk<Global>>, OutOfMemory>
 
 /// How many commands the desks accepted.
 fn commands_in(desks: &[Desk<Global>]) -> u64
-    requires { commands_in desks.now ≤ MAX_ROWS }
+    requires { commands_in desks.now < 2 ^ 64 }
     ensures { result ≡ commands_in desks.now }
 {
     let mut count = 0;

@@ -1,5 +1,5 @@
 -- A day that workers share.
-use Rattle.std.specs.Prelude.{◌≡◌, ℕ, zero, suc, ◌+◌, ◌%◌, ◌==◌, Bool, true, not, List, [], ◌∷◌, count_by, filter, length, map, slice_get, sum_by, MatchBool, Some, None, Result, Ok, Err, is_ok, is_err}
+use Rattle.std.specs.Prelude.{◌≡◌, ℕ, zero, suc, ◌+◌, ◌≤◌, ◌%◌, ◌==◌, Bool, true, not, List, [], ◌∷◌, ◌++◌, count_by, filter, length, map, slice_get, sum_by, MatchBool, Some, None, Result, Ok, Err, is_ok, is_err}
 use Rattle.std.specs.List.{list_all}
 use Rattle.std.specs.Option.{option_map_or}
 use Rattle.xm_board.specs.Journals.{Begins, entry_of, grown, opening_of, unnumbered}
@@ -10,6 +10,7 @@ use Rattle.xm_replay.specs.declared.faults.DayFault.{DayFault}
 use Rattle.xm_replay.specs.declared.faults.DayFault.TheVariants.{Open, OutOfMemory}
 use Rattle.xm_replay.specs.declared.report.DayReport.{DayReport}
 use Rattle.xm_config.specs.declared.opening.OpenFault.{OpenFault}
+use Rattle.xm_files.specs.Orders.{max_rows}
 use Rattle.xm_files.specs.Timetable.{share_of}
 use Rattle.xm_rules.specs.Commands.{member_of}
 use Rattle.xm_rules.specs.Step.{Journal, is_lawful, replay}
@@ -123,6 +124,14 @@ pub record HaveWorked (settings : List DeskSettings) (rows : ℕ → List Row) (
   pub all : length after ≡ length before
   pub each : (number : ℕ) (b a : WorkerView) → slice_get before number ≡ Some b → slice_get after number ≡ Some a → HasWorked settings (rows number) b a
 
+-- the most rows that the order files of a day stand for: 256 files have so many
+abbrev pub max_day_rows : ℕ
+max_day_rows = 256000000
+
+-- so many rows of a day were taken, and it has so many more at most, which are of one file
+abbrev pub HasRoomBehind : ℕ → ℕ → Type 0
+HasRoomBehind taken more = (taken + more ≤ max_day_rows) × (more ≤ max_rows)
+
 -- how many rows workers have taken
 abbrev pub taken_by : List WorkerView → ℕ
 taken_by workers = sum_by (λ (w : WorkerView). taken_in w.report) workers
@@ -150,6 +159,15 @@ HasShared settings workers config rows (Ok taken) = HaveTaken settings workers c
 HasShared settings workers config rows (Err (Open fault)) = IsOpenFault config fault
 HasShared settings workers config rows (Err (OutOfMemory _)) = segment_fault config ≡ None
 HasShared settings workers config rows (Err fault) = ⊥
+
+-- how many rows workers have taken, where nothing went wrong
+abbrev pub shared_so_far : Result (List WorkerView) DayFault → ℕ
+shared_so_far (Ok taken) = taken_by taken
+shared_so_far (Err fault) = 0
+
+-- where workers had taken any rows, they have taken these as well
+abbrev pub SharesOn : List DeskSettings → ℕ → Result (List WorkerView) DayFault → SegmentConfig → List Row → Result (List WorkerView) DayFault → Type 0
+SharesOn settings workers before config rows after = (earlier : List Row) → HasShared settings workers config earlier before → HasShared settings workers config (earlier ++ rows) after
 
 -- a segment was opened for so many workers, unless it can't be or memory is wanting
 abbrev pub HasOpened : SegmentConfig → ℕ → Result UnnamedSegment OpenFault → Type 0

@@ -1,11 +1,10 @@
 //! A day that workers share.
-ghost use Rattle.std.specs.Prelude.{ℕ, ◌≡◌, ◌≢◌, ◌+◌, ◌≤◌, ◌++◌, List, [], IfErr, IfOk, None, Some, length, map, slice_get, sum_by, true};
-ghost use Rattle.xm_replay.specs.Taken.{DesksEnd, RowsRun, commands_in};
-ghost use Rattle.xm_workers.specs.Workers.{AreJournals, HasOpened, HasShared, HaveWorked, IsShared, WorkerView, accepted_by, fresh_worker, rows_of, taken_by};
-ghost use Rattle.xm_files.specs.Batches.{text_left};
-ghost use Rattle.xm_files.specs.Orders.{max_rows};
+ghost use Rattle.std.specs.Prelude.{ℕ, ◌≡◌, ◌≢◌, ◌+◌, ◌≤◌, List, [], IfErr, IfOk, OnOk, Some, length, map, slice_get, sum_by, true};
+ghost use Rattle.xm_replay.specs.Taken.{DesksEnd, FilesRun, RowsRun, commands_in};
+ghost use Rattle.xm_workers.specs.Workers.{AreJournals, HasOpened, HasRoomBehind, HasShared, HaveWorked, IsShared, SharesOn, WorkerView, accepted_by, fresh_worker, max_day_rows, rows_of, shared_so_far, taken_by};
 ghost use Rattle.xm_files.specs.Timetable.{is_one_round};
-ghost use Rattle.xm_files.specs.declared.bytes.TheConstants.{MAX_BYTES};
+ghost use Rattle.xm_files.specs.declared.order_files.TheConstants.{MAX_FILES};
+ghost use Rattle.xm_files.specs.declared.orders.TheConstants.{MAX_ROWS};
 ghost use Rattle.xm_segment.specs.Gathering.{AreGathered, IsOneHistory, all_sums};
 ghost use Rattle.xm_segment.specs.Names.{NamesSegment};
 ghost use Rattle.xm_segment.specs.Seats.{AreSeats};
@@ -17,36 +16,39 @@ ghost use Rattle.xm_config.specs.declared.rows.Row.{Row};
 use crate::shares::take_members;
 use crate::worker::Worker;
 use std::alloc::Global;
+use std::io::Read;
 use std::marker::{Brand, Model};
 use std::sync::Wait;
 use std::thread::Threads;
 use xm_config::{OpenFault, Row, SegmentConfig};
 use xm_desk::Desk;
-use xm_files::{Batch, FileFault, Part, RowReader, SegmentNames, first_phase};
+use xm_files::{
+    Batch, FileFault, OrderFiles, OrdersFault, Part, RowReader, SegmentNames, first_phase,
+};
 use xm_memory::OutOfMemory;
 use xm_name_index::Storage;
 use xm_replay::{DayFault, DayReport, OpenDay};
 use xm_segment::{Gate, GatherFault, Naming, Opened, Seat, Segment, WatchRow};
 use xm_texts::Told;
 
-/// Reads the rows of an order file of these bytes, round by round, and has so many workers take them, on a segment whose type is
-/// picked here. The fault of the file is answered, if it has one, and else what came of its rows.
-pub fn run_shared<T: Threads + Wait + Sync, G: Gate + Sync>(
+/// Reads the order files of a day, one after another, and has so many workers take their rows, round by round, on a segment whose type is
+/// picked here. A round ends with its file. The first fault of a file is answered, if one has any, and else what came of the rows.
+pub fn run_shared<T: Threads + Wait + Sync, G: Gate + Sync, R: Read>(
     rt: &T,
     gate: &G,
     workers: u32,
     storage: Storage<Global>,
     config: &SegmentConfig,
     names: &SegmentNames,
-    bytes: Vec<u8>,
-) -> Result<Result<OpenDay, DayFault>, FileFault>
+    orders: &mut [R],
+) -> Result<Result<OpenDay, DayFault>, OrdersFault>
     requires some { 1 ≤ workers }
     requires few { workers ≤ MAX_WORKERS }
-    requires short { length bytes.items ≤ MAX_BYTES }
-    ensures { RowsRun (DesksEnd (IsShared workers)) config.now names.now (text_left bytes.items None 1) result }
+    requires files { length orders.old ≤ MAX_FILES }
+    ensures { FilesRun (λ texts. DesksEnd (IsShared workers)) config.now names.now (map R.remaining orders.old) result }
 {
     let opened = Opened::new(storage, config, workers, 0);
-    run_named::<Brand, T, G>(
+    run_named::<Brand, T, G, R>(
         rt,
         gate,
         workers,
@@ -54,12 +56,12 @@ pub fn run_shared<T: Threads + Wait + Sync, G: Gate + Sync>(
         opened,
         config,
         names,
-        bytes,
+        orders,
     )
 }
 
 /// Runs the rows on the segment that has this name, where it could be opened.
-fn run_named<S: Naming + Send + Sync, T: Threads + Wait + Sync, G: Gate + Sync>(
+fn run_named<S: Naming + Send + Sync, T: Threads + Wait + Sync, G: Gate + Sync, R: Read>(
     rt: &T,
     gate: &G,
     workers: u32,
@@ -67,40 +69,71 @@ fn run_named<S: Naming + Send + Sync, T: Threads + Wait + Sync, G: Gate + Sync>(
     opened: Result<Opened, OpenFault>,
     config: &SegmentConfig,
     names: &SegmentNames,
-    bytes: Vec<u8>,
-) -> Result<Result<OpenDay, DayFault>, FileFault>
+    orders: &mut [R],
+) -> Result<Result<OpenDay, DayFault>, OrdersFault>
     requires named { IfOk opened (λ o. NamesSegment S.settings S.ledgers S.boards S.workers o) }
     requires seats { S.workers ≡ workers }
     requires opened { HasOpened config.now workers opened }
     requires some { 1 ≤ workers }
     requires few { workers ≤ MAX_WORKERS }
-    requires short { length bytes.items ≤ MAX_BYTES }
-    ensures { RowsRun (DesksEnd (IsShared workers)) config.now names.now (text_left bytes.items None 1) result }
+    requires files { length orders.old ≤ MAX_FILES }
+    ensures { FilesRun (λ texts. DesksEnd (IsShared workers)) config.now names.now (map R.remaining orders.old) result }
 {
-    let mut file = RowReader::of(bytes.as_slice(), 1);
     let day = SharedDay::<S>::open(alloc, workers, opened, config);
-    match take_file(rt, gate, alloc, day, config, names, &mut file) {
+    match take_files(rt, gate, alloc, day, config, names, orders) {
         Ok(day) => Ok(closed(alloc, day)),
         Err(fault) => Err(fault),
     }
 }
 
-/// Reads the rows of an order file, round by round, and has them taken. A fault of the file comes before any other: where the
-/// segment can't be opened or memory is wanting, the rest is read all the same.
-fn take_file<S: Naming + Send + Sync, T: Threads + Wait + Sync, G: Gate + Sync>(
+/// Reads the order files of a day, one after another, and has their rows taken. A fault of a file comes before any other: where the segment
+/// can't be opened or memory is wanting, all are read all the same.
+fn take_files<S: Naming + Send + Sync, T: Threads + Wait + Sync, G: Gate + Sync, R: Read>(
     rt: &T,
     gate: &G,
     alloc: Global,
     opened: Result<SharedDay<S>, DayFault>,
     config: &SegmentConfig,
     names: &SegmentNames,
+    orders: &mut [R],
+) -> Result<Result<SharedDay<S>, DayFault>, OrdersFault>
+    requires opened { HasShared S.settings S.workers config.now [] opened }
+    requires files { length orders.old ≤ MAX_FILES }
+    ensures { FilesRun (λ texts. HasShared S.settings S.workers) config.now names.now (map R.remaining orders.old) result }
+{
+    let mut files = OrderFiles::of(orders);
+    let mut day = opened;
+    'files: loop {
+        let file = match files.next(alloc) {
+            Ok(Some(file)) => file,
+            Ok(None) => return Ok(day),
+            Err(fault) => return Err(fault),
+        };
+        let mut rows = file.rows();
+        day = match take_file(rt, gate, alloc, day, config, names, &mut rows) {
+            Ok(day) => day,
+            Err(fault) => return Err(files.fault(fault)),
+        };
+        files.end(rows.line());
+    }
+}
+
+/// Reads the rows of an order file, round by round, and has them taken behind those that were. A fault of the file comes before any other.
+fn take_file<S: Naming + Send + Sync, T: Threads + Wait + Sync, G: Gate + Sync>(
+    rt: &T,
+    gate: &G,
+    alloc: Global,
+    mut day: Result<SharedDay<S>, DayFault>,
+    config: &SegmentConfig,
+    names: &SegmentNames,
     file: &mut RowReader<'_>,
 ) -> Result<Result<SharedDay<S>, DayFault>, FileFault>
-    requires { HasShared S.settings S.workers config.now [] opened }
-    ensures { RowsRun (HasShared S.settings S.workers) config.now names.now file.old result }
+    requires room { shared_so_far day + MAX_ROWS ≤ max_day_rows }
+    ensures taken { RowsRun (SharesOn S.settings S.workers day) config.now names.now file.old result }
+    ensures counted { IfOk result (λ after. shared_so_far after ≤ shared_so_far day + MAX_ROWS) }
+    ensures end { OnOk result (file.new.line ≡ file.old.line + length file.old.records) }
 {
     let mut batch = Batch::new(alloc);
-    let mut day = opened;
     'rounds: loop {
         let more = match file.read(alloc, &mut batch, Part::Round, names, config) {
             Ok(more) => more,
@@ -120,9 +153,10 @@ fn take_more<S: Naming + Send + Sync, T: Threads + Wait + Sync, G: Gate + Sync>(
     day: Result<SharedDay<S>, DayFault>,
     rows: &[Row],
 ) -> Result<SharedDay<S>, DayFault>
-    requires room { IfOk day (λ d. taken_by d + length rows.now ≤ max_rows) }
+    requires room { HasRoomBehind (shared_so_far day) (length rows.now) }
     requires round { is_one_round rows.now ≡ true }
-    ensures { (config : SegmentConfig) (taken : List Row) → HasShared S.settings S.workers config taken day → HasShared S.settings S.workers config (taken ++ rows.now) result }
+    ensures taken { (config : SegmentConfig) → SharesOn S.settings S.workers day config rows.now result }
+    ensures counted { shared_so_far result ≤ shared_so_far day + length rows.now }
 {
     Ok(day?.take_round(rt, gate, rows)?)
 }
@@ -155,8 +189,7 @@ impl<S: Naming> Drop for SharedDay<S> {
 
 impl<S: Naming> Model for SharedDay<S> {
     ghost use Rattle.std.specs.Prelude.{◌≡◌, ◌≤◌, List, length};
-    ghost use Rattle.xm_workers.specs.Workers.{WorkerView, taken_by};
-    ghost use Rattle.xm_files.specs.Orders.{max_rows};
+    ghost use Rattle.xm_workers.specs.Workers.{WorkerView, max_day_rows, taken_by};
     ghost use Rattle.xm_config.specs.declared.opening.TheConstants.{MAX_WORKERS};
 
     ghost Value = { List WorkerView };
@@ -167,7 +200,7 @@ impl<S: Naming> Model for SharedDay<S> {
       all : length d.workers.items ≡ S.workers;
       some : 1 ≤ S.workers;
       few : S.workers ≤ MAX_WORKERS;
-      within : taken_by d.workers.items ≤ max_rows;
+      within : taken_by d.workers.items ≤ max_day_rows;
     } };
 }
 
@@ -200,7 +233,7 @@ impl<S: Naming> SharedDay<S> {
     ) -> Result<SharedDay<S>, OutOfMemory>
     where
         S: Send + Sync,
-        requires room { taken_by self + length rows.now ≤ max_rows }
+        requires room { HasRoomBehind (taken_by self) (length rows.now) }
         requires round { is_one_round rows.now ≡ true }
         ensures worked { IfOk result (λ day. HaveWorked S.settings (λ number. rows_of number S.workers rows.now) self day) }
         ensures taken { IfOk result (λ day. taken_by day ≡ taken_by self + length rows.now) }
@@ -291,7 +324,7 @@ fn seated<S: Naming>(seats: Vec<Seat<S>>) -> Result<Vec<Worker<S>>, OutOfMemory>
 
 /// The seats of workers, and what all of them counted.
 fn counted<S: Naming>(workers: Vec<Worker<S>>) -> Result<(Vec<Seat<S>>, DayReport), OutOfMemory>
-    requires { taken_by workers.items ≤ max_rows }
+    requires { taken_by workers.items ≤ max_day_rows }
     ensures seats { IfOk result (λ parts. parts.0.items ≡ map (λ (w : WorkerView). w.seat) workers.items) }
     ensures ledgers { IfOk result (λ parts. parts.1.accepted ≡ accepted_by parts.0.items) }
     ensures accepted { IfOk result (λ parts. parts.1.accepted ≡ sum_by (λ (w : WorkerView). w.report.accepted) workers.items) }

@@ -2,8 +2,7 @@
 ghost use Rattle.std.specs.Prelude.{◌≡◌, ◌+◌, ◌<◌, ◌≤◌, IfOk, length, true};
 ghost use Rattle.std.specs.List.{list_all};
 ghost use Rattle.xm_workers.specs.Standing.{TookAll, WillTakeAll, will_be_taken};
-ghost use Rattle.xm_workers.specs.Workers.{HaveWorked, taken_by};
-ghost use Rattle.xm_files.specs.Orders.{max_rows};
+ghost use Rattle.xm_workers.specs.Workers.{HasRoomBehind, HaveWorked, taken_by};
 ghost use Rattle.xm_files.specs.Timetable.{is_of_member, share_of};
 ghost use Rattle.xm_config.specs.declared.opening.TheConstants.{MAX_WORKERS};
 
@@ -28,7 +27,7 @@ pub(crate) fn take_members<T: Threads + Wait + Sync, G: Gate + Sync, S: Naming +
     requires members { list_all is_of_member rows.now ≡ true }
     requires some { 0 < length workers.items }
     requires few { length workers.items ≤ MAX_WORKERS }
-    requires room { taken_by workers.items + length rows.now ≤ max_rows }
+    requires room { HasRoomBehind (taken_by workers.items) (length rows.now) }
     ensures worked { IfOk result (λ after. HaveWorked S.settings (λ number. share_of number (length workers.items) rows.now) workers.items after.items) }
     ensures taken { IfOk result (λ after. taken_by after.items ≡ taken_by workers.items + length rows.now) }
 {
@@ -44,7 +43,7 @@ pub(crate) fn take_members<T: Threads + Wait + Sync, G: Gate + Sync, S: Naming +
         thread::scope_env(),
         rt,
         move |scope| -> Result<Vec<Worker<S>>, OutOfMemory>
-            requires { (list_all is_of_member rows.now ≡ true) × (0 < length workers.items) × (length workers.items ≤ MAX_WORKERS) × (taken_by workers.items + length rows.now ≤ max_rows) }
+            requires { (list_all is_of_member rows.now ≡ true) × (0 < length workers.items) × (length workers.items ≤ MAX_WORKERS) × HasRoomBehind (taken_by workers.items) (length rows.now) }
             ensures { IfOk result (λ after. HaveWorked S.settings (λ number. share_of number (length workers.items) rows.entry.now) workers.items after.items × (taken_by after.items ≡ taken_by workers.items + length rows.entry.now)) }
         {
             let standing = start_shares(scope, rt, gate, segment, workers, rows)?;
@@ -65,7 +64,7 @@ fn start_shares<'s, E, T: Threads + Wait + Sync, G: Gate + Sync, S: Naming + Sen
     requires members { list_all is_of_member rows.now ≡ true }
     requires some { 0 < length workers.items }
     requires few { length workers.items ≤ MAX_WORKERS }
-    requires room { taken_by workers.items + length rows.now ≤ max_rows }
+    requires room { HasRoomBehind (taken_by workers.items) (length rows.now) }
     ensures all { IfOk result (λ standing. length standing.items ≡ length workers.items) }
     ensures each { IfOk result (λ standing. WillTakeAll (λ number. share_of number (length workers.items) rows.now) workers.items standing.items) }
     ensures taken { IfOk result (λ standing. will_be_taken standing.items ≡ taken_by workers.items + length rows.now) }

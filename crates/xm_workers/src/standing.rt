@@ -34,8 +34,7 @@ pub(crate) enum Standing<S: Naming> {
 impl<S: Naming + Send + Sync> Standing<S> {
     ghost use Rattle.std.specs.Prelude.{◌≡◌, ◌+◌, ◌≤◌, IfOk, length};
     ghost use Rattle.xm_workers.specs.Standing.{Took, WillTake, will_take};
-    ghost use Rattle.xm_workers.specs.Workers.{HasWorked, taken_in};
-    ghost use Rattle.xm_files.specs.Orders.{max_rows};
+    ghost use Rattle.xm_workers.specs.Workers.{HasRoomBehind, HasWorked, taken_in};
 
     /// Has a worker take its share in a thread of its own, if the share has a row.
     pub(crate) fn start<'s, E, T: Threads + Wait + Sync, G: Gate + Sync>(
@@ -46,7 +45,7 @@ impl<S: Naming + Send + Sync> Standing<S> {
         worker: Worker<S>,
         share: Vec<Row>,
     ) -> Result<Standing<S>, OutOfMemory>
-        requires { taken_in worker.report + length share.items ≤ max_rows }
+        requires { HasRoomBehind (taken_in worker.report) (length share.items) }
         ensures takes { IfOk result (λ standing. WillTake share.items worker standing) }
         ensures taken { IfOk result (λ standing. will_take standing ≡ taken_in worker.report + length share.items) }
     {
@@ -58,7 +57,7 @@ impl<S: Naming + Send + Sync> Standing<S> {
             share: Snapshot::of(&share),
         };
         let work = move || -> Result<Worker<S>, OutOfMemory>
-            requires { taken_in worker.report + length share.items ≤ max_rows }
+            requires { HasRoomBehind (taken_in worker.report) (length share.items) }
             ensures { IfOk result (λ after. HasWorked S.settings share.items worker after) }
         {
             let mut worker = worker;

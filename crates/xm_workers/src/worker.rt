@@ -1,7 +1,6 @@
 //! A worker of a day.
 ghost use Rattle.std.specs.Prelude.{◌≡◌, ◌+◌, ◌≤◌, OnOk, length};
-ghost use Rattle.xm_workers.specs.Workers.{HasWorked, taken_in};
-ghost use Rattle.xm_files.specs.Orders.{max_rows};
+ghost use Rattle.xm_workers.specs.Workers.{HasRoomBehind, HasWorked, taken_in};
 ghost use Rattle.xm_segment.specs.Ledgers.{accepted_in};
 
 use std::alloc::Global;
@@ -55,7 +54,7 @@ impl<S: Naming> Worker<S> {
         segment: &Segment<S>,
         rows: &[Row],
     ) -> Result<(), OutOfMemory>
-        requires { taken_in self.old.report + length rows.now ≤ max_rows }
+        requires { HasRoomBehind (taken_in self.old.report) (length rows.now) }
         ensures { OnOk result (HasWorked S.settings rows.now self.old self.new) }
     {
         let report = segment.work(rt, &mut self.seat, rows, gate);

@@ -1,4 +1,4 @@
-use Rattle.std.proofs.Common.{sym, subst}
+use Rattle.std.proofs.Common.{map, sym, subst}
 use Rattle.xm_day.proofs.Days.{both-end, carried-day-ends, carry-unopened, texted}
 use Rattle.xm_day.specs.Answers.{InFileOrder}
 use Rattle.xm_day.specs.CarriedDays.{CarriedDayEnds, Outputs}
@@ -11,7 +11,7 @@ returns-in_err-config-clause-ends g c =
     let met = c.in_err-config in
     let segment = g.S.Read.remaining c.args.segment.now in
     let carry = g.C.Read.remaining c.args.carry.now in
-    let orders = g.R.Read.remaining c.args.orders.now in
+    let orders = map g.R.Read.remaining c.args.orders.now in
     let old = g.W.Write.contents c.args.out.now in
     let kept = g.K.Write.contents c.args.keep.now in
     let out : Outputs = record { old = old; new = old; kept_old = kept; kept_new = kept } in
@@ -19,7 +19,7 @@ returns-in_err-config-clause-ends g c =
 
 pub returns-clause-ends : goal.returns-clause-ends
 returns-clause-ends g c =
-    let orders = g.R.Read.remaining c.args.orders.now in
+    let orders = map g.R.Read.remaining c.args.orders.now in
     let read = c.in_ok-config in
     let asked = c.nothing.result in
     let made = c.day_texts-made.result in

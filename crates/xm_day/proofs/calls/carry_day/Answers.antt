@@ -1,4 +1,4 @@
-use Rattle.std.proofs.Common.{sym, subst}
+use Rattle.std.proofs.Common.{map, sym, subst}
 use Rattle.xm_day.proofs.Days.{both-end, carried-day-ends, carry-unopened, texted}
 use Rattle.xm_day.specs.Answers.{InFileOrder}
 use Rattle.xm_day.specs.CarriedDays.{CarriedDayEnds, Outputs}
@@ -13,7 +13,7 @@ returns-in_err-config-clause-alone g c = λ one.
     let met = c.in_err-config in
     let segment = g.S.Read.remaining c.args.segment.now in
     let carry = g.C.Read.remaining c.args.carry.now in
-    let orders = g.R.Read.remaining c.args.orders.now in
+    let orders = map g.R.Read.remaining c.args.orders.now in
     let old = g.W.Write.contents c.args.out.now in
     let kept = g.K.Write.contents c.args.keep.now in
     let out : Outputs = record { old = old; new = old; kept_old = kept; kept_new = kept } in
@@ -25,7 +25,7 @@ returns-in_err-config-clause-shared g c = λ more.
     let days = IsShared c.args.workers in
     let segment = g.S.Read.remaining c.args.segment.now in
     let carry = g.C.Read.remaining c.args.carry.now in
-    let orders = g.R.Read.remaining c.args.orders.now in
+    let orders = map g.R.Read.remaining c.args.orders.now in
     let old = g.W.Write.contents c.args.out.now in
     let kept = g.K.Write.contents c.args.keep.now in
     let out : Outputs = record { old = old; new = old; kept_old = kept; kept_new = kept } in
@@ -33,7 +33,7 @@ returns-in_err-config-clause-shared g c = λ more.
 
 pub returns-clause-alone : goal.returns-clause-alone
 returns-clause-alone g c = λ one.
-    let orders = g.R.Read.remaining c.args.orders.now in
+    let orders = map g.R.Read.remaining c.args.orders.now in
     let read = c.in_ok-config in
     let made = c.day_texts-made.result in
     let day = texted InFileOrder nothing_asked WhatIsLeft read.config read.names orders c.take_shared-taken.result made (c.take_shared-taken.ensures.alone one) c.day_texts-made.ensures in
@@ -43,7 +43,7 @@ returns-clause-alone g c = λ one.
 pub returns-clause-shared : goal.returns-clause-shared
 returns-clause-shared g c = λ more.
     let days = IsShared c.args.workers in
-    let orders = g.R.Read.remaining c.args.orders.now in
+    let orders = map g.R.Read.remaining c.args.orders.now in
     let read = c.in_ok-config in
     let made = c.day_texts-made.result in
     let day = texted days nothing_asked WhatIsLeft read.config read.names orders c.take_shared-taken.result made (c.take_shared-taken.ensures.shared more) c.day_texts-made.ensures in

@@ -1,4 +1,4 @@
-use Rattle.std.proofs.Common.{◌≡◌, sym, subst}
+use Rattle.std.proofs.Common.{map, sym, subst}
 use Rattle.xm_day.proofs.Days.{day-ends, orders-end, texted, unopened}
 use Rattle.xm_day.specs.Answers.{DayEnds, InFileOrder}
 use Rattle.xm_day.specs.Days.{nothing_asked}
@@ -11,7 +11,7 @@ pub returns-in_err-config-clause-alone : goal.returns-in_err-config-clause-alone
 returns-in_err-config-clause-alone g c = λ one.
     let met = c.in_err-config in
     let segment = g.S.Read.remaining c.args.segment.now in
-    let orders = g.R.Read.remaining c.args.orders.now in
+    let orders = map g.R.Read.remaining c.args.orders.now in
     let out = g.W.Write.contents c.args.out.now in
     subst (DayEnds InFileOrder segment orders out out) (sym (is_passed c.from_residual.result met.field-0.0 c.from_residual.ensures.1)) (unopened InFileOrder segment orders out out met.field-0.0 met.ensures.read)
 
@@ -20,13 +20,13 @@ returns-in_err-config-clause-shared g c = λ more.
     let met = c.in_err-config in
     let days = IsShared c.args.workers in
     let segment = g.S.Read.remaining c.args.segment.now in
-    let orders = g.R.Read.remaining c.args.orders.now in
+    let orders = map g.R.Read.remaining c.args.orders.now in
     let out = g.W.Write.contents c.args.out.now in
     subst (DayEnds days segment orders out out) (sym (is_passed c.from_residual.result met.field-0.0 c.from_residual.ensures.1)) (unopened days segment orders out out met.field-0.0 met.ensures.read)
 
 pub returns-clause-alone : goal.returns-clause-alone
 returns-clause-alone g c = λ one.
-    let orders = g.R.Read.remaining c.args.orders.now in
+    let orders = map g.R.Read.remaining c.args.orders.now in
     let read = c.in_ok-config in
     let made = c.day_texts-made.result in
     let day = texted InFileOrder nothing_asked Nothing read.config read.names orders c.take_shared-taken.result made (c.take_shared-taken.ensures.alone one) c.day_texts-made.ensures in
@@ -36,7 +36,7 @@ returns-clause-alone g c = λ one.
 pub returns-clause-shared : goal.returns-clause-shared
 returns-clause-shared g c = λ more.
     let days = IsShared c.args.workers in
-    let orders = g.R.Read.remaining c.args.orders.now in
+    let orders = map g.R.Read.remaining c.args.orders.now in
     let read = c.in_ok-config in
     let made = c.day_texts-made.result in
     let day = texted days nothing_asked Nothing read.config read.names orders c.take_shared-taken.result made (c.take_shared-taken.ensures.shared more) c.day_texts-made.ensures in

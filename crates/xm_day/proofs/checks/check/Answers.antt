@@ -1,1 +1,0 @@
-use Rattle.xm_day.proofs.checks.check.Goals as goal

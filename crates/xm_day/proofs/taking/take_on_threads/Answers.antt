@@ -1,9 +1,10 @@
+use Rattle.std.proofs.Common.{map}
 use Rattle.xm_day.proofs.Days.{in-order, stated}
 use Rattle.xm_day.specs.Answers.{InFileOrder}
 use Rattle.xm_day.proofs.taking.take_on_threads.Goals as goal
 
 pub returns-clause-taken : goal.returns-clause-taken
 returns-clause-taken g c =
-    let orders = g.R.Read.remaining c.args.orders.now in
+    let orders = map g.R.Read.remaining c.args.orders.now in
     let taken = c.take_orders_apart-taken.result in
     stated InFileOrder c.args.asked c.args.config.now c.args.names.now orders taken c.stated_apart.result (in-order c.args.asked c.args.config.now c.args.names.now orders taken c.take_orders_apart-taken.ensures) c.stated_apart.ensures.stated

@@ -1,26 +1,79 @@
-use Rattle.std.proofs.Common.{◌∙◌, List, None, ℕ, ap, arith, subst}
-use Rattle.xm_replay.proofs.Taking.{none-taken, run-begun}
-use Rattle.xm_replay.specs.Taken.{HasTaken, RowsRun}
-use Rattle.xm_files.specs.Batches.{RowsLeft, text_left}
-use Rattle.xm_files.specs.RecordTexts.{text_from, text_of_record, texts_in}
+use Rattle.std.proofs.Common.{Ok, [], ◌∷◌, ◌++◌, map, ap, arith, ◌∙◌}
+use Rattle.std.proofs.lemmas.List.{length-map}
+use Rattle.xm_files.proofs.FilesRead.{file-faults, files-begin, files-end, files-more, next-fails, none-before, number-within, outside-fails}
+use Rattle.xm_files.specs.OrderFiles.{FilesLeft, ReadsFile, text_in_files}
+use Rattle.xm_replay.proofs.Taking.{none-taken}
+use Rattle.xm_texts.proofs.FileTexts.{agree-earlier, agree-own}
+use Rattle.xm_texts.proofs.Tells.{agree-with_itself}
+use Rattle.xm_files.specs.declared.file_faults.OrdersFault.{OrdersFault}
 use Rattle.xm_replay.proofs.runs.run_rows.Goals as goal
 
-pub take_file-requires : goal.take_file-requires
-take_file-requires c =
+pub files-init : goal.files-init
+files-init g c =
     let names = c.args.names.now in
-    let own = texts_in c.of-texts.result in
-    let none = none-taken c.args.asked names own c.args.config.now c.open_day-day.result (c.open_day-day.ensures names own) in
-    omega (arith, none)
-
-pub returns : goal.returns
-returns c =
-    let asked = c.args.asked in
     let config = c.args.config.now in
+    let texts = text_in_files [] in
+    let none = none-taken c.args.asked names texts config c.open_day-day.result (c.open_day-day.ensures names texts) in (
+      [],
+      [],
+      files-begin names config (map g.R.Read.remaining c.args.orders.now) c.of-files.result c.of-files.ensures,
+      λ texts agree. c.open_day-day.ensures names texts,
+      omega (arith, none),
+    )
+
+pub returns-in-Ok-None : goal.returns-in-Ok-None
+returns-in-Ok-None g c =
     let names = c.args.names.now in
-    let result = c.take_file.result in
-    let own = texts_in c.of-texts.result in
-    let text = c.of-file.ensures ∙ ap (λ (text : List ℕ). text_left text None 1) c.as_slice.ensures.value in
-    let texts = ap texts_in c.of-texts.ensures ∙ ap (text_from 1) c.as_slice-2.ensures.value in
-    let run = run-begun asked names own config c.of-file.result c.open_day-day.result result (c.open_day-day.ensures names own) c.take_file.ensures.taken in
-    subst (λ (left : RowsLeft). RowsRun (HasTaken asked names (text_of_record c.args.bytes.items)) config names left result) text
-    (subst (λ (by_number : ℕ → List ℕ). RowsRun (HasTaken asked names by_number) config names c.of-file.result result) texts run)
+    let config = c.args.config.now in
+    let inv = c.files.invariant in
+    let texts = text_in_files inv.0 in
+    let ends = files-end names config (map g.R.Read.remaining c.args.orders.now) c.files.files inv.0 inv.1 inv.2 (c.in-Ok-None.ensures.none (ap Ok c.in-Ok-None.field-0-is)) in
+    (inv.0, ends.0, inv.1, ends.1, inv.3 texts (agree-with_itself texts inv.1))
+
+pub returns-in-Err : goal.returns-in-Err
+returns-in-Err g c =
+    let inv = c.files.invariant in
+    let known = map g.R.Read.remaining c.args.orders.now in
+    let fails = c.in-Err.ensures.fault in (
+      next-fails c.args.names.now c.args.config.now known c.files.files inv.0 inv.1 c.in-Err.fault inv.2 fails,
+      fails.outside,
+      none-before c.args.names.now c.args.config.now known c.files.files inv.0 inv.1 fails.told fails.more c.in-Err.fault.file inv.2 fails.left fails.number,
+    )
+
+pub take_file-requires : goal.take_file-requires
+take_file-requires g c =
+    let inv = c.files.invariant in
+    let all = number-within c.args.names.now c.args.config.now (map g.R.Read.remaining c.args.orders.now) c.files.files inv.0 inv.1 inv.2 in
+    let size = length-map c.args.orders.now g.R.Read.remaining in
+    let taken = inv.4 in
+    omega (arith, all, size, taken, c.requires)
+
+pub returns-in-Err-take_file : goal.returns-in-Err-take_file
+returns-in-Err-take_file g c =
+    let inv = c.files.invariant in
+    let reads : ReadsFile c.files.files c.next.new.self c.in-Ok-Some.file = rw c.in-Ok-Some.field-0-is at c.in-Ok-Some.ensures.file in
+    let fails = c.in-Err-take_file.ensures.taken in (
+      file-faults c.args.names.now c.args.config.now (map g.R.Read.remaining c.args.orders.now) c.files.files c.next.new.self c.in-Ok-Some.file c.rows-rows.result inv.0 inv.1 c.in-Err-take_file.fault c.fault.result inv.2 reads c.rows-rows.ensures
+          fails.0 c.fault.ensures,
+      outside-fails c.next.new.self.number _ c.in-Err-take_file.fault c.fault.result fails.1 c.fault.ensures,
+      none-before c.args.names.now c.args.config.now (map g.R.Read.remaining c.args.orders.now) c.files.files inv.0 inv.1 reads.told c.next.new.self.left c.fault.result.file inv.2 reads.left (ap (λ (f : OrdersFault). f.file) c.fault.ensures ∙ reads.number),
+    )
+
+pub files-preserved : goal.files-preserved
+files-preserved g c =
+    let names = c.args.names.now in
+    let config = c.args.config.now in
+    let inv = c.files.invariant in
+    let file = c.in-Ok-Some.file in
+    let reads : ReadsFile c.files.files c.next.new.self file = rw c.in-Ok-Some.field-0-is at c.in-Ok-Some.ensures.file in
+    let own = c.in-Ok.ensures.taken in
+    let taken = inv.4 in
+    let number = ap (λ (f : FilesLeft). f.number) c.end.ensures in
+    let more = files-more names config (map g.R.Read.remaining c.args.orders.now) c.files.files c.next.new.self c.end.new.self file c.rows-rows.result c.line.result inv.0 inv.1 own.0 inv.2 reads c.rows-rows.ensures own.1
+    (c.line.ensures ∙ c.in-Ok.ensures.end) c.end.ensures in (
+      inv.0 ++ file.bytes ∷ [],
+      inv.1 ++ own.0,
+      more,
+      λ texts agree. own.2 c.args.asked texts inv.1 (agree-own names config _ c.files.files c.next.new.self file c.rows-rows.result c.texts-texts.result inv.0 inv.1 own.0 texts inv.2 reads c.rows-rows.ensures own.1 c.texts-texts.ensures agree) (inv.3 texts (agree-earlier names config _ c.files.files file.bytes inv.0 inv.1 own.0 texts inv.2 agree)),
+      omega (arith, taken, c.in-Ok.ensures.counted, reads.number, number),
+    )

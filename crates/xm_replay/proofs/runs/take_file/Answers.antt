@@ -31,6 +31,7 @@ parts-init c =
       read = ap (rows_from names config c.args.file.now) (sym none);
       taken = λ asked texts earlier agree has. subst (λ (rows : List Row). HasTaken asked names texts config rows c.args.day) (sym (ap (λ (rows : List Row). earlier ++ rows) none ∙ append-nil earlier)) has;
       texts = refl;
+      stands = refl;
       counted = omega arith;
     }
 
@@ -50,6 +51,7 @@ returns-then-not-more c =
         taken-on names (texts_in c.parts.texts) (texts_in c.args.texts.now) config (rows_so_far c.parts.batch) c.rows.result.now (rows_so_far batch) c.args.day c.parts.day c.take_more-day.result c.parts.invariant.texts joined
             (c.take_more-day.ensures.taken config) c.parts.invariant.taken,
       );
+      end = (let none = ap length (c.in-Ok.ensures.none ended) in omega (arith, none, c.in-Ok.ensures.counted, c.parts.invariant.stands));
       counted = omega (arith, size, c.in-Ok.ensures.few, c.take_more-day.ensures.counted, c.parts.invariant.counted);
     }
 
@@ -64,5 +66,6 @@ parts-preserved c =
       taken = taken-on names (texts_in c.parts.texts) (texts_in c.args.texts.now) config (rows_so_far c.parts.batch) c.rows.result.now (rows_so_far c.read.new.batch) c.args.day c.parts.day c.take_more-day.result c.parts.invariant.texts joined
           (c.take_more-day.ensures.taken config) c.parts.invariant.taken;
       texts = c.take_more-day.ensures.texts ∙ c.parts.invariant.texts;
+      stands = c.in-Ok.ensures.counted ∙ c.parts.invariant.stands;
       counted = omega (arith, size, c.take_more-day.ensures.counted, c.parts.invariant.counted);
     }

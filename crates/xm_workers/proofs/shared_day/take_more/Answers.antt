@@ -3,8 +3,8 @@ use Rattle.xm_workers.proofs.Chains.{rounds-work}
 use Rattle.xm_workers.specs.Workers.{HasShared}
 use Rattle.xm_workers.proofs.shared_day.take_more.Goals as goal
 
-pub returns : goal.returns
-returns g c = λ config taken has.
+pub returns-clause-taken : goal.returns-clause-taken
+returns-clause-taken g c = λ config taken has.
     let settings = g.S.Naming.settings in
     let workers = g.S.Naming.workers in
     let round = c.in_ok-take_round in

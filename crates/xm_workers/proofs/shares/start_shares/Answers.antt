@@ -1,12 +1,13 @@
-use Rattle.std.proofs.Common.{rules, ◌≡◌, ℕ, ◌+◌, ◌<◌, ◌++◌, ◌∷◌, [], List, length, ap, arith, subst, sym, ◌∙◌}
+use Rattle.std.proofs.Common.{rules, not, refl, ◌≡◌, ℕ, ◌+◌, ◌<◌, ◌++◌, ◌∷◌, [], List, length, ap, arith, subst, sym, ◌∙◌}
 use Rattle.std.proofs.lemmas.List.{length-append}
+use Rattle.std.proofs.lemmas.List.Filters.{length-filter_both}
 use Rattle.std.proofs.lemmas.List.Sums.{sum_by_push}
 use Rattle.xm_workers.proofs.Chains.{push-keeps, push-last, will-push}
 use Rattle.xm_workers.proofs.SharedOut.{shared_out-all, shared_out-step}
 use Rattle.std.specs.Prelude.{slice_get, Some}
 use Rattle.xm_workers.specs.Standing.{WillTakeAll, will_be_taken, will_take}
 use Rattle.xm_workers.specs.Workers.{WorkerView, shared_out, taken_by, taken_in}
-use Rattle.xm_files.specs.Timetable.{share_of}
+use Rattle.xm_files.specs.Timetable.{is_worked_by, share_of}
 use Rattle.xm_config.specs.declared.rows.Row.{Row}
 use Rattle.xm_workers.proofs.shares.start_shares.Goals as goal
 
@@ -35,7 +36,9 @@ start-requires-after_bounds g c κs within =
     let taken = ap taken_by items ∙ sum_by_push (λ (w : WorkerView). taken_in w.report) popped worker in
     let step = shared_out-step (length c.loop-worker.waiting.items) (length popped) c.len-count.result c.args.rows.now one in
     let share = ap (λ (rs : List Row). length rs) c.in_ok-share.ensures ∙ ap (λ (n : ℕ). length (share_of n c.len-count.result c.args.rows.now)) index in
-    omega (arith, taken, step, share, c.loop-worker.invariant.taken, c.requires.room)
+    let worked = is_worked_by (length popped) c.len-count.result in
+    let part = length-filter_both worked (λ row. not (worked row)) (λ row. refl) c.args.rows.now in
+    (omega (arith, taken, step, share, c.loop-worker.invariant.taken, c.requires.room.0), omega (arith, share, part, c.requires.room.1))
 
 pub loop-worker-preserved : goal.loop-worker-preserved
 loop-worker-preserved g c =

@@ -1,4 +1,4 @@
-use Rattle.std.proofs.Common.{◌≡◌, ℕ, List, Err, ap, rules, ◌∙◌}
+use Rattle.std.proofs.Common.{◌≡◌, ◌++◌, List, ℕ, Option, Err, ap, ap₂, ◌∙◌}
 use Rattle.xm_texts.proofs.Tells.{with_text-nil}
 use Rattle.xm_texts.proofs.Then.{ok-then}
 use Rattle.xm_texts.specs.RowAnswers.{record_line, unknown_fields, with_text}
@@ -8,12 +8,13 @@ use Rattle.xm_threads.proofs.row_texts.RowTexts.add_unknown.Goals as goal
 
 pub returns-clause-added : goal.returns-clause-added
 returns-clause-added c =
-    let told = c.args.self.now in
     let row = c.args.row.now in
+    let old = c.args.self.now in
     let text = texts_in c.args.texts.now row.line in
-    let fields : c.as_slice.result.now ≡ unknown_fields (Err UnknownSecurity) = search rules in
-    ok-then c.add_answer.result c.add_answer.ensures.added
-    (λ added.
+    let unknown = unknown_fields (Err UnknownSecurity) in
+    let fields : c.as_slice.result.now ≡ unknown = c.as_slice.ensures.value ∙ c.in_ok-push_unknown.ensures ∙ ap (λ (begun : List ℕ). begun ++ unknown) c.new-fields.ensures.items in
+    let answers = with_text (record_line row text unknown) old.answers in
+    ok-then c.add_answer.result c.add_answer.ensures.added (λ added.
     added
-    ∙ ap (λ (own : List ℕ). record told { answers = with_text (record_line row text own) told.answers }) fields
-    ∙ (λ i. record { answers = with_text (record_line row text (unknown_fields (Err UnknownSecurity))) told.answers; trades = with_text-nil told.trades i; levels = with_text-nil told.levels i }))
+    ∙ ap (λ (fs : List ℕ). record old { answers = with_text (record_line row text fs) old.answers }) fields
+    ∙ ap₂ (λ (trades levels : Option (List ℕ)). record old { answers = answers; trades = trades; levels = levels }) (with_text-nil old.trades) (with_text-nil old.levels))

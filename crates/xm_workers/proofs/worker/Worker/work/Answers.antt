@@ -9,7 +9,10 @@ pub overflow_add-self : goal.overflow_add-self
 overflow_add-self g c =
     let more = accepted-within g.S.Naming.settings c.self.inside.seat c.work-report.new.seat c.args.rows.now c.work-report.result c.work-report.ensures.answers in
     let before = ap (λ (w : WorkerView). w.report.accepted + w.report.refused) c.self.view_is in
-    omega (arith, more, before, c.requires)
+    omega (arith, more, before, c.requires.0)
+
+pub work-report-requires : goal.work-report-requires
+work-report-requires g c = c.requires.1
 
 pub returns : goal.returns
 returns g c =

@@ -1,7 +1,8 @@
-//! The desks of a segment that have taken an order file.
-ghost use Rattle.std.specs.Prelude.{◌≡◌, ◌≤◌};
+//! The desks of a segment that have taken the order files of a day.
+ghost use Rattle.std.specs.Prelude.{◌≡◌, ◌≤◌, length, map};
+ghost use Rattle.xm_files.specs.declared.order_files.TheConstants.{MAX_FILES};
 ghost use Rattle.xm_replay.specs.Taken.{HasTaken, RowsTaken};
-ghost use Rattle.xm_day.specs.Answers.{FileRun};
+ghost use Rattle.xm_day.specs.Answers.{OrdersRun};
 ghost use Rattle.xm_day.specs.Days.{IsUntold, SharesRows};
 ghost use Rattle.xm_config.specs.declared.opening.TheConstants.{MAX_WORKERS};
 
@@ -10,7 +11,7 @@ use std::io::Read;
 use std::sync::Wait;
 use std::thread::Threads;
 use xm_config::SegmentConfig;
-use xm_files::{SegmentNames, read_orders};
+use xm_files::SegmentNames;
 use xm_name_index::Storage;
 use xm_replay::{DayFault, OpenDay, run_rows};
 use xm_segment::Gate;
@@ -18,27 +19,24 @@ use xm_texts::{AskedTexts, Told};
 use xm_threads::run_apart;
 use xm_workers::run_shared;
 
-/// Reads an order file, and has the desks of a segment take its rows in their order, which tell the texts that are asked for.
+/// Reads the order files, and has the desks of a segment take their rows in their order, which tell the texts that are asked for.
 pub(crate) fn take_orders<R: Read>(
     storage: Storage<Global>,
     config: &SegmentConfig,
     names: &SegmentNames,
-    orders: &mut R,
+    orders: &mut [R],
     asked: AskedTexts,
 ) -> Result<OpenDay, DayFault>
-    ensures { FileRun (HasTaken asked names.now) config.now names.now (R.remaining orders.old) result }
+    requires { length orders.old ≤ MAX_FILES }
+    ensures { OrdersRun (HasTaken asked names.now) config.now names.now (map R.remaining orders.old) result }
 {
-    let bytes = match read_orders(storage.alloc, orders) {
-        Ok(bytes) => bytes,
-        Err(fault) => return Err(DayFault::Orders(fault)),
-    };
-    match run_rows(storage, config, names, bytes, asked) {
+    match run_rows(storage, config, names, orders, asked) {
         Ok(day) => day,
         Err(fault) => Err(DayFault::Orders(fault)),
     }
 }
 
-/// Reads an order file, and has the securities of a segment take its rows on so many threads, each its own, which tell the texts that are
+/// Reads the order files, and has the securities of a segment take their rows on so many threads, each its own, which tell the texts that are
 /// asked for.
 pub(crate) fn take_orders_apart<T: Threads + Sync, R: Read>(
     rt: &T,
@@ -46,23 +44,20 @@ pub(crate) fn take_orders_apart<T: Threads + Sync, R: Read>(
     storage: Storage<Global>,
     config: &SegmentConfig,
     names: &SegmentNames,
-    orders: &mut R,
+    orders: &mut [R],
     asked: AskedTexts,
 ) -> Result<OpenDay, DayFault>
-    requires { 1 ≤ threads }
-    ensures { FileRun (RowsTaken asked names.now) config.now names.now (R.remaining orders.old) result }
+    requires threads { 1 ≤ threads }
+    requires files { length orders.old ≤ MAX_FILES }
+    ensures { OrdersRun (RowsTaken asked names.now) config.now names.now (map R.remaining orders.old) result }
 {
-    let bytes = match read_orders(storage.alloc, orders) {
-        Ok(bytes) => bytes,
-        Err(fault) => return Err(DayFault::Orders(fault)),
-    };
-    match run_apart(rt, threads, storage, config, names, bytes, asked) {
+    match run_apart(rt, threads, storage, config, names, orders, asked) {
         Ok(day) => day,
         Err(fault) => Err(DayFault::Orders(fault)),
     }
 }
 
-/// Reads an order file, and has so many workers take its rows, round by round, each those of its members.
+/// Reads the order files, and has so many workers take their rows, round by round, each those of its members.
 pub(crate) fn share_orders<T: Threads + Wait + Sync, G: Gate + Sync, R: Read>(
     rt: &T,
     gate: &G,
@@ -70,17 +65,14 @@ pub(crate) fn share_orders<T: Threads + Wait + Sync, G: Gate + Sync, R: Read>(
     storage: Storage<Global>,
     config: &SegmentConfig,
     names: &SegmentNames,
-    orders: &mut R,
+    orders: &mut [R],
 ) -> Result<OpenDay, DayFault>
     requires some { 1 ≤ workers }
     requires few { workers ≤ MAX_WORKERS }
-    ensures { FileRun (SharesRows workers) config.now names.now (R.remaining orders.old) result }
+    requires files { length orders.old ≤ MAX_FILES }
+    ensures { OrdersRun (SharesRows workers) config.now names.now (map R.remaining orders.old) result }
 {
-    let bytes = match read_orders(storage.alloc, orders) {
-        Ok(bytes) => bytes,
-        Err(fault) => return Err(DayFault::Orders(fault)),
-    };
-    match run_shared(rt, gate, workers, storage, config, names, bytes) {
+    match run_shared(rt, gate, workers, storage, config, names, orders) {
         Ok(day) => untold(day),
         Err(fault) => Err(DayFault::Orders(fault)),
     }
