@@ -1,12 +1,13 @@
 -- Words that ask for a day or a check are answered with it.
-use Rattle.std.proofs.Common.{ℕ, ◌≡◌, ◌&&◌, ◌++◌, unwrap_or, slice_get, ◌==◌, is_some, List, [], ◌∷◌, Option, Some, None, Err, true, false, not, codes, refl, subst, sym, ap, ap₂, ◌∙◌, fold, Bool, Result, Ok, IfErr, IfSome, IsErrAnd, IsSome, inl, inr, ◌⊎◌, option_map, option_and_then}
+use Rattle.std.proofs.lemmas.Bool.{le-leb}
+use Rattle.std.proofs.Common.{ℕ, ◌≡◌, ◌≤◌, ◌+◌, length, map, arith, ◌&&◌, ◌++◌, unwrap_or, slice_get, ◌==◌, is_some, List, [], ◌∷◌, Option, Some, None, Err, true, false, not, codes, refl, subst, sym, ap, ap₂, ◌∙◌, fold, Bool, Result, Ok, IfErr, IfSome, IsErrAnd, IsSome, inl, inr, ◌⊎◌, option_map, option_and_then}
 use Rattle.std.specs.Str.{bytes_eq}
 use Rattle.std.specs.Fmt.{decimal}
 use Rattle.std.specs.List.{list_all}
 use Rattle.clap.specs.Facts.{unwrap_or_range}
 use Rattle.clap.specs.Lexer.{long_of}
-use Rattle.clap.specs.Simple.{Shape, built, entered, filled, is_simple, names_of}
-use Rattle.clap.specs.Takes.{default_passes, entered_passes, is_valid, level_passes, settle_passes, turn_passes, value_passes, walk_passes}
+use Rattle.clap.specs.Simple.{Shape, built, entered, filled, is_simple, names_of, with_index}
+use Rattle.clap.specs.Takes.{default_passes, entered_passes, is_valid, level_passes, settle_passes, turn_passes, use_passes, value_passes, values_pass, walk_passes}
 use Rattle.clap.specs.Walk.{Held, Names, Walk, action_of, arg_by_id, arg_by_long, finished, nothing_held, walk, walk_from, walked}
 use Rattle.clap.specs.declared.builder.action.ArgAction.TheVariants.{Set}
 use Rattle.clap.specs.declared.builder.value_parser.Reading.TheVariants.{AsWritten, WithoutMinus}
@@ -23,9 +24,9 @@ use Rattle.xm_program.specs.declared.requests.Failure.TheVariants.{Day}
 use Rattle.xm_program.specs.declared.requests.Request.{Request}
 use Rattle.xm_program.specs.declared.requests.Request.TheVariants as request
 use Rattle.xm_program.specs.declared.requests.Request.TheVariants.{Check, Help}
-use Rattle.xm_program.specs.Requests.{AnswersWords, Asked, AskedDay, Asks, AsksDay, IsCount, IsOfWords, IsRequest, Meets, answer_at, answer_of, asked_in, asked_of, can_write, check, concurrency_of, count_in, count_rule, day, day_app, day_in, file_rule, is_mistake, is_plain_path, is_plain_word, option_words, path_words, threads_in}
+use Rattle.xm_program.specs.Requests.{AnswersWords, Asked, AskedDay, Asks, AsksDay, IsCount, IsOfWords, IsRequest, Meets, answer_at, answer_of, ArePaths, asked_in, asked_of, can_write, check, concurrency_of, count_in, count_rule, day, day_app, day_in, file_rule, is_mistake, is_plain_path, is_plain_word, max_order_files, option_words, order_files, outputs, paths_rule, threads_in}
 use Rattle.xm_program.proofs.Numbers.{number-text}
-use Rattle.xm_program.proofs.Walks.{Gathered, IsOption, IsPlain, IsWalked, Stands, Steps, and-then, both-true, default-else, defaults-at, further, or_default, or_else, row, row_at, rows_in, step, walked_over, with_row}
+use Rattle.xm_program.proofs.Walks.{ArePlain, Gathered, IsOption, IsPlain, IsSeveral, IsWalked, Stands, Steps, and-then, both-true, default-else, defaults-at, further, gathered_of, given, more-walked, or_default, or_else, row, row_at, rows_in, step, walked_over, with_row}
 
 false_of : (b : Bool) → not b ≡ true → b ≡ false
 false_of true h = absurd (cc)
@@ -122,8 +123,11 @@ one id = row id WithoutMinus DefaultValue (codes "1" ∷ [])
 abbrev default_of : Shape → Text → Option Row
 default_of shape id = fold (or_default id) None shape.rules
 
+abbrev paths_row : Text → List Text → Row
+paths_row id paths = row id AsWritten CommandLine paths
+
 abbrev path_row : Text → Text → Row
-path_row id path = row id AsWritten CommandLine (path ∷ [])
+path_row id path = paths_row id (path ∷ [])
 
 record IsDayShape (shape : Shape) : Type 0 where
   answers : IsOption shape (codes "--answers") (file_option (codes "answers"))
@@ -135,26 +139,27 @@ record IsDayShape (shape : Shape) : Type 0 where
   no_trades : default_of shape (codes "trades") ≡ None
   no_depth : default_of shape (codes "depth") ≡ None
   no_threads : default_of shape (codes "threads") ≡ None
+  no_out : default_of shape (codes "out") ≡ None
   one_worker : default_of shape (codes "workers") ≡ Some (one (codes "workers"))
   defaults : list_all default_passes shape.rules ≡ true
 
 -- what stands before the options of a day: the paths that these words are
 record HasPaths (name : Text) (shape : Shape) (words : List Text) (d : AskedDay) : Type 0 where
-  paths : ℕ
+  position : ℕ
   gathered : Gathered
-  rows : List Row
-  is_walked : IsWalked shape start words (walked_over paths gathered)
-  stands : Stands shape (λ k. row_at k rows) gathered
-  answers : row_at (codes "answers") rows ≡ None
-  trades : row_at (codes "trades") rows ≡ None
-  depth : row_at (codes "depth") rows ≡ None
-  workers : row_at (codes "workers") rows ≡ None
-  threads : row_at (codes "threads") rows ≡ None
-  segment : row_at (codes "SEGMENT") rows ≡ Some (path_row (codes "SEGMENT") d.segment)
-  orders : row_at (codes "ORDERS") rows ≡ Some (path_row (codes "ORDERS") d.orders)
+  at : Text → Option Row
+  is_walked : IsWalked shape start words (walked_over position gathered)
+  stands : Stands shape at gathered
+  answers : at (codes "answers") ≡ None
+  trades : at (codes "trades") ≡ None
+  depth : at (codes "depth") ≡ None
+  workers : at (codes "workers") ≡ None
+  threads : at (codes "threads") ≡ None
+  segment : at (codes "SEGMENT") ≡ Some (path_row (codes "SEGMENT") d.segment)
   -- values among which these are
-  valid : (values : List Row) → ((k : Text) (r : Row) → row_at k rows ≡ Some r → row_at k values ≡ Some r) → is_valid shape values false ≡ true
-  asks : (values : List Row) → ((k : Text) (r : Row) → row_at k rows ≡ Some r → row_at k values ≡ Some r) → day_in d.carrying values ≡ Some d → asked_in (Some (name, values)) ≡ Some (day d)
+  valid : (values : List Row) → ((k : Text) (r : Row) → at k ≡ Some r → row_at k values ≡ Some r) → is_valid shape values false ≡ true
+  asks : (values : List Row) → ((k : Text) (r : Row) → at k ≡ Some r → row_at k values ≡ Some r) → row_at (codes "out") values ≡ at (codes "out") → day_in d.carrying d.orders values ≡ Some d
+      → asked_in (Some (name, values)) ≡ Some (day d)
 
 plain-file : (id : Text) (path : Option Text) → is_plain_path path ≡ true → (text : Text) → path ≡ Some text → IsPlain text × (value_passes (file_option id) text ≡ true)
 plain-file id None h text e = absurd (cc)
@@ -181,30 +186,39 @@ record IsFine (d : AskedDay) (w n : Option ℕ) : Type 0 where
   threads : IfSome n IsCount
   concurrency : concurrency_of (unwrap_or w 1) n ≡ Some d.concurrency
   can : can_write d ≡ true
+  files : order_files d.orders ≡ Some d.orders
+
+-- no row that is named otherwise
+unnamed : (o : Option Row) → or_else (or_else (or_else (or_else (or_else (or_else o None) None) None) None) None) None ≡ o
+unnamed (Some r) = refl
+unnamed None = refl
 
 module _ (name : Text) (shape : Shape) (command : IsSubcommand name shape) (is : IsDayShape shape) (words : List Text) (d : AskedDay) (of : HasPaths name shape words d) (w n : Option ℕ) (fine : IsFine d w n) where
   abbrev at_end : Text → Option Row
   at_end =
       with_row threads_option (option_map decimal n) (with_row workers_option (option_map decimal w) (with_row (file_option (codes "depth")) d.depth
-      (with_row (file_option (codes "trades")) d.trades (with_row (file_option (codes "answers")) d.answers (λ k. row_at k of.rows)))))
+      (with_row (file_option (codes "trades")) d.trades (with_row (file_option (codes "answers")) d.answers of.at))))
 
-  steps : Steps shape of.paths of.gathered (options d w n) at_end
+  steps : Steps shape of.position of.gathered (options d w n) at_end
   steps =
-      let a = step of.paths d.answers of.stands is.answers of.answers (plain-file (codes "answers") d.answers fine.answers) in
-      let t = step of.paths d.trades a.stands is.trades (rw of.trades refl) (plain-file (codes "trades") d.trades fine.trades) in
-      let l = step of.paths d.depth t.stands is.depth (rw of.depth refl) (plain-file (codes "depth") d.depth fine.depth) in
-      let m = step of.paths (option_map decimal w) l.stands is.workers (rw of.workers refl) (plain-count (codes "workers") (codes "1" ∷ []) w fine.workers) in
-      let o = step of.paths (option_map decimal n) m.stands is.threads (rw of.threads refl) (plain-count (codes "threads") [] n fine.threads) in
+      let a = step of.position d.answers of.stands is.answers of.answers (plain-file (codes "answers") d.answers fine.answers) in
+      let t = step of.position d.trades a.stands is.trades (rw of.trades refl) (plain-file (codes "trades") d.trades fine.trades) in
+      let l = step of.position d.depth t.stands is.depth (rw of.depth refl) (plain-file (codes "depth") d.depth fine.depth) in
+      let m = step of.position (option_map decimal w) l.stands is.workers (rw of.workers refl) (plain-count (codes "workers") (codes "1" ∷ []) w fine.workers) in
+      let o = step of.position (option_map decimal n) m.stands is.threads (rw of.threads refl) (plain-count (codes "threads") [] n fine.threads) in
       and-then a (and-then t (and-then l (and-then m o)))
 
   abbrev values : List Row
-  values = finished shape.rules (walked_over of.paths steps.end).held
+  values = finished shape.rules (walked_over of.position steps.end).held
 
   value-at : (k : Text) → row_at k values ≡ or_else (at_end k) (default_of shape k)
   value-at k = defaults-at k shape.rules (rows_in shape steps.end) ∙ ap (λ (o : Option Row). fold (or_default k) o shape.rules) (steps.stands.rows_are k) ∙ default-else k shape.rules (at_end k)
 
-  path-at : (k : Text) (r : Row) → row_at k of.rows ≡ Some r → row_at k values ≡ Some r
+  path-at : (k : Text) (r : Row) → of.at k ≡ Some r → row_at k values ≡ Some r
   path-at k r has = value-at k ∙ rw has refl
+
+  out-at : row_at (codes "out") values ≡ of.at (codes "out")
+  out-at = value-at (codes "out") ∙ rw is.no_out (unnamed (of.at (codes "out")))
 
   answers-read : (o : Option Text) → d.answers ≡ o → first_of (codes "answers") values ≡ o
   answers-read None e = rw (value-at (codes "answers"), of.answers, is.no_answers, e) refl
@@ -231,11 +245,11 @@ module _ (name : Text) (shape : Shape) (command : IsSubcommand name shape) (is :
       rw (value-at (codes "threads"), of.threads, is.no_threads, e) (ap (option_map Some) (ap count_in text.as_it_stands ∙ text.is_in))
 
   -- the day that these values ask for
-  day-read : day_in d.carrying values ≡ Some d
+  day-read : day_in d.carrying d.orders values ≡ Some d
   day-read =
       rw (
         path-at (codes "SEGMENT") _ of.segment,
-        path-at (codes "ORDERS") _ of.orders,
+        fine.files,
         workers-read w refl fine.workers,
         threads-read n refl fine.threads,
         fine.concurrency,
@@ -247,9 +261,9 @@ module _ (name : Text) (shape : Shape) (command : IsSubcommand name shape) (is :
 
   taken-behind : (program : Text) → IsTaken (program ∷ name ∷ (words ++ options d w n)) (day d)
   taken-behind program =
-      taken-by name shape command program (words ++ options d w n) (walked_over of.paths steps.end) (day d)
-      (further shape start (walked_over of.paths of.gathered) (walked_over of.paths steps.end) words (options d w n) of.is_walked steps.is_walked)
-      (both-true _ _ steps.stands.passes (both-true _ _ is.defaults (of.valid values path-at))) (of.asks values path-at day-read)
+      taken-by name shape command program (words ++ options d w n) (walked_over of.position steps.end) (day d)
+      (further shape start (walked_over of.position of.gathered) (walked_over of.position steps.end) words (options d w n) of.is_walked steps.is_walked)
+      (both-true _ _ steps.stands.passes (both-true _ _ is.defaults (of.valid values path-at))) (of.asks values path-at out-at day-read)
 
 -- ---- the paths
 
@@ -276,6 +290,7 @@ run-shape = record {
   no_trades = refl;
   no_depth = refl;
   no_threads = refl;
+  no_out = refl;
   one_worker = refl;
   defaults = refl;
 }
@@ -295,6 +310,7 @@ carry-shape = record {
   no_trades = refl;
   no_depth = refl;
   no_threads = refl;
+  no_out = refl;
   one_worker = refl;
   defaults = refl;
 }
@@ -303,79 +319,222 @@ carry-subcommand : IsSubcommand (codes "carry") carry_shape
 unfolding clap_on_literals
 carry-subcommand = record { stops = refl; passes = refl; level = λ behind. refl; enters = λ behind. refl }
 
-two-walked : (s o : Text) → IsPlain s → IsPlain o
-    → IsWalked run_shape start (s ∷ o ∷ []) (walked_over 2 (record { rows = path_row (codes "SEGMENT") s ∷ []; id = codes "ORDERS"; value = o }))
+-- ORDERS, as it is built
+abbrev orders_option : ℕ → ℕ → Rule
+orders_option position most = with_index position (filled (paths_rule (codes "ORDERS") most))
+
+run-orders : IsSeveral run_shape 2 (orders_option 2 max_order_files)
+run-orders = record { by_index = refl; is_itself = refl; several = refl; no_trailing = refl }
+
+carry-orders : IsSeveral carry_shape 3 (orders_option 3 (max_order_files + 1))
+carry-orders = record { by_index = refl; is_itself = refl; several = refl; no_trailing = refl }
+
+carry-out : IsOption carry_shape (codes "--out") (file_option (codes "out"))
+carry-out = option-of carry_shape (codes "--out") (codes "out") (file_option (codes "out")) refl refl refl refl refl refl refl refl
+
+-- each path is a value that it may have
+paths-pass : (position most : ℕ) (paths : List Text) → values_pass (orders_option position most) paths ≡ true
+paths-pass position most [] = refl
+paths-pass position most (path ∷ paths) = paths-pass position most paths
+
+orders-pass : (position most : ℕ) (o : Text) (rest : List Text) → length (o ∷ rest) ≤ most → use_passes false (orders_option position most) (o ∷ rest) [] ≡ true
+orders-pass position most o rest few =
+    both-true _ _ (le-leb 1 (length (o ∷ rest)) (omega arith)) (both-true _ _ (le-leb (length (o ∷ rest)) most few) (paths-pass position most (o ∷ rest)))
+
+-- `run` with its paths
+
+abbrev run_at : Text → List Text → Text → Option Row
+run_at s orders k = row_at k (path_row (codes "SEGMENT") s ∷ paths_row (codes "ORDERS") orders ∷ [])
+
+abbrev run_gathered : Text → List Text → Gathered
+run_gathered s = gathered_of (orders_option 2 max_order_files) (path_row (codes "SEGMENT") s ∷ [])
+
+two-walked : (s o : Text) → IsPlain s → IsPlain o → IsWalked run_shape start (s ∷ o ∷ []) (walked_over 2 (run_gathered s (o ∷ [])))
 unfolding clap_on_literals
 two-walked s o p q = record { comes_to = simp (p.no_hyphen, p.no_hyphens, q.no_hyphen, q.no_hyphens); passes = simp (p.no_hyphen, p.no_hyphens, q.no_hyphen, q.no_hyphens) }
 
-four-walked : (s i o k : Text) → IsPlain s → IsPlain i → IsPlain o → IsPlain k
-    → IsWalked carry_shape start (s ∷ i ∷ o ∷ k ∷ []) (walked_over 4 (record { rows = path_row (codes "SEGMENT") s ∷ path_row (codes "IN") i ∷ path_row (codes "ORDERS") o ∷ []; id = codes "OUT"; value = k }))
-unfolding clap_on_literals
-four-walked s i o k p q r u = record {
-  comes_to = simp (p.no_hyphen, p.no_hyphens, q.no_hyphen, q.no_hyphens, r.no_hyphen, r.no_hyphens, u.no_hyphen, u.no_hyphens);
-  passes = simp (p.no_hyphen, p.no_hyphens, q.no_hyphen, q.no_hyphens, r.no_hyphen, r.no_hyphens, u.no_hyphen, u.no_hyphens);
-}
+run-walked : (s o : Text) (rest : List Text) → IsPlain s → ArePlain (o ∷ rest) → IsWalked run_shape start (s ∷ o ∷ rest) (walked_over 2 (run_gathered s (o ∷ rest)))
+run-walked s o rest p q =
+    further run_shape start (walked_over 2 (run_gathered s (o ∷ []))) (walked_over 2 (run_gathered s (o ∷ rest))) (s ∷ o ∷ []) rest (two-walked s o p q.0)
+    (more-walked run_shape 2 (orders_option 2 max_order_files) run-orders (path_row (codes "SEGMENT") s ∷ []) (o ∷ []) rest q.1)
 
-two-paths : (d : AskedDay) → d.carrying ≡ None → IsPlain d.segment → IsPlain d.orders → HasPaths (codes "run") run_shape (d.segment ∷ d.orders ∷ []) d
-two-paths d e p q = record {
-  paths = 2;
-  gathered = record { rows = path_row (codes "SEGMENT") d.segment ∷ []; id = codes "ORDERS"; value = d.orders };
-  rows = path_row (codes "SEGMENT") d.segment ∷ path_row (codes "ORDERS") d.orders ∷ [];
-  is_walked = two-walked d.segment d.orders p q;
-  stands = record { passes = refl; rows_are = λ k. refl };
+run-stands : (s o : Text) (rest : List Text) → length (o ∷ rest) ≤ max_order_files → Stands run_shape (run_at s (o ∷ rest)) (run_gathered s (o ∷ rest))
+run-stands s o rest few = record { passes = orders-pass 2 max_order_files o rest few; rows_are = λ k. refl }
+
+run-paths : (d : AskedDay) (o : Text) (rest : List Text) → d.carrying ≡ None → d.orders ≡ o ∷ rest → IsPlain d.segment → ArePlain (o ∷ rest) → length (o ∷ rest) ≤ max_order_files
+    → HasPaths (codes "run") run_shape (d.segment ∷ o ∷ rest) d
+run-paths d o rest e f p q few = record {
+  position = 2;
+  gathered = run_gathered d.segment (o ∷ rest);
+  at = run_at d.segment (o ∷ rest);
+  is_walked = run-walked d.segment o rest p q;
+  stands = run-stands d.segment o rest few;
   answers = refl;
   trades = refl;
   depth = refl;
   workers = refl;
   threads = refl;
   segment = refl;
-  orders = refl;
   valid = λ values has. rw (has (codes "SEGMENT") _ refl, has (codes "ORDERS") _ refl) refl;
-  asks = λ values has read. ap (λ (c : Option (Text × Text)). option_map day (day_in c values)) (sym e) ∙ ap (option_map day) read;
+  asks = λ values has out read. rw (has (codes "ORDERS") _ refl)
+      (ap₂ (λ (c : Option (Text × Text)) (paths : List Text). option_map day (day_in c paths values)) (sym e) (sym f) ∙ ap (option_map day) read);
 }
 
-four-paths : (d : AskedDay) (c : Text × Text) → d.carrying ≡ Some c → IsPlain d.segment → IsPlain c.0 → IsPlain d.orders → IsPlain c.1 → HasPaths (codes "carry") carry_shape (d.segment ∷ c.0 ∷ d.orders ∷ c.1 ∷ []) d
-four-paths d c e p q r u = record {
-  paths = 4;
-  gathered = record { rows = path_row (codes "SEGMENT") d.segment ∷ path_row (codes "IN") c.0 ∷ path_row (codes "ORDERS") d.orders ∷ []; id = codes "OUT"; value = c.1 };
-  rows = path_row (codes "SEGMENT") d.segment ∷ path_row (codes "IN") c.0 ∷ path_row (codes "ORDERS") d.orders ∷ path_row (codes "OUT") c.1 ∷ [];
-  is_walked = four-walked d.segment c.0 d.orders c.1 p q r u;
-  stands = record { passes = refl; rows_are = λ k. refl };
+-- `carry` with its paths
+
+abbrev carry_at : Text → Text → List Text → Text → Option Row
+carry_at s i orders k = row_at k (path_row (codes "SEGMENT") s ∷ path_row (codes "IN") i ∷ paths_row (codes "ORDERS") orders ∷ [])
+
+abbrev carry_gathered : Text → Text → List Text → Gathered
+carry_gathered s i = gathered_of (orders_option 3 (max_order_files + 1)) (path_row (codes "SEGMENT") s ∷ path_row (codes "IN") i ∷ [])
+
+three-walked : (s i o : Text) → IsPlain s → IsPlain i → IsPlain o → IsWalked carry_shape start (s ∷ i ∷ o ∷ []) (walked_over 3 (carry_gathered s i (o ∷ [])))
+unfolding clap_on_literals
+three-walked s i o p q r = record {
+  comes_to = simp (p.no_hyphen, p.no_hyphens, q.no_hyphen, q.no_hyphens, r.no_hyphen, r.no_hyphens);
+  passes = simp (p.no_hyphen, p.no_hyphens, q.no_hyphen, q.no_hyphens, r.no_hyphen, r.no_hyphens);
+}
+
+carry-walked : (s i o : Text) (rest : List Text) → IsPlain s → IsPlain i → ArePlain (o ∷ rest) → IsWalked carry_shape start (s ∷ i ∷ o ∷ rest) (walked_over 3 (carry_gathered s i (o ∷ rest)))
+carry-walked s i o rest p q r =
+    further carry_shape start (walked_over 3 (carry_gathered s i (o ∷ []))) (walked_over 3 (carry_gathered s i (o ∷ rest))) (s ∷ i ∷ o ∷ []) rest (three-walked s i o p q r.0)
+    (more-walked carry_shape 3 (orders_option 3 (max_order_files + 1)) carry-orders (path_row (codes "SEGMENT") s ∷ path_row (codes "IN") i ∷ []) (o ∷ []) rest r.1)
+
+carry-stands : (s i o : Text) (rest : List Text) → length (o ∷ rest) ≤ max_order_files + 1 → Stands carry_shape (carry_at s i (o ∷ rest)) (carry_gathered s i (o ∷ rest))
+carry-stands s i o rest few = record { passes = orders-pass 3 (max_order_files + 1) o rest few; rows_are = λ k. refl }
+
+-- with `--out`
+
+carry-kept : (s i o out : Text) (rest : List Text) → length (o ∷ rest) ≤ max_order_files → IsPlain out
+    → Steps carry_shape 3 (carry_gathered s i (o ∷ rest)) (codes "--out" ∷ out ∷ []) (with_row (file_option (codes "out")) (Some out) (carry_at s i (o ∷ rest)))
+carry-kept s i o out rest few p =
+    given carry_shape 3 (carry_gathered s i (o ∷ rest)) (carry_at s i (o ∷ rest)) (carry-stands s i o rest (omega (arith, few))) (codes "--out") (file_option (codes "out")) carry-out out p refl refl
+
+out-paths : (d : AskedDay) (c : Text × Text) (o : Text) (rest : List Text) → d.carrying ≡ Some c → d.orders ≡ o ∷ rest → IsPlain d.segment → IsPlain c.0 → ArePlain (o ∷ rest) → IsPlain c.1
+    → length (o ∷ rest) ≤ max_order_files → HasPaths (codes "carry") carry_shape (d.segment ∷ c.0 ∷ o ∷ (rest ++ codes "--out" ∷ c.1 ∷ [])) d
+out-paths d c o rest e f p q r u few =
+    let kept = carry-kept d.segment c.0 o c.1 rest few u in
+    record {
+      position = 3;
+      gathered = kept.end;
+      at = with_row (file_option (codes "out")) (Some c.1) (carry_at d.segment c.0 (o ∷ rest));
+      is_walked = further carry_shape start (walked_over 3 (carry_gathered d.segment c.0 (o ∷ rest))) (walked_over 3 kept.end) (d.segment ∷ c.0 ∷ o ∷ rest) (codes "--out" ∷ c.1 ∷ [])
+          (carry-walked d.segment c.0 o rest p q r) kept.is_walked;
+      stands = kept.stands;
+      answers = refl;
+      trades = refl;
+      depth = refl;
+      workers = refl;
+      threads = refl;
+      segment = refl;
+      valid = λ values has. rw (has (codes "SEGMENT") _ refl, has (codes "IN") _ refl, has (codes "ORDERS") _ refl) refl;
+      asks = λ values has out read. rw (has (codes "IN") _ refl, has (codes "out") _ refl, has (codes "ORDERS") _ refl)
+          (ap₂ (λ (k : Option (Text × Text)) (paths : List Text). option_map day (day_in k paths values)) (sym e) (sym f) ∙ ap (option_map day) read);
+    }
+
+-- with OUT behind one order file
+
+last-paths : (d : AskedDay) (c : Text × Text) (o : Text) → d.carrying ≡ Some c → d.orders ≡ o ∷ [] → IsPlain d.segment → IsPlain c.0 → IsPlain o → IsPlain c.1
+    → HasPaths (codes "carry") carry_shape (d.segment ∷ c.0 ∷ o ∷ c.1 ∷ []) d
+last-paths d c o e f p q r u = record {
+  position = 3;
+  gathered = carry_gathered d.segment c.0 (o ∷ c.1 ∷ []);
+  at = carry_at d.segment c.0 (o ∷ c.1 ∷ []);
+  is_walked = carry-walked d.segment c.0 o (c.1 ∷ []) p q (r, (u, tt));
+  stands = carry-stands d.segment c.0 o (c.1 ∷ []) (omega arith);
   answers = refl;
   trades = refl;
   depth = refl;
   workers = refl;
   threads = refl;
   segment = refl;
-  orders = refl;
-  valid = λ values has. rw (has (codes "SEGMENT") _ refl, has (codes "IN") _ refl, has (codes "ORDERS") _ refl, has (codes "OUT") _ refl) refl;
-  asks = λ values has read. rw (has (codes "IN") _ refl, has (codes "OUT") _ refl) (ap (λ (k : Option (Text × Text)). option_map day (day_in k values)) (sym e) ∙ ap (option_map day) read);
+  valid = λ values has. rw (has (codes "SEGMENT") _ refl, has (codes "IN") _ refl, has (codes "ORDERS") _ refl) refl;
+  asks = λ values has out read. rw (has (codes "IN") _ refl, out, has (codes "ORDERS") _ refl)
+      (ap₂ (λ (k : Option (Text × Text)) (paths : List Text). option_map day (day_in k paths values)) (sym e) (sym f) ∙ ap (option_map day) read);
 }
+
+-- ---- the words of a day
+
+-- what is said of the words of a day, where it goes on so, and has these order files
+record AsksSo (words : List Text) (d : AskedDay) (carrying : Option (Text × Text)) (orders : List Text) : Type 0 where
+  asks : AsksDay words d
+  carrying_is : d.carrying ≡ carrying
+  orders_are : d.orders ≡ orders
+  paths_are : ArePaths asks.paths d.segment orders carrying
+  segment : IsPlain d.segment
+  from : is_plain_path (option_map (λ c. c.0) carrying) ≡ true
+  plain_orders : ArePlain orders
+  to : is_plain_path (option_map (λ c. c.1) carrying) ≡ true
+  some : 1 ≤ length orders
+  few : length orders ≤ max_order_files
+  fine : IsFine d asks.workers asks.threads
 
 -- the words that ask for a day are taken
-taken-day : (words : List Text) (d : AskedDay) (asks : AsksDay words d) (carrying : Option (Text × Text)) → d.carrying ≡ carrying → is_plain_path (Some d.segment) ≡ true → is_plain_path (Some d.orders) ≡ true → is_plain_path (option_map (λ c. c.0) carrying) ≡ true
-    → is_plain_path (option_map (λ c. c.1) carrying) ≡ true → IsFine d asks.workers asks.threads → IsTaken words (day d)
-taken-day words d asks None e s o from to fine =
-    let is : words ≡ asks.program ∷ codes "run" ∷ d.segment ∷ d.orders ∷ options d asks.workers asks.threads =
-    asks.words_are ∙ ap (λ (c : Option (Text × Text)). asks.program ∷ (path_words d.segment d.orders c ++ options d asks.workers asks.threads)) e in
-    rw is (taken-behind (codes "run") run_shape run-subcommand run-shape _ d (two-paths d e (plain d.segment s) (plain d.orders o)) asks.workers asks.threads fine asks.program)
-taken-day words d asks (Some c) e s o from to fine =
-    let is : words ≡ asks.program ∷ codes "carry" ∷ d.segment ∷ c.0 ∷ d.orders ∷ c.1 ∷ options d asks.workers asks.threads =
-    asks.words_are ∙ ap (λ (k : Option (Text × Text)). asks.program ∷ (path_words d.segment d.orders k ++ options d asks.workers asks.threads)) e in
-    rw is (taken-behind (codes "carry") carry_shape carry-subcommand carry-shape _ d (four-paths d c e (plain d.segment s) (plain c.0 from) (plain d.orders o) (plain c.1 to)) asks.workers asks.threads fine asks.program)
+taken-so : (words : List Text) (d : AskedDay) (carrying : Option (Text × Text)) (orders : List Text) → AsksSo words d carrying orders → IsTaken words (day d)
+taken-so words d carrying [] is = let bad : 1 ≤ 0 = is.some in absurd (omega (arith, bad))
+taken-so words d None (o ∷ rest) is =
+    let asks = is.asks in
+    let same : words ≡ asks.program ∷ codes "run" ∷ d.segment ∷ o ∷ (rest ++ options d asks.workers asks.threads) =
+    asks.words_are ∙ ap (λ (paths : List Text). asks.program ∷ (paths ++ options d asks.workers asks.threads)) is.paths_are in
+    rw same (taken-behind (codes "run") run_shape run-subcommand run-shape _ d (run-paths d o rest is.carrying_is is.orders_are is.segment is.plain_orders is.few) asks.workers asks.threads is.fine asks.program)
+taken-so words d (Some c) (o ∷ rest) is = go rest is is.paths_are
+  where
+    go : (rest : List Text) (is : AsksSo words d (Some c) (o ∷ rest)) → ArePaths is.asks.paths d.segment (o ∷ rest) (Some c) → IsTaken words (day d)
+    go rest is (inl paths) =
+        let asks = is.asks in
+        let same = asks.words_are ∙ ap (λ (paths : List Text). asks.program ∷ (paths ++ options d asks.workers asks.threads)) paths in
+        rw same (taken-behind (codes "carry") carry_shape carry-subcommand carry-shape _ d
+        (out-paths d c o rest is.carrying_is is.orders_are is.segment (plain c.0 is.from) is.plain_orders (plain c.1 is.to) is.few) asks.workers asks.threads is.fine asks.program)
+    go [] is (inr paths) =
+        let asks = is.asks in
+        let same = asks.words_are ∙ ap (λ (paths : List Text). asks.program ∷ (paths ++ options d asks.workers asks.threads)) paths.1 in
+        rw same (taken-behind (codes "carry") carry_shape carry-subcommand carry-shape _ d
+        (last-paths d c o is.carrying_is is.orders_are is.segment (plain c.0 is.from) is.plain_orders.0 (plain c.1 is.to)) asks.workers asks.threads is.fine asks.program)
+    go (second ∷ rest) is (inr paths) = let bad = paths.0 in absurd (omega (arith, bad))
+
+-- order files that are taken as they stand, and more paths
+plain-orders : (orders : List Text) (more : List (Option Text)) → list_all is_plain_path (map Some orders ++ more) ≡ true → ArePlain orders × (list_all is_plain_path more ≡ true)
+plain-orders [] more h = (tt, h)
+plain-orders (path ∷ orders) more h =
+    let now = both _ _ h in
+    let rest = plain-orders orders more now.1 in
+    ((plain path now.0, rest.0), rest.1)
+
+files-are : (orders : List Text) → 1 ≤ length orders → length orders ≤ max_order_files → order_files orders ≡ Some orders
+files-are orders some few = rw (le-leb 1 (length orders) some, le-leb (length orders) max_order_files few) refl
 
 -- the words that ask for it are taken
 pub taken : (words : List Text) (asked : Asked) → Asks words asked → IsTaken words asked
 taken words (day d) asks =
     let segment = both _ _ asks.are_plain in
-    let orders = both _ _ segment.1 in
-    let from = both _ _ orders.1 in
-    let answers = both _ _ from.1 in
+    let from = both _ _ segment.1 in
+    let orders = plain-orders d.orders (outputs d) from.1 in
+    let answers = both _ _ orders.1 in
     let trades = both _ _ answers.1 in
     let depth = both _ _ trades.1 in
     let to = both _ _ depth.1 in
-    taken-day words d asks d.carrying refl segment.0 orders.0 from.0 to.0
-    (record { answers = answers.0; trades = trades.0; depth = depth.0; workers = asks.are_counts.0; threads = asks.are_counts.1; concurrency = asks.concurrency_is; can = asks.is_writable })
+    taken-so words d d.carrying d.orders (record {
+      asks = asks;
+      carrying_is = refl;
+      orders_are = refl;
+      paths_are = asks.paths_are;
+      segment = plain d.segment segment.0;
+      from = from.0;
+      plain_orders = orders.0;
+      to = to.0;
+      some = asks.are_so_many.0;
+      few = asks.are_so_many.1;
+      fine = record {
+        answers = answers.0;
+        trades = trades.0;
+        depth = depth.0;
+        workers = asks.are_counts.0;
+        threads = asks.are_counts.1;
+        concurrency = asks.concurrency_is;
+        can = asks.is_writable;
+        files = files-are d.orders asks.are_so_many.0 asks.are_so_many.1;
+      };
+    })
 taken words (check segment) asks = rw asks.words_are (taken-check asks.program segment (plain segment asks.segment_is_plain))
 
 -- what matches of these words meet, the words ask for

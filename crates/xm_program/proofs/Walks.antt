@@ -1,5 +1,5 @@
--- The walk of a command line over paths, and over options behind them that have one value each.
-use Rattle.std.proofs.Common.{ℕ, suc, ◌≡◌, ◌∙◌, ◌++◌, ◌&&◌, Bool, true, false, if◌then◌else◌, List, [], ◌∷◌, Option, Some, None, is_some, find, fold, refl, subst, sym, ap}
+-- The walk of a command line over paths, of which the last may be several, and over options behind them that have one value each.
+use Rattle.std.proofs.Common.{ℕ, ◌≡◌, ◌∙◌, ◌++◌, ◌&&◌, Bool, true, false, if◌then◌else◌, List, [], ◌∷◌, Option, Some, None, is_some, find, fold, refl, subst, sym, ap, append-nil, append_assoc}
 use Rattle.std.specs.Prelude.{option_map}
 use Rattle.std.specs.Str.{bytes_eq}
 use Rattle.std.proofs.lemmas.Slice.Eq.{bytes_eq-Decides}
@@ -8,7 +8,7 @@ use Rattle.clap.specs.Facts.{unwrap_or_range}
 use Rattle.clap.specs.Lexer.{long_of, strip_byte}
 use Rattle.clap.specs.Simple.{Shape}
 use Rattle.clap.specs.Takes.{settle_passes, value_passes, walk_passes}
-use Rattle.clap.specs.Walk.{Walk, action_of, arg_by_id, arg_by_long, at_row, has_row, idle, more_values, reading_by, settled_rows, walked, with_default, without}
+use Rattle.clap.specs.Walk.{Waiting, Walk, action_of, arg_by_id, arg_by_index, arg_by_long, at_row, has_row, idle, more_values, option, positional, reading_by, settled_rows, subcommand_met, takes_several, walked, with_default, without}
 use Rattle.clap.specs.Words.{Row, Rule, Text}
 use Rattle.clap.specs.declared.builder.action.ArgAction.TheVariants.{Set}
 use Rattle.clap.specs.declared.builder.value_parser.Reading.{Reading}
@@ -142,35 +142,84 @@ further shape from mid end (word ∷ words) more a b =
     let rest = further shape (walked shape.rules [] from word) mid end words more (record { comes_to = a.comes_to; passes = now.1 }) b in
     record { comes_to = rest.comes_to; passes = both-true _ _ now.0 rest.passes }
 
--- what a walk has gathered: rows, and a last value that is not among them yet
+-- what a walk has gathered: rows, the last values, which are not among them yet, and what takes the next word
 pub record Gathered : Type 0 where
   pub rows : List Row
   pub id : Text
-  pub value : Text
+  pub values : List Text
+  pub waiting : Waiting
 
--- the walk over so many paths, and options behind them, that has gathered so much
+-- the walk that stands at this position, and has gathered so much
 abbrev pub walked_over : ℕ → Gathered → Walk
-walked_over paths g = record {
-  held = record { rows = g.rows; pending = Some (g.id, g.value ∷ []); skip = 0 };
-  waiting = idle;
-  position = suc paths;
+walked_over position g = record {
+  held = record { rows = g.rows; pending = Some (g.id, g.values); skip = 0 };
+  waiting = g.waiting;
+  position = position;
   is_trailing = false;
   stopped = None;
 }
 
 abbrev pub rows_in : Shape → Gathered → List Row
-rows_in shape g = settled_rows shape.rules (Some (g.id, g.value ∷ [])) g.rows
+rows_in shape g = settled_rows shape.rules (Some (g.id, g.values)) g.rows
 
--- the last value passes, and the rows with it are these
+-- the last values pass, and the rows with them are these
 pub record Stands (shape : Shape) (at : Text → Option Row) (g : Gathered) : Type 0 where
   pub passes : settle_passes shape.rules shape.args_override_self (walked_over 0 g).held ≡ true
   pub rows_are : (k : Text) → row_at k (rows_in shape g) ≡ at k
 
 -- the walk over more words comes to these rows
-pub record Steps (shape : Shape) (paths : ℕ) (from : Gathered) (words : List Text) (at : Text → Option Row) : Type 0 where
+pub record Steps (shape : Shape) (position : ℕ) (from : Gathered) (words : List Text) (at : Text → Option Row) : Type 0 where
   pub end : Gathered
-  pub is_walked : IsWalked shape (walked_over paths from) words (walked_over paths end)
+  pub is_walked : IsWalked shape (walked_over position from) words (walked_over position end)
   pub stands : Stands shape at end
+
+-- no subcommand is met where there is none
+none-met : (waiting : Waiting) (word : Text) → subcommand_met [] waiting word ≡ None
+none-met idle word = refl
+none-met (option id) word = refl
+none-met positional word = refl
+
+-- ---- several values of a positional
+
+abbrev pub ArePlain : List Text → Type 0
+ArePlain [] = Unit {0}
+ArePlain (word ∷ words) = IsPlain word × ArePlain words
+
+-- the positional of this rule stands at this position, and takes several values
+pub record IsSeveral (shape : Shape) (position : ℕ) (rule : Rule) : Type 0 where
+  pub by_index : arg_by_index shape.rules position ≡ Some rule
+  pub is_itself : bytes_eq rule.id rule.id ≡ true
+  pub several : takes_several rule ≡ true
+  pub no_trailing : rule.trailing_var_arg ≡ false
+
+-- so many values of a positional behind these rows
+abbrev pub gathered_of : Rule → List Row → List Text → Gathered
+gathered_of rule rows values = record { rows = rows; id = rule.id; values = values; waiting = positional }
+
+module _ (shape : Shape) (position : ℕ) (rule : Rule) (is : IsSeveral shape position rule) (rows : List Row) where
+  abbrev with_all : List Text → Walk
+  with_all values = walked_over position (gathered_of rule rows values)
+
+  one-more : (values : List Text) (word : Text) → IsPlain word → IsWalked shape (with_all values) (word ∷ []) (with_all (values ++ word ∷ []))
+  unfolding walked walk_passes
+  one-more values word p = record {
+    comes_to = simp (p.no_hyphen, p.no_hyphens, is.by_index, is.is_itself, is.several, is.no_trailing);
+    passes = simp (p.no_hyphen, p.no_hyphens, is.by_index, is.is_itself, is.several);
+  }
+
+  none-more : (values : List Text) → IsWalked shape (with_all values) [] (with_all values)
+  unfolding walk_passes
+  none-more values = record { comes_to = refl; passes = refl }
+
+  -- more values of it
+  pub more-walked : (values words : List Text) → ArePlain words → IsWalked shape (with_all values) words (with_all (values ++ words))
+  more-walked values [] p = subst (λ (all : List Text). IsWalked shape (with_all values) [] (with_all all)) (sym (append-nil values)) (none-more values)
+  more-walked values (word ∷ words) p =
+      further shape (with_all values) (with_all (values ++ word ∷ [])) (with_all (values ++ word ∷ words)) (word ∷ []) words (one-more values word p.0)
+      (subst (λ (all : List Text). IsWalked shape (with_all (values ++ word ∷ [])) words (with_all all)) (append_assoc values (word ∷ []) words)
+      (more-walked (values ++ word ∷ []) words p.1))
+
+-- ---- options
 
 -- the word is an option of this rule, with one value
 pub record IsOption (shape : Shape) (word : Text) (rule : Rule) : Type 0 where
@@ -188,9 +237,9 @@ pub record IsOption (shape : Shape) (word : Text) (rule : Rule) : Type 0 where
 abbrev pub with_row : Rule → Option Text → (Text → Option Row) → Text → Option Row
 with_row rule value at k = or_else (at k) (where_named rule.id (option_map (λ text. row rule.id (reading_by rule) CommandLine (text ∷ [])) value) k)
 
-module _ (shape : Shape) (paths : ℕ) (g : Gathered) (at : Text → Option Row) (s : Stands shape at g) (word : Text) (rule : Rule) (o : IsOption shape word rule) where
+module _ (shape : Shape) (position : ℕ) (g : Gathered) (at : Text → Option Row) (s : Stands shape at g) (word : Text) (rule : Rule) (o : IsOption shape word rule) where
   -- an option that is left out
-  pub left-out : Steps shape paths g [] (with_row rule None at)
+  pub left-out : Steps shape position g [] (with_row rule None at)
   unfolding walk_passes
   left-out = record {
     end = g;
@@ -200,17 +249,17 @@ module _ (shape : Shape) (paths : ℕ) (g : Gathered) (at : Text → Option Row)
 
   module _ (value : Text) (p : IsPlain value) where
     abbrev next : Gathered
-    next = record { rows = rows_in shape g; id = rule.id; value = value }
+    next = record { rows = rows_in shape g; id = rule.id; values = value ∷ []; waiting = idle }
 
-    option-walked : IsWalked shape (walked_over paths g) (word ∷ value ∷ []) (walked_over paths next)
+    option-walked : IsWalked shape (walked_over position g) (word ∷ value ∷ []) (walked_over position next)
     unfolding walked walk_passes
     option-walked = record {
-      comes_to = simp (o.no_hyphens, o.is_long, o.by_long, o.by_id, o.is_itself, o.most, p.no_hyphen, p.no_hyphens);
-      passes = simp (o.no_hyphens, o.is_long, o.by_long, o.most, p.no_hyphen, p.no_hyphens, s.passes);
+      comes_to = simp (none-met g.waiting word, o.no_hyphens, o.is_long, o.by_long, o.by_id, o.is_itself, o.most, p.no_hyphen, p.no_hyphens);
+      passes = simp (none-met g.waiting word, o.no_hyphens, o.is_long, o.by_long, o.most, p.no_hyphen, p.no_hyphens, s.passes);
     }
 
     -- an option with its value
-    pub given : at rule.id ≡ None → value_passes rule value ≡ true → Steps shape paths g (word ∷ value ∷ []) (with_row rule (Some value) at)
+    pub given : at rule.id ≡ None → value_passes rule value ≡ true → Steps shape position g (word ∷ value ∷ []) (with_row rule (Some value) at)
     given none passes =
         let new = s.rows_are rule.id ∙ none in
         let has : has_row rule.id (rows_in shape g) ≡ false = has_row-is rule.id (rows_in shape g) ∙ ap is_some new in
@@ -224,12 +273,12 @@ module _ (shape : Shape) (paths : ℕ) (g : Gathered) (at : Text → Option Row)
         }
 
 -- an option, with its value if there is one
-pub step : {shape : Shape} {g : Gathered} {at : Text → Option Row} {word : Text} {rule : Rule} (paths : ℕ) (value : Option Text) → Stands shape at g → IsOption shape word rule → at rule.id ≡ None
-    → ((text : Text) → value ≡ Some text → IsPlain text × (value_passes rule text ≡ true)) → Steps shape paths g (option_words word value) (with_row rule value at)
-step {shape} {g} {at} {word} {rule} paths None s o none fine = left-out shape paths g at s word rule o
-step {shape} {g} {at} {word} {rule} paths (Some value) s o none fine = let f = fine value refl in given shape paths g at s word rule o value f.0 none f.1
+pub step : {shape : Shape} {g : Gathered} {at : Text → Option Row} {word : Text} {rule : Rule} (position : ℕ) (value : Option Text) → Stands shape at g → IsOption shape word rule → at rule.id ≡ None
+    → ((text : Text) → value ≡ Some text → IsPlain text × (value_passes rule text ≡ true)) → Steps shape position g (option_words word value) (with_row rule value at)
+step {shape} {g} {at} {word} {rule} position None s o none fine = left-out shape position g at s word rule o
+step {shape} {g} {at} {word} {rule} position (Some value) s o none fine = let f = fine value refl in given shape position g at s word rule o value f.0 none f.1
 
 -- steps behind others
-pub and-then : {shape : Shape} {paths : ℕ} {g : Gathered} {words more : List Text} {at then_at : Text → Option Row} (a : Steps shape paths g words at) → Steps shape paths a.end more then_at → Steps shape paths g (words ++ more) then_at
-and-then {shape} {paths} {g} {words} {more} a b =
-    record { end = b.end; is_walked = further shape (walked_over paths g) (walked_over paths a.end) (walked_over paths b.end) words more a.is_walked b.is_walked; stands = b.stands }
+pub and-then : {shape : Shape} {position : ℕ} {g : Gathered} {words more : List Text} {at then_at : Text → Option Row} (a : Steps shape position g words at) → Steps shape position a.end more then_at → Steps shape position g (words ++ more) then_at
+and-then {shape} {position} {g} {words} {more} a b =
+    record { end = b.end; is_walked = further shape (walked_over position g) (walked_over position a.end) (walked_over position b.end) words more a.is_walked b.is_walked; stands = b.stands }

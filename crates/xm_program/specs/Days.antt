@@ -12,7 +12,7 @@ use Rattle.xm_config.specs.Day.{Day}
 use Rattle.xm_workers.specs.Workers.{IsShared}
 use Rattle.xm_texts.specs.declared.asked.AskedTexts.{AskedTexts}
 use Rattle.xm_replay.specs.declared.faults.DayFault.{DayFault}
-use Rattle.xm_replay.specs.declared.faults.DayFault.TheVariants.{WriteFailed}
+use Rattle.xm_replay.specs.declared.faults.DayFault.TheVariants.{OutOfMemory, WriteFailed}
 use Rattle.xm_program.specs.declared.concurrency.Concurrency.{Concurrency}
 use Rattle.xm_program.specs.declared.concurrency.Concurrency.TheVariants.{Threads, Workers}
 use Rattle.xm_config.specs.declared.config.SegmentConfig.{SegmentConfig}
@@ -125,13 +125,18 @@ abbrev pub handing : Bool → HandsOn
 handing true = WhatIsLeft
 handing false = Nothing
 
--- the same where the files have some bytes, among them those of a carry file if the day goes on from earlier ones, and one that is to
--- be written may be none that can be made, which is a failed write before anything is written
-abbrev pub FilesEnd : Concurrency → AskedTexts → Bool → Option (List ℕ) → Option (List ℕ) → Result (Unit {0}) DayFault → Type 0
-FilesEnd concurrency asked goes_on old new result =
-    ((files : DayFiles) × (is_some files.carried ≡ goes_on) × (answers trades depth carry : Held) × DayCallEnds concurrency asked (handing goes_on) files
+-- a day ends so before a file is read
+abbrev pub EndsUnread : Result (Unit {0}) DayFault → Type 0
+EndsUnread result = (result ≡ Err WriteFailed) ⊎ (result ≡ Err (OutOfMemory tt))
+
+-- the same where the files have some bytes, so many of them order files, among them a carry file if the day goes on from earlier ones, and
+-- one that is to be written may be none that can be made, which is a failed write before anything is read; or there is no memory for the
+-- list of the order files
+abbrev pub FilesEnd : Concurrency → AskedTexts → Bool → ℕ → Option (List ℕ) → Option (List ℕ) → Result (Unit {0}) DayFault → Type 0
+FilesEnd concurrency asked goes_on count old new result =
+    ((files : DayFiles) × (is_some files.carried ≡ goes_on) × (length files.orders ≡ count) × (answers trades depth carry : Held) × DayCallEnds concurrency asked (handing goes_on) files
     (record { statement = record { old = old; new = new }; answers = answers; trades = trades; depth = depth; carry = carry }) result)
-    ⊎ ((result ≡ Err WriteFailed) × (new ≡ old))
+    ⊎ (EndsUnread result × (new ≡ old))
 
 -- the line of a segment goes out, or its fault is told
 abbrev pub LineIsSent : Held → Result (Vec ℕ Global) DayFault → Result (Unit {0}) DayFault → Type 0

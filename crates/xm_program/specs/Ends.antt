@@ -1,5 +1,5 @@
 -- What the words of a command line lead to on the two streams.
-use Rattle.std.specs.Prelude.{◌≡◌, ℕ, false, true, ◌⊎◌, List, [], Option, Some, is_some, Result, Ok, Err, ⊤}
+use Rattle.std.specs.Prelude.{◌≡◌, ℕ, false, true, ◌⊎◌, List, [], length, Option, Some, is_some, Result, Ok, Err, ⊤}
 use Rattle.std.specs.Io.KnownBytes.{Appends}
 use Rattle.clap.specs.Values.{kind_of}
 use Rattle.clap.specs.Words.{IsAmong, Kinds}
@@ -15,7 +15,7 @@ use Rattle.xm_ticks.specs.Writing.{AppendsPrefix}
 
 -- what was asked for ended so, on files of some bytes
 abbrev pub AskedEnds : Asked → Option (List ℕ) → Option (List ℕ) → Result (Unit {0}) DayFault → Type 0
-AskedEnds (day d) old new end = FilesEnd d.concurrency (asked_texts d) (is_some d.carrying) old new end
+AskedEnds (day d) old new end = FilesEnd d.concurrency (asked_texts d) (is_some d.carrying) (length d.orders) old new end
 AskedEnds (check segment) old new end = (segment_bytes : Option (List ℕ)) × CheckCallEnds segment_bytes (record { old = old; new = new }) end
 
 -- the words have no fault and ask for what can be done, which ended so

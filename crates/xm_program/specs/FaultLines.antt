@@ -1,5 +1,5 @@
 -- The line that tells why a day has no statement.
-use Rattle.std.specs.Prelude.{ℕ, List, ◌++◌, codes}
+use Rattle.std.specs.Prelude.{ℕ, ◌==◌, if◌then◌else◌, List, ◌++◌, codes}
 use Rattle.std.specs.Fmt.{decimal}
 use Rattle.xm_config.specs.declared.opening.OpenFault.{OpenFault}
 use Rattle.xm_config.specs.declared.opening.OpenFault.TheVariants as opening
@@ -35,11 +35,15 @@ open_name (opening.OutOfMemory _) = codes "OutOfMemory"
 abbrev pub file_line : List ℕ → FileFault → List ℕ
 file_line file fault = file ++ codes ": line " ++ decimal fault.line ++ codes ": " ++ cause_name fault.cause
 
+-- the order file with this number among those of a day: the first has none
+abbrev pub orders_name : ℕ → List ℕ
+orders_name number = if number == 1 then codes "orders" else codes "orders " ++ decimal number
+
 -- what is said of a fault
 abbrev pub fault_text : DayFault → List ℕ
 fault_text (day.Segment fault) = file_line (codes "segment") fault
 fault_text (day.Carry fault) = file_line (codes "carry") fault
-fault_text (day.Orders fault) = file_line (codes "orders") fault
+fault_text (day.Orders fault) = file_line (orders_name fault.file) fault.fault
 fault_text (day.Open fault) = codes "open: " ++ open_name fault
 fault_text (day.OutOfMemory _) = codes "out of memory"
 fault_text day.WriteFailed = codes "write failed"

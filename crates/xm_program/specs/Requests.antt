@@ -1,20 +1,21 @@
 -- How the words of a command line are answered.
-use Rattle.std.specs.Prelude.{◌≡◌, ◌≤◌, ◌==◌, ℕ, pos, Bool, false, true, ◌&&◌, ◌||◌, not, if◌then◌else◌, ◌⊎◌, List, [], ◌∷◌, ◌++◌, Option, Some, None, IfSome, is_some, Result, Ok, Err, ⊤, codes, option_and_then, option_map, unwrap_or}
+use Rattle.std.specs.Prelude.{◌≡◌, ◌≤◌, ◌==◌, ◌+◌, ℕ, pos, Bool, false, true, ◌&&◌, ◌||◌, not, if◌then◌else◌, ◌⊎◌, List, [], ◌∷◌, ◌++◌, length, map, nat_le, Option, Some, None, IfSome, is_some, Result, Ok, Err, ⊤, codes, option_and_then, option_map, unwrap_or}
 use Rattle.std.specs.Fmt.{decimal}
 use Rattle.std.specs.List.{list_all, list_any}
 use Rattle.std.specs.Str.{bytes_eq}
 use Rattle.std.specs.Str.Parse.{digits_value, without_leading_plus}
 use Rattle.clap.specs.Values.{kind_of}
 use Rattle.clap.specs.ValueTests.{is_unsigned_in}
-use Rattle.clap.specs.Words.{App, IsAmong, Kinds, Row, Rule, Text, first_of, new_app, new_rule, one_of, subcommand_of, with_rule, with_subcommand}
+use Rattle.clap.specs.Words.{App, IsAmong, Kinds, Row, Rule, Text, all_of, first_of, new_app, new_rule, one_of, subcommand_of, with_rule, with_subcommand}
 use Rattle.clap.specs.Simple.{on_top}
-use Rattle.clap.specs.declared.builder.action.ArgAction.TheVariants.{Set}
+use Rattle.clap.specs.declared.builder.action.ArgAction.TheVariants.{Append, Set}
 use Rattle.clap.specs.declared.builder.value_parser.ValueParser.TheVariants.{Signed}
 use Rattle.clap.specs.declared.error.Error.{Error}
 use Rattle.clap.specs.declared.error.kind.ErrorKind.{ErrorKind}
 use Rattle.clap.specs.declared.error.kind.ErrorKind.TheVariants as kind
 use Rattle.std_io.specs.declared.io.kind.ErrorKind.{ErrorKind as ReadKind}
 use Rattle.std_io.specs.declared.io.kind.ErrorKind.TheVariants as reading
+use Rattle.xm_files.specs.declared.order_files.TheConstants.{MAX_FILES}
 use Rattle.xm_replay.specs.declared.faults.DayFault.TheVariants.{OutOfMemory}
 use Rattle.xm_texts.specs.declared.asked.AskedTexts.{AskedTexts}
 use Rattle.xm_config.specs.Opening.{max_workers}
@@ -34,6 +35,18 @@ use Rattle.xm_program.specs.declared.requests.Failure.TheVariants.{Day, Words}
 abbrev pub path_rule : Text → Rule
 path_rule id = record (new_rule id) { required = true; action = Some Set }
 
+-- so many order files a day has at most
+abbrev pub max_order_files : ℕ
+max_order_files = MAX_FILES
+
+-- one that has to be given, with so many values at most, one behind the other
+abbrev pub paths_rule : Text → ℕ → Rule
+paths_rule id most = record (new_rule id) {
+  required = true;
+  action = Some Append;
+  range = Some (record { start_inclusive = 1; end_inclusive = most });
+}
+
 -- `--workers N` or `--threads N`, a number from 1 on, which may be left out
 abbrev pub count_rule : Text → Rule
 count_rule id = record (new_rule id) {
@@ -47,7 +60,7 @@ count_rule id = record (new_rule id) {
 abbrev pub workers_rule : Rule
 workers_rule = record (count_rule (codes "workers")) { defaults = codes "1" ∷ [] }
 
--- `--answers FILE`, `--trades FILE` or `--depth FILE`, which may be left out
+-- `--answers FILE`, `--trades FILE`, `--depth FILE` or `--out OUT`, which may be left out
 abbrev pub file_rule : Text → Rule
 file_rule id = record (new_rule id) { long = Some id; action = Some Set; value_names = 1 }
 
@@ -57,15 +70,15 @@ with_options app =
     with_rule (with_rule (with_rule (with_rule (with_rule app workers_rule) (count_rule (codes "threads")))
     (file_rule (codes "answers"))) (file_rule (codes "trades"))) (file_rule (codes "depth"))
 
--- `run SEGMENT ORDERS`, with these options
+-- `run SEGMENT ORDERS...`, with these options
 abbrev pub run_app : App
-run_app = with_options (with_rule (with_rule (new_app (codes "run")) (path_rule (codes "SEGMENT"))) (path_rule (codes "ORDERS")))
+run_app = with_options (with_rule (with_rule (new_app (codes "run")) (path_rule (codes "SEGMENT"))) (paths_rule (codes "ORDERS") max_order_files))
 
--- `carry SEGMENT IN ORDERS OUT`, with the same
+-- `carry SEGMENT IN ORDERS... --out OUT`, with the same: where `--out` is left out, OUT is the last of ORDERS
 abbrev pub carry_app : App
 carry_app =
     with_options (with_rule (with_rule (with_rule (with_rule (new_app (codes "carry")) (path_rule (codes "SEGMENT"))) (path_rule (codes "IN")))
-    (path_rule (codes "ORDERS"))) (path_rule (codes "OUT")))
+    (paths_rule (codes "ORDERS") (max_order_files + 1))) (file_rule (codes "out")))
 
 -- `check SEGMENT`
 abbrev pub check_app : App
@@ -84,7 +97,8 @@ day_app = with_subcommand (with_subcommand (with_subcommand top_app run_app.top)
 -- a day, by the paths of its files
 pub record AskedDay : Type 0 where
   pub segment : Text
-  pub orders : Text
+  -- of its order files, one after the other
+  pub orders : List Text
   -- of a day that goes on from earlier ones: the carry file of what these left, and the one that gets what it leaves
   pub carrying : Option (Text × Text)
   -- how its rows are taken
@@ -139,7 +153,7 @@ outputs d = d.answers ∷ d.trades ∷ d.depth ∷ option_map (λ c. c.1) d.carr
 
 -- the files that it is read from
 abbrev pub inputs : AskedDay → List (Option Text)
-inputs d = Some d.segment ∷ option_map (λ c. c.0) d.carrying ∷ Some d.orders ∷ []
+inputs d = Some d.segment ∷ option_map (λ c. c.0) d.carrying ∷ map Some d.orders
 
 -- the texts beside its statement that are asked for
 abbrev pub asked_texts : AskedDay → AskedTexts
@@ -157,9 +171,13 @@ can_write d = can_tell d.concurrency (asked_texts d) && are_apart (outputs d)
 abbrev pub written : AskedDay → Option AskedDay
 written d = if can_write d then Some d else None
 
--- the day that these values ask for, which goes on so from earlier ones
-abbrev pub day_in : Option (Text × Text) → List Row → Option AskedDay
-day_in carrying rows =
+-- the paths of a day's order files, if they are not too many, and there is one
+abbrev pub order_files : List Text → Option (List Text)
+order_files paths = if nat_le 1 (length paths) && nat_le (length paths) max_order_files then Some paths else None
+
+-- the day of these order files that these values ask for, which goes on so from earlier ones
+abbrev pub day_in : Option (Text × Text) → List Text → List Row → Option AskedDay
+day_in carrying paths rows =
     option_and_then (λ segment. option_and_then (λ orders. option_and_then (λ concurrency. written (record {
       segment = segment;
       orders = orders;
@@ -168,18 +186,33 @@ day_in carrying rows =
       answers = first_of (codes "answers") rows;
       trades = first_of (codes "trades") rows;
       depth = first_of (codes "depth") rows;
-    })) (concurrency_in rows)) (first_of (codes "ORDERS") rows)) (first_of (codes "SEGMENT") rows)
+    })) (concurrency_in rows)) (order_files paths)) (first_of (codes "SEGMENT") rows)
+
+-- the paths that these values have for ORDERS
+abbrev pub paths_in : List Row → List Text
+paths_in rows = unwrap_or (all_of (codes "ORDERS") rows) []
+
+-- the day of the order files that these values name
+abbrev pub run_day_in : List Row → Option AskedDay
+run_day_in rows = day_in None (paths_in rows) rows
+
+-- the order files among these paths, and the carry file of the next day: that of `--out`, or else the second of two paths
+abbrev pub kept_in : Option Text → List Text → Option (List Text × Text)
+kept_in (Some out) paths = Some (paths, out)
+kept_in None (orders ∷ out ∷ []) = Some (orders ∷ [], out)
+kept_in None _ = None
 
 -- the same of a day that goes on from earlier ones by the carry files that these values name
 abbrev pub carried_day_in : List Row → Option AskedDay
 carried_day_in rows =
-    option_and_then (λ from. option_and_then (λ to. day_in (Some (from, to)) rows) (first_of (codes "OUT") rows)) (first_of (codes "IN") rows)
+    option_and_then (λ from. option_and_then (λ kept. day_in (Some (from, kept.1)) kept.0 rows)
+    (kept_in (first_of (codes "out") rows) (paths_in rows))) (first_of (codes "IN") rows)
 
 abbrev pub asked_in : Option (Text × List Row) → Option Asked
 asked_in None = None
 asked_in (Some p) =
     if bytes_eq p.0 (codes "run")
-    then option_map day (day_in None p.1)
+    then option_map day (run_day_in p.1)
     else (if bytes_eq p.0 (codes "carry")
     then option_map day (carried_day_in p.1)
     else (if bytes_eq p.0 (codes "check") then option_map check (first_of (codes "SEGMENT") p.1) else None))
@@ -207,21 +240,27 @@ option_words option (Some value) = option ∷ value ∷ []
 abbrev pub IsCount : ℕ → Type 0
 IsCount number = (1 ≤ number) × (number ≤ max_workers)
 
--- a subcommand with its paths
-abbrev pub path_words : Text → Text → Option (Text × Text) → List Text
-path_words segment orders None = codes "run" ∷ segment ∷ orders ∷ []
-path_words segment orders (Some c) = codes "carry" ∷ segment ∷ c.0 ∷ orders ∷ c.1 ∷ []
+-- the words are a subcommand with its paths; behind one order file OUT may stand without `--out`
+abbrev pub ArePaths : List Text → Text → List Text → Option (Text × Text) → Type 0
+ArePaths words segment orders None = words ≡ codes "run" ∷ segment ∷ orders
+ArePaths words segment orders (Some c) =
+    (words ≡ codes "carry" ∷ segment ∷ c.0 ∷ (orders ++ codes "--out" ∷ c.1 ∷ []))
+    ⊎ ((length orders ≡ 1) × (words ≡ codes "carry" ∷ segment ∷ c.0 ∷ (orders ++ c.1 ∷ [])))
 
 -- the words are the program's name, a subcommand with its paths, and then, as far as they are asked for, `--answers`, `--trades` and
--- `--depth`, each with a path, and `--workers` and `--threads`, each with a number; and the day can be written
+-- `--depth`, each with a path, and `--workers` and `--threads`, each with a number; the day can be written, and its order files are
+-- not too many
 pub record AsksDay (words : List Text) (d : AskedDay) : Type 0 where
   pub program : Text
   pub workers : Option ℕ
   pub threads : Option ℕ
-  pub words_are : words ≡ program ∷ (path_words d.segment d.orders d.carrying
+  pub paths : List Text
+  pub paths_are : ArePaths paths d.segment d.orders d.carrying
+  pub words_are : words ≡ program ∷ (paths
       ++ (option_words (codes "--answers") d.answers ++ (option_words (codes "--trades") d.trades ++ (option_words (codes "--depth") d.depth
       ++ (option_words (codes "--workers") (option_map decimal workers) ++ option_words (codes "--threads") (option_map decimal threads))))))
-  pub are_plain : list_all is_plain_path (Some d.segment ∷ Some d.orders ∷ option_map (λ c. c.0) d.carrying ∷ outputs d) ≡ true
+  pub are_plain : list_all is_plain_path (inputs d ++ outputs d) ≡ true
+  pub are_so_many : (1 ≤ length d.orders) × (length d.orders ≤ max_order_files)
   pub are_counts : IfSome workers IsCount × IfSome threads IsCount
   pub concurrency_is : concurrency_of (unwrap_or workers 1) threads ≡ Some d.concurrency
   pub is_writable : can_write d ≡ true
@@ -246,7 +285,7 @@ carried_by c = (c.from.now, c.to.now)
 abbrev pub named_day : DayRequest → AskedDay
 named_day d = record {
   segment = d.segment.now;
-  orders = d.orders.now;
+  orders = map (λ s. s.now) d.orders.items;
   carrying = option_map carried_by d.carrying;
   concurrency = d.concurrency;
   answers = option_map (λ s. s.now) d.texts.answers;

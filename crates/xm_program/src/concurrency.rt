@@ -1,4 +1,4 @@
-//! How the rows of a day are taken: in the order of the file, on threads, or by workers, side by side.
+//! How the rows of a day are taken: in the order of the files, on threads, or by workers, side by side.
 ghost use Rattle.std.specs.Prelude.{◌≡◌};
 ghost use Rattle.xm_program.specs.Requests.{concurrency_of};
 
@@ -7,7 +7,7 @@ use crate::count::Count;
 /// How the rows of a day are taken.
 #[derive(Clone, Copy, PartialEq, Eq, Debug)]
 pub enum Concurrency {
-    /// In the order of the file, on so many threads, if these are said: what is written is what one thread writes.
+    /// In the order of the files, on so many threads, if these are said: what is written is what one thread writes.
     Threads(Option<Count>),
     /// By so many workers, side by side, each the rows of its members in their order.
     Workers(Count),

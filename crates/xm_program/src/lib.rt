@@ -1,4 +1,4 @@
-//! What the program `xetra-day` does with its command line: it runs a day of two files, also one that opens with
+//! What the program `xetra-day` does with its command line: it runs a day of its files, also one that opens with
 //! what earlier days left, checks a segment file, or prints its help.
 //!
 //! `requests` reads the command line, and `program` does that. `concurrency` says whether threads or workers take the rows, and a
@@ -20,7 +20,7 @@ mod requests;
 pub use crate::concurrency::Concurrency;
 pub use crate::count::Count;
 pub use crate::fault_lines::fault_line;
-pub use crate::inputs::{Input, open_input};
+pub use crate::inputs::{Input, open_input, open_inputs};
 pub use crate::outputs::{Output, TextFiles};
 pub use crate::program::{carry_over, check, run, run_program, run_words};
 pub use crate::requests::{Carrying, DayRequest, Failure, Request, TextPaths, read_words};

@@ -4,6 +4,7 @@ ghost use Rattle.std.specs.Io.KnownBytes.{Appends};
 ghost use Rattle.std.specs.Process.{exit_status};
 ghost use Rattle.clap.specs.Words.{fault_of};
 ghost use Rattle.xm_day.specs.Days.{TakesFile};
+ghost use Rattle.xm_files.specs.declared.order_files.TheConstants.{MAX_FILES};
 ghost use Rattle.xm_program.specs.Days.{AppendsBeginning, CheckCallEnds, DayCallEnds, DayIsSent, EndsBy, IsChosen, IsDayBy, SendingEnds, asked_with, sendings};
 ghost use Rattle.xm_program.specs.Ends.{AskedEnds, CallEnds, IsDone, IsToldAs};
 ghost use Rattle.xm_program.specs.Outputs.{outputs_of};
@@ -37,7 +38,7 @@ use xm_name_index::{Seed, Storage};
 use xm_segment::NoGate;
 use xm_ticks::write_whole;
 
-/// The least bytes of an order file that is worth several threads: those of some 20,000 rows.
+/// The least bytes of order files that are worth several threads: those of some 20,000 rows.
 const LONG_FILE: u64 = 700_000;
 
 /// Does what the command line asks for, tells on standard error where it can't, and gives the status to end with.
@@ -99,15 +100,16 @@ fn write_day<R: AllocGlobal + Files + RandomSource + Threads + Wait + Sync, W: W
         Err(_) => return Err(DayFault::WriteFailed),
     };
     let (concurrency, asked) = (chosen(rt, request), request.asked());
+    let opens = |path: &str| fs::open(rt, path);
     let mut segment = inputs::open_input(|path| fs::open(rt, path), request.segment);
     match &request.carrying {
         None => {
-            let mut orders = inputs::open_input(|path| fs::open(rt, path), request.orders);
+            let mut orders = inputs::open_inputs(rt.alloc(), &opens, &request.orders)?;
             run(
                 rt,
                 storage(rt),
                 &mut segment,
-                &mut orders,
+                orders.as_mut_slice(),
                 concurrency,
                 asked,
                 out,
@@ -116,13 +118,13 @@ fn write_day<R: AllocGlobal + Files + RandomSource + Threads + Wait + Sync, W: W
         }
         Some(carrying) => {
             let mut carried = inputs::open_input(|path| fs::open(rt, path), carrying.from);
-            let mut orders = inputs::open_input(|path| fs::open(rt, path), request.orders);
+            let mut orders = inputs::open_inputs(rt.alloc(), &opens, &request.orders)?;
             carry_over(
                 rt,
                 storage(rt),
                 &mut segment,
                 &mut carried,
-                &mut orders,
+                orders.as_mut_slice(),
                 concurrency,
                 asked,
                 out,
@@ -137,19 +139,23 @@ fn chosen<R: Files + Threads>(rt: &R, request: &DayRequest<'_>) -> Concurrency
     ensures { IsChosen request.now.concurrency result }
 {
     match request.concurrency {
-        Concurrency::Threads(None) => Concurrency::Threads(Some(threads_for(rt, request.orders))),
+        Concurrency::Threads(None) => {
+            Concurrency::Threads(Some(threads_for(rt, request.orders.as_slice())))
+        }
         Concurrency::Threads(Some(threads)) => Concurrency::Threads(Some(threads)),
         Concurrency::Workers(workers) => Concurrency::Workers(workers),
     }
 }
 
-/// On how many threads the rows of an order file are taken where the words don't say it: on as many as there are processors, and on one
-/// where the file is short, or where the system tells no length of it, as of a pipe.
-fn threads_for<R: Files + Threads>(rt: &R, orders: &str) -> Count {
-    let length = match fs::metadata(rt, orders) {
-        Ok(found) => found.len(),
-        Err(_) => 0,
-    };
+/// On how many threads the rows of order files are taken where the words don't say it: on as many as there are processors, and on one
+/// where the files are short together, or where the system tells no length of them, as of pipes.
+fn threads_for<R: Files + Threads>(rt: &R, orders: &[&str]) -> Count {
+    let mut length = 0_u64;
+    for path in orders {
+        if let Ok(found) = fs::metadata(rt, *path) {
+            length = length.saturating_add(found.len());
+        }
+    }
     if length < LONG_FILE {
         return Count::nearest(1);
     }
@@ -198,7 +204,7 @@ fn read_command_line<R: Env + AllocGlobal>(rt: &R) -> Result<Vec<String>, Failur
     }
 }
 
-/// Makes the day of two files, whose rows are taken so, and sends out its texts, one after the other: its statement, and the answers
+/// Makes the day of a segment file and its order files, whose rows are taken so, and sends out its texts, one after the other: its statement, and the answers
 /// to its rows, their trades and the levels behind them, as far as they are asked for, each to its file.
 ///
 /// The faults are those of the day, in their order. `WriteFailed` tells that a text didn't go out whole. Nothing
@@ -207,13 +213,14 @@ pub fn run<R: Threads + Wait + Sync, S: Read, O: Read, W: Write, F: Write>(
     rt: &R,
     storage: Storage<Global>,
     segment: &mut S,
-    orders: &mut O,
+    orders: &mut [O],
     concurrency: Concurrency,
     asked: AskedTexts,
     out: &mut W,
     files: &mut TextFiles<F>,
 ) -> Result<(), DayFault>
-    ensures ends { DayCallEnds concurrency asked HandsOn.Nothing (record { segment = S.remaining segment.old; carried = None; orders = O.remaining orders.old })
+    requires { length orders.old ≤ MAX_FILES }
+    ensures ends { DayCallEnds concurrency asked HandsOn.Nothing (record { segment = S.remaining segment.old; carried = None; orders = map O.remaining orders.old })
         (outputs_of F.contents (record { old = W.contents out.old; new = W.contents out.new }) files.old files.new) result }
     ensures untouched { IfErr result (λ fault. fault ≢ DayFault.WriteFailed → out.new ≡ out.old) }
 {
@@ -221,20 +228,21 @@ pub fn run<R: Threads + Wait + Sync, S: Read, O: Read, W: Write, F: Write>(
     send_day(made, out, files)
 }
 
-/// Makes the day of two files that opens with a carry file, whose rows are taken so, and sends out its texts as `run` does, and last the
+/// Makes the same day, which opens with a carry file, and sends out its texts as `run` does, and last the
 /// carry file of the next day.
 pub fn carry_over<R: Threads + Wait + Sync, S: Read, C: Read, O: Read, W: Write, F: Write>(
     rt: &R,
     storage: Storage<Global>,
     segment: &mut S,
     carried: &mut C,
-    orders: &mut O,
+    orders: &mut [O],
     concurrency: Concurrency,
     asked: AskedTexts,
     out: &mut W,
     files: &mut TextFiles<F>,
 ) -> Result<(), DayFault>
-    ensures ends { DayCallEnds concurrency asked HandsOn.WhatIsLeft (record { segment = S.remaining segment.old; carried = Some (C.remaining carried.old); orders = O.remaining orders.old })
+    requires { length orders.old ≤ MAX_FILES }
+    ensures ends { DayCallEnds concurrency asked HandsOn.WhatIsLeft (record { segment = S.remaining segment.old; carried = Some (C.remaining carried.old); orders = map O.remaining orders.old })
         (outputs_of F.contents (record { old = W.contents out.old; new = W.contents out.new }) files.old files.new) result }
     ensures untouched { IfErr result (λ fault. fault ≢ DayFault.WriteFailed → out.new ≡ out.old) }
 {
@@ -242,51 +250,54 @@ pub fn carry_over<R: Threads + Wait + Sync, S: Read, C: Read, O: Read, W: Write,
     send_day(made, out, files)
 }
 
-/// The texts of the day of two files, whose rows are taken so.
+/// The texts of the day of a segment file and its order files, whose rows are taken so.
 fn day_of_files<R: Threads + Wait + Sync, S: Read, O: Read>(
     rt: &R,
     storage: Storage<Global>,
     segment: &mut S,
-    orders: &mut O,
+    orders: &mut [O],
     concurrency: Concurrency,
     asked: AskedTexts,
 ) -> Result<DayTexts, DayFault>
-    ensures { IsDayBy concurrency asked HandsOn.Nothing (record { segment = S.remaining segment.old; carried = None; orders = O.remaining orders.old }) result }
+    requires { length orders.old ≤ MAX_FILES }
+    ensures { IsDayBy concurrency asked HandsOn.Nothing (record { segment = S.remaining segment.old; carried = None; orders = map O.remaining orders.old }) result }
 {
     let (config, names) = open_files(storage, segment)?;
     let taken = take_rows(rt, storage, &config, &names, orders, concurrency, asked);
     day_texts(storage.alloc, &names, taken, HandsOn::Nothing)
 }
 
-/// The texts of the day of two files that opens with a carry file, whose rows are taken so, and of what it leaves.
+/// The texts of the same day, which opens with a carry file, and of what it leaves.
 fn day_of_carried_files<R: Threads + Wait + Sync, S: Read, C: Read, O: Read>(
     rt: &R,
     storage: Storage<Global>,
     segment: &mut S,
     carried: &mut C,
-    orders: &mut O,
+    orders: &mut [O],
     concurrency: Concurrency,
     asked: AskedTexts,
 ) -> Result<DayTexts, DayFault>
-    ensures { IsDayBy concurrency asked HandsOn.WhatIsLeft (record { segment = S.remaining segment.old; carried = Some (C.remaining carried.old); orders = O.remaining orders.old }) result }
+    requires { length orders.old ≤ MAX_FILES }
+    ensures { IsDayBy concurrency asked HandsOn.WhatIsLeft (record { segment = S.remaining segment.old; carried = Some (C.remaining carried.old); orders = map O.remaining orders.old }) result }
 {
     let (config, names) = open_carried_files(storage, segment, carried)?;
     let taken = take_rows(rt, storage, &config, &names, orders, concurrency, asked);
     day_texts(storage.alloc, &names, taken, HandsOn::WhatIsLeft)
 }
 
-/// Takes the rows of an order file so. Workers tell nothing of them.
+/// Takes the rows of order files so. Workers tell nothing of them.
 fn take_rows<R: Threads + Wait + Sync, O: Read>(
     rt: &R,
     storage: Storage<Global>,
     config: &SegmentConfig,
     names: &SegmentNames,
-    orders: &mut O,
+    orders: &mut [O],
     concurrency: Concurrency,
     asked: AskedTexts,
 ) -> Result<TakenDay, DayFault>
-    requires { length names.now.securities ≡ length config.now.securities }
-    ensures taken { EndsBy concurrency (λ days. TakesFile days (asked_with concurrency asked) config.now names.now (O.remaining orders.old) result) }
+    requires securities { length names.now.securities ≡ length config.now.securities }
+    requires files { length orders.old ≤ MAX_FILES }
+    ensures taken { EndsBy concurrency (λ days. TakesFile days (asked_with concurrency asked) config.now names.now (map O.remaining orders.old) result) }
     ensures each { IfOk result (λ t. length t.day.desks.items ≡ length config.now.securities) }
 {
     match concurrency {

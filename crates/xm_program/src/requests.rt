@@ -1,13 +1,14 @@
 //! What the words of the command line ask for.
-ghost use Rattle.std.specs.Prelude.{◌≡◌, [], IfOk, IfErr, IfSome, IsSome, None, map, option_and_then, option_map, string_bytes, false, true};
+ghost use Rattle.std.specs.Prelude.{◌≡◌, ◌≤◌, [], IfOk, IfErr, IfSome, IsSome, None, map, option_and_then, option_map, string_bytes, false, true};
 ghost use Rattle.std.specs.List.{list_any};
 ghost use Rattle.clap.specs.Words.{app_of, fault_of, first_of, found_of, kind_of, new_app, one_of, rows_of, rule_of, subcommand_rows_of, takes};
 ghost use Rattle.clap.specs.declared.builder.command.Command.TheViews.{out-Command as fields_of};
 ghost use Rattle.clap.specs.declared.error.kind.ErrorKind.TheVariants as kind;
-ghost use Rattle.xm_program.specs.Requests.{AnswersWords, Asked, Asks, IsGranted, IsOfWords, IsRequest, IsTold, IsUnread, Meets, answer_of, are_apart, asked_in, asked_of, asked_texts, can_write, carried_by, carried_day_in, carry_app, check_app, concurrency_in, count_in, count_rule, day, day_app, day_in, inputs, named_day, failure_status, file_rule, is_file, is_one_path, outputs, path_rule, run_app, threads_in, top_app, with_options, workers_rule};
+ghost use Rattle.xm_program.specs.Requests.{AnswersWords, Asked, Asks, IsGranted, IsOfWords, IsRequest, IsTold, IsUnread, Meets, answer_of, are_apart, asked_in, asked_of, asked_texts, can_write, carried_by, carried_day_in, carry_app, check_app, concurrency_in, count_in, count_rule, day, day_app, day_in, inputs, kept_in, named_day, failure_status, file_rule, is_file, is_one_path, order_files, outputs, path_rule, paths_in, paths_rule, run_app, run_day_in, threads_in, top_app, with_options, workers_rule};
 
 use crate::concurrency::{Concurrency, concurrency_of};
 use crate::count::Count;
+use arrayvec::ArrayVec;
 use clap::error::ErrorKind;
 use clap::{Arg, ArgAction, ArgMatches, Command, Error, value_parser};
 use std::alloc::Global;
@@ -15,6 +16,7 @@ use std::io;
 use strsim::osa_distance;
 use xm_config::MAX_WORKERS;
 use xm_day::{AskedTexts, DayFault};
+use xm_files::MAX_FILES;
 use xm_memory::OutOfMemory;
 
 /// What `--version` prints behind the name; the script `xetra-day` reads it here.
@@ -37,7 +39,7 @@ const CARRIED: &str = "IN";
 
 const ORDERS: &str = "ORDERS";
 
-const KEEP: &str = "OUT";
+const KEEP: &str = "out";
 
 const WORKERS: &str = "workers";
 
@@ -48,10 +50,27 @@ const SEGMENT_HELP: &str = "The segment file (TOML): the date, the members and t
 const CARRIED_HELP: &str = "The carry file (CSV): the orders and stops that earlier days left";
 
 const ORDERS_HELP: &str =
-    "The order file (CSV): a header, then one command a row, in the order of the day";
+    "The order files (CSV), one day in their order: each a header, then one command a row";
 
-const KEEP_HELP: &str =
+const ORDERS_AND_OUT_HELP: &str =
+    "The order files (CSV), as of `run`; where --out is left out, one order file and OUT";
+
+const KEEP_SHORT: &str =
     "The carry file (CSV) of the next day, which is written behind the statement";
+
+const KEEP_HELP: &str = "The carry file (CSV) of the next day, which is written behind the statement
+
+It has the orders and stops that are valid beyond the day. It is made, empty, before any file is
+read. Several order files go with --out OUT; behind one OUT may stand as it is, without --out.";
+
+/// The value of an option that is the path of a file.
+const FILE: &str = "FILE";
+
+/// The value of `--out`.
+const OUT: &str = "OUT";
+
+/// So many files a day is read from at most, with the segment file and the carry file.
+const MAX_INPUTS: usize = MAX_FILES + 2;
 
 const DAY_SHORT: &str = "Replays a trading day of a segment of securities and writes its statement";
 
@@ -60,10 +79,11 @@ const DAY_HELP: &str = "Replays a trading day of a segment of securities and wri
 docs/FORMATS.md tells all of the files that are read and written.
 `xetra-day run --help` shows a whole small day.";
 
-const RUN_SHORT: &str = "Runs the day of two files and writes its statement to standard output";
+const RUN_SHORT: &str = "Runs the day of its files and writes its statement to standard output";
 
-const RUN_HELP: &str = "Runs the day of two files and writes its statement to standard output.
+const RUN_HELP: &str = "Runs the day of its files and writes its statement to standard output.
 
+ORDERS is an order file or several, 256 at most: one day, in the order given, each with a header.
 docs/FORMATS.md tells all of the files that are read and written. SEGMENT and ORDERS may be pipes,
 as /dev/stdin or <(zcat day.csv.gz), and so may FILE, as >(gzip > answers.csv.gz). A whole small
 day, whose two files can be copied as they stand:
@@ -94,16 +114,21 @@ uncross,,,*,,,,,,,,
 end,,,*,,,,,,,,";
 
 const CARRY_SHORT: &str =
-    "Runs the day of two files with what earlier days left, and writes what it leaves";
+    "Runs the day of its files with what earlier days left, and writes what it leaves";
 
 const CARRY_HELP: &str =
-    "Runs the day of two files with what earlier days left, and writes what it leaves.
+    "Runs the day of its files with what earlier days left, and writes what it leaves.
 
 The statement goes to standard output, and then the carry file of the next day to OUT: the orders
 and stops that are valid beyond the day. OUT is made, empty, before any file is read. Where it is
 one of the files that are read, that is a failed write, and nothing is touched. The texts of
 `xetra-day run` may go beside the statement here too. docs/FORMATS.md tells all of the files that
-are read and written. Before the first day nothing was left:
+are read and written.
+
+ORDERS is an order file or several, 256 at most: one day, in the order given, each with a header.
+Several go with --out OUT; behind one OUT may stand as it is.
+
+Before the first day nothing was left:
 
 none.csv:
 
@@ -112,7 +137,14 @@ security,member,reference,side,kind,limit,trigger,quantity,validity,restriction
 Two days in a row, where the segment file of the second has its date and its reference prices:
 
 xetra-day carry monday.toml none.csv monday.csv left.csv
-xetra-day carry tuesday.toml left.csv tuesday.csv left_again.csv";
+xetra-day carry tuesday.toml left.csv tuesday.csv left_again.csv
+
+A day in two order files:
+
+xetra-day carry monday.toml none.csv morning.csv afternoon.csv --out left.csv";
+
+const CARRY_USAGE: &str = "xetra-day carry [OPTIONS] <SEGMENT> <IN> <ORDERS>... --out <OUT>
+       xetra-day carry [OPTIONS] <SEGMENT> <IN> <ORDERS> <OUT>";
 
 const ANSWERS: &str = "answers";
 
@@ -130,6 +162,13 @@ const CANNOT_SHARE: &str =
     "--threads goes with one worker: each of several takes its rows on a thread of its own";
 
 const CANNOT_KEEP: &str = "OUT is a file: standard output has the statement";
+
+const TOO_MANY_FILES: &str = "a day has at most 256 order files";
+
+const KEPT_NOWHERE: &str =
+    "OUT is missing, the carry file of the next day: it stands behind the order file, or behind --out";
+
+const KEPT_BY_OUT: &str = "several order files go with --out OUT";
 
 const ANSWERS_SHORT: &str =
     "Writes the answer to each row, and the market after it, to this file (CSV)";
@@ -163,19 +202,19 @@ const WORKERS_SHORT: &str = "How many workers take the rows of members, side by 
 
 const WORKERS_HELP: &str = "How many workers take the rows of members, side by side: 1 to 64
 
-One worker takes all rows in the order of the file. More take each member's rows in their order,
+One worker takes all rows in the order of the files. More take each member's rows in their order,
 and the members side by side, as an exchange meets them, so that two runs may differ where members
 compete. They are not faster: a command is shorter than the hand-over of a lock.";
 
-const THREADS_SHORT: &str = "On how many threads the rows are taken, in the order of the file";
+const THREADS_SHORT: &str = "On how many threads the rows are taken, in the order of the files";
 
 const THREADS_HELP: &str =
-    "On how many threads the rows are taken, in the order of the file: 1 to 64
+    "On how many threads the rows are taken, in the order of the files: 1 to 64
 
-By default on as many as there are processors where ORDERS has 700,000 bytes or more, some 20,000
-rows, and else on one. What is written is what one thread writes, byte for byte. Each thread takes
-the rows of securities of its own while the file is read ahead of it, so a day of one security
-gains from the reading alone. It goes with one worker.";
+By default on as many as there are processors where the order files have 700,000 bytes or more
+together, some 20,000 rows, and else on one. What is written is what one thread writes, byte for
+byte. Each thread takes the rows of securities of its own while a file is read ahead of it, so a day
+of one security gains from the reading alone. It goes with one worker.";
 
 const CHECK_SHORT: &str = "Checks a segment file and writes how many securities and members it has";
 
@@ -202,10 +241,11 @@ pub enum Request<'a> {
 }
 
 /// A day, by the paths of its files and by how its rows are taken.
-#[derive(Clone, Copy, Debug)]
+#[derive(Debug, Drop)]
 pub struct DayRequest<'a> {
     pub segment: &'a str,
-    pub orders: &'a str,
+    /// Of its order files, one after the other.
+    pub orders: ArrayVec<&'a str, MAX_FILES>,
     /// What goes from earlier days to the next one, if it does.
     pub carrying: Option<Carrying<'a>>,
     pub concurrency: Concurrency,
@@ -248,14 +288,20 @@ impl<'a> DayRequest<'a> {
     }
 
     /// The files that the day is read from.
-    pub(crate) fn inputs(&self) -> [Option<&'a str>; 3]
-        ensures { map (option_map (λ s. s.now)) result ≡ inputs (named_day self.now) }
+    pub(crate) fn inputs(&self) -> ArrayVec<Option<&'a str>, MAX_INPUTS>
+        ensures { map (option_map (λ s. s.now)) result.items ≡ inputs (named_day self.now) }
     {
         let carry = match self.carrying {
             Some(Carrying { from, .. }) => Some(from),
             None => None,
         };
-        [Some(self.segment), carry, Some(self.orders)]
+        let mut inputs = ArrayVec::new();
+        inputs.push(Some(self.segment));
+        inputs.push(carry);
+        for path in self.orders.as_slice() {
+            inputs.push(Some(*path));
+        }
+        inputs
     }
 
     /// The texts beside its statement that are asked for.
@@ -429,16 +475,29 @@ fn command_at_hand<'a>(
 /// Why nothing can be done that was met.
 fn why_not(matches: &ArgMatches<'_>) -> &'static str {
     match matches.subcommand() {
-        Some((_, values)) => {
-            if concurrency_in(values).is_none() {
-                CANNOT_SHARE
-            } else if is_file(text_in(values, KEEP)) {
-                CANNOT_TELL
-            } else {
-                CANNOT_KEEP
+        Some((CARRY, values)) => {
+            let paths = paths_in(values);
+            match kept_in(text_in(values, KEEP), paths) {
+                Some((orders, to)) => why_no_day(values, orders, Some(to)),
+                None if paths.len() < 2 => KEPT_NOWHERE,
+                None => KEPT_BY_OUT,
             }
         }
+        Some((_, values)) => why_no_day(values, paths_in(values), None),
         None => CANNOT_TELL,
+    }
+}
+
+/// Why the day of these order files can't be done, which is kept so.
+fn why_no_day(values: &ArgMatches<'_>, orders: &[&str], to: Option<&str>) -> &'static str {
+    if orders.len() > MAX_FILES {
+        TOO_MANY_FILES
+    } else if concurrency_in(values).is_none() {
+        CANNOT_SHARE
+    } else if is_file(to) {
+        CANNOT_TELL
+    } else {
+        CANNOT_KEEP
     }
 }
 
@@ -448,7 +507,7 @@ fn request_in<'a>(matches: &ArgMatches<'a>) -> Option<Request<'a>>
 {
     let (name, values) = matches.subcommand()?;
     match name {
-        RUN => day_in(values, &None),
+        RUN => run_day_in(values),
         CARRY => carried_day_in(values),
         CHECK => Some(Request::Check {
             segment: text_in(values, SEGMENT)?,
@@ -457,13 +516,17 @@ fn request_in<'a>(matches: &ArgMatches<'a>) -> Option<Request<'a>>
     }
 }
 
-/// The day among the values of a subcommand, which goes on so from earlier ones, if it can be written.
-fn day_in<'a>(values: &ArgMatches<'a>, carrying: &Option<Carrying<'a>>) -> Option<Request<'a>>
-    ensures { Meets (option_map day (day_in (option_map carried_by carrying.now) (rows_of (found_of values.now)))) result }
+/// The day of these order files among the values of a subcommand, which goes on so from earlier ones, if it can be written.
+fn day_in<'a>(
+    values: &ArgMatches<'a>,
+    carrying: &Option<Carrying<'a>>,
+    paths: &[&'a str],
+) -> Option<Request<'a>>
+    ensures { Meets (option_map day (day_in (option_map carried_by carrying.now) (map (λ s. s.now) paths.now) (rows_of (found_of values.now)))) result }
 {
     let day = DayRequest {
         segment: text_in(values, SEGMENT)?,
-        orders: text_in(values, ORDERS)?,
+        orders: order_files(paths)?,
         carrying: *carrying,
         concurrency: concurrency_in(values)?,
         texts: TextPaths {
@@ -479,13 +542,50 @@ fn day_in<'a>(values: &ArgMatches<'a>, carrying: &Option<Carrying<'a>>) -> Optio
     }
 }
 
+/// The day of the order files among the values of a subcommand.
+fn run_day_in<'a>(values: &ArgMatches<'a>) -> Option<Request<'a>>
+    ensures { Meets (option_map day (run_day_in (rows_of (found_of values.now)))) result }
+{
+    day_in(values, &None, paths_in(values))
+}
+
 /// The day among the values of a subcommand that has the paths of two carry files.
 fn carried_day_in<'a>(values: &ArgMatches<'a>) -> Option<Request<'a>>
     ensures { Meets (option_map day (carried_day_in (rows_of (found_of values.now)))) result }
 {
     let from = text_in(values, CARRIED)?;
-    let to = text_in(values, KEEP)?;
-    day_in(values, &Some(Carrying { from, to }))
+    let (orders, to) = kept_in(text_in(values, KEEP), paths_in(values))?;
+    day_in(values, &Some(Carrying { from, to }), orders)
+}
+
+/// The order files among the paths of a day, and the carry file of the next one: that of `--out`, or else the second of two paths.
+fn kept_in<'p, 'a>(out: Option<&'a str>, paths: &'p [&'a str]) -> Option<(&'p [&'a str], &'a str)>
+    ensures { option_map (λ kept. (map (λ s. s.now) kept.0.now, kept.1.now)) result ≡ kept_in (option_map (λ s. s.now) out.entry) (map (λ s. s.now) paths.entry.now) }
+{
+    match out {
+        Some(out) => Some((paths, out)),
+        None => match paths {
+            [_, out] => Some((&paths[..1], *out)),
+            _ => None,
+        },
+    }
+}
+
+/// The paths of a day's order files, if they are not too many, and there is one.
+fn order_files<'a>(paths: &[&'a str]) -> Option<ArrayVec<&'a str, MAX_FILES>>
+    ensures { option_map (λ files. map (λ s. s.now) files.items) result ≡ order_files (map (λ s. s.now) paths.now) }
+{
+    if paths.is_empty() {
+        return None;
+    }
+    ArrayVec::try_from(paths).ok()
+}
+
+/// The paths that the values of a subcommand have for ORDERS.
+fn paths_in<'p, 'a>(values: &'p ArgMatches<'a>) -> &'p [&'a str]
+    ensures { map (λ s. s.now) result.now ≡ paths_in (rows_of (found_of values.now)) }
+{
+    values.get_strs(ORDERS).unwrap_or_default()
 }
 
 /// The text that has this name among the values of a subcommand.
@@ -615,7 +715,7 @@ fn run_command<'a>(alloc: Global) -> Result<Command<'a>, OutOfMemory>
 {
     let command = titled(alloc, RUN, RUN_SHORT, RUN_HELP)
         .arg(path(alloc, SEGMENT, SEGMENT_HELP))?
-        .arg(path(alloc, ORDERS, ORDERS_HELP))?;
+        .arg(paths(alloc, ORDERS, MAX_FILES, ORDERS_HELP))?;
     with_options(alloc, command)
 }
 
@@ -625,10 +725,11 @@ fn carry_command<'a>(alloc: Global) -> Result<Command<'a>, OutOfMemory>
     ensures local { IfOk result (λ command. (fields_of command).has_globals ≡ false) }
 {
     let command = titled(alloc, CARRY, CARRY_SHORT, CARRY_HELP)
+        .override_usage(CARRY_USAGE)
         .arg(path(alloc, SEGMENT, SEGMENT_HELP))?
         .arg(path(alloc, CARRIED, CARRIED_HELP))?
-        .arg(path(alloc, ORDERS, ORDERS_HELP))?
-        .arg(path(alloc, KEEP, KEEP_HELP))?;
+        .arg(paths(alloc, ORDERS, MAX_FILES + 1, ORDERS_AND_OUT_HELP))?
+        .arg(file(alloc, KEEP, OUT, KEEP_SHORT, KEEP_HELP))?;
     with_options(alloc, command)
 }
 
@@ -641,9 +742,9 @@ fn with_options<'a>(alloc: Global, command: Command<'a>) -> Result<Command<'a>, 
     let command = command
         .arg(workers(alloc))?
         .arg(count(alloc, THREADS, THREADS_SHORT, THREADS_HELP))?
-        .arg(file(alloc, ANSWERS, ANSWERS_SHORT, ANSWERS_HELP))?
-        .arg(file(alloc, TRADES, TRADES_SHORT, TRADES_HELP))?
-        .arg(file(alloc, DEPTH, DEPTH_SHORT, DEPTH_HELP))?;
+        .arg(file(alloc, ANSWERS, FILE, ANSWERS_SHORT, ANSWERS_HELP))?
+        .arg(file(alloc, TRADES, FILE, TRADES_SHORT, TRADES_HELP))?
+        .arg(file(alloc, DEPTH, FILE, DEPTH_SHORT, DEPTH_HELP))?;
     Ok(command)
 }
 
@@ -678,6 +779,19 @@ fn path<'a>(alloc: Global, name: &'a str, help: &'a str) -> Arg<'a>
         .help(help)
 }
 
+/// The paths of files, of which one has to be given, and at most so many in a row, with their help.
+fn paths<'a>(alloc: Global, name: &'a str, most: usize, help: &'a str) -> Arg<'a>
+    requires { 1 ≤ most }
+    ensures rule { rule_of result ≡ paths_rule name.entry.now most }
+    ensures local { result.global ≡ false }
+{
+    Arg::new(alloc, name)
+        .required(true)
+        .action(ArgAction::Append)
+        .num_args(1..=most)
+        .help(help)
+}
+
 /// The number of workers, which is 1 where it is left out.
 fn workers<'a>(alloc: Global) -> Arg<'a>
     ensures rule { rule_of result ≡ workers_rule }
@@ -700,14 +814,14 @@ fn count<'a>(alloc: Global, name: &'a str, short: &'a str, long: &'a str) -> Arg
         .long_help(long)
 }
 
-/// The path of a file for a text beside the statement, which may be left out, with its help in short and at length.
-fn file<'a>(alloc: Global, name: &'a str, short: &'a str, long: &'a str) -> Arg<'a>
+/// The path of a file that is written beside the statement, which may be left out, with its help in short and at length.
+fn file<'a>(alloc: Global, name: &'a str, value: &'a str, short: &'a str, long: &'a str) -> Arg<'a>
     ensures rule { rule_of result ≡ file_rule name.entry.now }
     ensures local { result.global ≡ false }
 {
     Arg::new(alloc, name)
         .long(name)
-        .value_name("FILE")
+        .value_name(value)
         .action(ArgAction::Set)
         .help(short)
         .long_help(long)

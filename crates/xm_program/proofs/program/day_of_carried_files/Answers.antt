@@ -1,4 +1,4 @@
-use Rattle.std.proofs.Common.{Some, Err, sym, subst}
+use Rattle.std.proofs.Common.{map, Some, Err, sym, subst}
 use Rattle.xm_day.proofs.Days.{opened-day, texted, unopened-day}
 use Rattle.xm_day.specs.Days.{DayFiles, IsDay, TakesFile}
 use Rattle.xm_day.specs.declared.value.HandsOn.TheVariants.{WhatIsLeft}
@@ -9,7 +9,7 @@ use Rattle.xm_program.proofs.program.day_of_carried_files.Goals as goal
 
 pub returns-in_err-config : goal.returns-in_err-config
 returns-in_err-config g c =
-    let files : DayFiles = record { segment = g.S.Read.remaining c.args.segment.now; carried = Some (g.C.Read.remaining c.args.carried.now); orders = g.O.Read.remaining c.args.orders.now } in
+    let files : DayFiles = record { segment = g.S.Read.remaining c.args.segment.now; carried = Some (g.C.Read.remaining c.args.carried.now); orders = map g.O.Read.remaining c.args.orders.now } in
     let asked = asked_with c.args.concurrency c.args.asked in
     let met = c.in_err-config in
     subst (IsDayBy c.args.concurrency c.args.asked WhatIsLeft files) (sym (is_passed c.from_residual.result met.field-0.0 c.from_residual.ensures.1))
@@ -17,7 +17,7 @@ returns-in_err-config g c =
 
 pub returns : goal.returns
 returns g c =
-    let files : DayFiles = record { segment = g.S.Read.remaining c.args.segment.now; carried = Some (g.C.Read.remaining c.args.carried.now); orders = g.O.Read.remaining c.args.orders.now } in
+    let files : DayFiles = record { segment = g.S.Read.remaining c.args.segment.now; carried = Some (g.C.Read.remaining c.args.carried.now); orders = map g.O.Read.remaining c.args.orders.now } in
     let asked = asked_with c.args.concurrency c.args.asked in
     let read = c.in_ok-config in
     let config = read.config in
