@@ -8,6 +8,7 @@ use std::rt::Files;
 use std::sync::Wait;
 use std::thread::Threads;
 use xm_day::{AskedTexts, DayFault};
+use xm_files::MAX_FILES;
 use xm_name_index::Storage;
 use xm_program::{
     Concurrency, Count, Input, Output, TextFiles, carry_over, fault_line, open_input, run,
@@ -15,6 +16,9 @@ use xm_program::{
 
 /// On how many threads the rows of a case are taken, in turn.
 const NUMBERS: [u32; 2] = [1, 3];
+
+/// The order files of a case, as they are opened.
+type OrderFiles<F> = Vec<Input<F>>;
 
 /// The texts beside a statement that are compared.
 const ALL_TEXTS: AskedTexts = AskedTexts {
@@ -85,13 +89,16 @@ fn carry_day<R: AllocGlobal + Files + Threads + Wait + Sync, C: Read>(
     files: &mut TextFiles<Vec<u8>>,
 ) -> Result<Result<(), DayFault>, CaseFault> {
     let (mut segment, mut orders) = open_files(rt, name)?;
+    if orders.len() > MAX_FILES {
+        return Err(CaseFault);
+    }
     let storage = Storage::with_fixed_seed(rt.alloc());
     Ok(carry_over(
         rt,
         storage,
         &mut segment,
         carried,
-        &mut orders,
+        orders.as_mut_slice(),
         Concurrency::Threads(Some(threads)),
         ALL_TEXTS,
         statement,
@@ -99,7 +106,7 @@ fn carry_day<R: AllocGlobal + Files + Threads + Wait + Sync, C: Read>(
     ))
 }
 
-/// The same of a day of two files.
+/// The same of a day that opens with nothing.
 fn is_run_as_stored<R: AllocGlobal + Files + Print + Threads + Wait + Sync>(
     rt: &R,
     name: &str,
@@ -126,12 +133,15 @@ fn run_day<R: AllocGlobal + Files + Threads + Wait + Sync>(
     files: &mut TextFiles<Vec<u8>>,
 ) -> Result<Result<(), DayFault>, CaseFault> {
     let (mut segment, mut orders) = open_files(rt, name)?;
+    if orders.len() > MAX_FILES {
+        return Err(CaseFault);
+    }
     let storage = Storage::with_fixed_seed(rt.alloc());
     Ok(run(
         rt,
         storage,
         &mut segment,
-        &mut orders,
+        orders.as_mut_slice(),
         Concurrency::Threads(Some(threads)),
         ALL_TEXTS,
         statement,
@@ -157,18 +167,43 @@ fn text_of(kept: &Output<Vec<u8>>) -> &[u8] {
     }
 }
 
-/// The segment file and the order file of a case.
+/// The segment file and the order files of a case.
 fn open_files<R: AllocGlobal + Files>(
     rt: &R,
     name: &str,
-) -> Result<(Input<R::File>, Input<R::File>), CaseFault> {
+) -> Result<(Input<R::File>, OrderFiles<R::File>), CaseFault> {
     let own = texts::path(rt, name, "segment.toml")?;
-    let orders = texts::path(rt, name, "orders.csv")?;
-    let segment = open_segment(rt, own.as_str());
-    Ok((
-        segment,
-        open_input(|path| fs::open(rt, path), orders.as_str()),
-    ))
+    let orders = open_orders(rt, name)?;
+    Ok((open_segment(rt, own.as_str()), orders))
+}
+
+/// The order files of a case: the first one, and those with the numbers from 2 on, up to the first number that isn't there.
+fn open_orders<R: AllocGlobal + Files>(
+    rt: &R,
+    name: &str,
+) -> Result<OrderFiles<R::File>, CaseFault> {
+    let first = texts::path(rt, name, "orders.csv")?;
+    let mut orders = Vec::new(rt.alloc());
+    add(
+        &mut orders,
+        open_input(|path| fs::open(rt, path), first.as_str()),
+    )?;
+    for number in 2..=MAX_FILES {
+        let path = texts::orders_path(rt, name, number)?;
+        match open_input(|path| fs::open(rt, path), path.as_str()) {
+            Input::Opened(file) => add(&mut orders, Input::Opened(file))?,
+            Input::Unopened => break,
+        }
+    }
+    Ok(orders)
+}
+
+/// Adds an order file.
+fn add<F: Drop>(orders: &mut OrderFiles<F>, file: Input<F>) -> Result<(), CaseFault> {
+    match orders.push(file) {
+        Ok(()) => Ok(()),
+        Err(_) => Err(CaseFault),
+    }
 }
 
 /// The segment file of a case: its own, or the one that all others have.

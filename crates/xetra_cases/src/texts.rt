@@ -16,6 +16,14 @@ pub fn path<R: AllocGlobal>(rt: &R, name: &str, ending: &str) -> Result<String, 
     }
 }
 
+/// The path of the order file of a case with this number, from 2 on.
+pub fn orders_path<R: AllocGlobal>(rt: &R, name: &str, number: usize) -> Result<String, CaseFault> {
+    match format!(in rt.alloc(); "{name}.orders.{number}.csv") {
+        Ok(path) => Ok(path),
+        Err(_) => Err(CaseFault),
+    }
+}
+
 /// What is stored at a path; nothing where there is no file.
 pub fn stored<R: AllocGlobal + Files>(rt: &R, path: &str) -> Result<Vec<u8>, CaseFault> {
     match fs::read(rt, path) {

@@ -2,8 +2,12 @@ mod carried_days;
 mod chain;
 mod drawn;
 mod growths;
+mod several_files;
 mod threads;
 mod workers;
+
+ghost use Rattle.std.specs.Prelude.{◌≤◌, length};
+ghost use Rattle.xm_files.specs.declared.order_files.TheConstants.{MAX_FILES};
 
 use crate::files::fixtures::{
     CASCADE, ERROR_KINDS, Failure, NO_SECURITY, ORDERS, OneByteReader, SEGMENT, ShortWriter,
@@ -14,7 +18,7 @@ use std::io::{ErrorKind, Read, Write};
 use std::process::Abort;
 use xm_config::OpenFault;
 use xm_day::{DayFault, run_alone};
-use xm_files::{FileCause, FileFault};
+use xm_files::{FileCause, FileFault, OrdersFault};
 use xm_name_index::Storage;
 
 const STATEMENT: &str = "DAY 20260105
@@ -39,10 +43,13 @@ type Answer = Result<(u64, u64), DayFault>;
 fn run_day(
     alloc: Global,
     segment: &mut impl Read,
-    orders: &mut impl Read,
+    orders: &mut [impl Read],
     out: &mut impl Write,
-) -> Answer {
-    let report = run_alone(Storage::with_fixed_seed(alloc), segment, orders, out)?;
+) -> Answer
+    requires { length orders.old ≤ MAX_FILES }
+{
+    let storage = Storage::with_fixed_seed(alloc);
+    let report = run_alone(storage, segment, orders, out)?;
     Ok((report.accepted, report.refused))
 }
 
@@ -51,10 +58,12 @@ fn ends(
     rt: &(impl Abort + AllocGlobal),
     name: &str,
     segment: &mut impl Read,
-    orders: &mut impl Read,
+    orders: &mut [impl Read],
     expected: Answer,
     statement: &str,
-) {
+)
+    requires { length orders.old ≤ MAX_FILES }
+{
     let mut out = Vec::new(rt.alloc());
     let answer = run_day(rt.alloc(), segment, orders, &mut out);
     let is_written = out.as_slice() == statement.as_bytes();
@@ -69,7 +78,7 @@ fn has_fault(
     orders: &str,
     fault: DayFault,
 ) {
-    let (mut segment, mut orders) = (segment.as_bytes(), orders.as_bytes());
+    let (mut segment, mut orders) = (segment.as_bytes(), [orders.as_bytes()]);
     ends(rt, name, &mut segment, &mut orders, Err(fault), "");
 }
 
@@ -83,7 +92,7 @@ fn ends_slowly(
 ) {
     let name = "read byte by byte";
     let mut segment = OneByteReader::new(SEGMENT, segment);
-    let mut orders = OneByteReader::new(ORDERS, orders);
+    let mut orders = [OneByteReader::new(ORDERS, orders)];
     ends(rt, name, &mut segment, &mut orders, expected, statement);
 }
 
@@ -123,7 +132,7 @@ fn with_cancellations(rt: &(impl Abort + AllocGlobal), times: u32) -> String {
 fn are_counted(rt: &(impl Abort + AllocGlobal), times: u32) {
     let refused = u64::from(times);
     let (orders, statement) = (with_cancellations(rt, times), written(rt, refused));
-    let (mut segment, mut orders) = (SEGMENT.as_bytes(), orders.as_bytes());
+    let (mut segment, mut orders) = (SEGMENT.as_bytes(), [orders.as_bytes()]);
     ends(
         rt,
         "many batches",
@@ -141,9 +150,12 @@ fn rows_of_many_batches_are_counted(rt: HostRuntime) {
     }
 }
 
-const LATE_FAULT: DayFault = DayFault::Orders(FileFault {
-    line: 2007,
-    cause: FileCause::BadField,
+const LATE_FAULT: DayFault = DayFault::Orders(OrdersFault {
+    file: 1,
+    fault: FileFault {
+        line: 2007,
+        cause: FileCause::BadField,
+    },
 });
 
 #[test]
@@ -157,9 +169,12 @@ fn a_fault_in_a_later_batch(rt: HostRuntime) {
     has_fault(&rt, "no security", NO_SECURITY, orders, LATE_FAULT);
 }
 
-const BAD_HEADER: DayFault = DayFault::Orders(FileFault {
-    line: 1,
-    cause: FileCause::BadHeader,
+const BAD_HEADER: DayFault = DayFault::Orders(OrdersFault {
+    file: 1,
+    fault: FileFault {
+        line: 1,
+        cause: FileCause::BadHeader,
+    },
 });
 
 /// Compares what a writer with this room holds, which then fails.
@@ -170,7 +185,7 @@ fn fails_after(
     failure: Option<ErrorKind>,
 ) {
     let mut out = ShortWriter::new(rt.alloc(), start.len(), failure);
-    let (mut segment, mut orders) = (SEGMENT.as_bytes(), orders.as_bytes());
+    let (mut segment, mut orders) = (SEGMENT.as_bytes(), [orders.as_bytes()]);
     let answer = run_day(rt.alloc(), &mut segment, &mut orders, &mut out);
     assert!(rt; answer == Err(DayFault::WriteFailed));
     assert!(rt; out.bytes.as_slice() == start);
@@ -232,7 +247,10 @@ fn segment_fails(rt: &(impl Abort + AllocGlobal), call: usize, kind: ErrorKind) 
 
 /// Compares the fault of an order file that fails so at this call.
 fn orders_fail(rt: &(impl Abort + AllocGlobal), call: usize, kind: ErrorKind) {
-    let fault = DayFault::Orders(READ_FAILED);
+    let fault = DayFault::Orders(OrdersFault {
+        file: 1,
+        fault: READ_FAILED,
+    });
     ends_slowly(rt, None, Some((call, kind)), Err(fault), "");
 }
 
@@ -263,13 +281,24 @@ const BAD_FIELD: FileFault = FileFault {
     cause: FileCause::BadField,
 };
 
-const TEXTS: [(DayFault, &str); 5] = [
+const IN_THE_FIRST_FILE: DayFault = DayFault::Orders(OrdersFault {
+    file: 1,
+    fault: BAD_FIELD,
+});
+
+const IN_THE_SECOND_FILE: DayFault = DayFault::Orders(OrdersFault {
+    file: 2,
+    fault: BAD_FIELD,
+});
+
+const TEXTS: [(DayFault, &str); 6] = [
     (
         DayFault::Segment(BAD_FIELD),
         "segment file, line 3: BadField",
     ),
     (DayFault::Carry(BAD_FIELD), "carry file, line 3: BadField"),
-    (DayFault::Orders(BAD_FIELD), "order file, line 3: BadField"),
+    (IN_THE_FIRST_FILE, "order file, line 3: BadField"),
+    (IN_THE_SECOND_FILE, "order file 2, line 3: BadField"),
     (DayFault::Open(OpenFault::NoSecurity), "no security"),
     (DayFault::WriteFailed, "write failed"),
 ];

@@ -26,10 +26,35 @@ macro_rules! complains {
     };
 }
 
+/// A mistake in the words of `run`, which its usage is told behind.
+macro_rules! mistakes_run {
+    ($message:expr) => {
+        Printed::Text(concat!(
+            "error: ",
+            $message,
+            "\n\nUsage: xetra-day run [OPTIONS] <SEGMENT> <ORDERS>...\n\nFor more information, try '--help'.\n"
+        ))
+    };
+}
+
+/// A mistake in the words of `carry`, which its two forms are told behind.
+macro_rules! mistakes_carry {
+    ($message:expr) => {
+        Printed::Text(concat!(
+            "error: ",
+            $message,
+            "\n\nUsage: xetra-day carry [OPTIONS] <SEGMENT> <IN> <ORDERS>... --out <OUT>\n       xetra-day carry [OPTIONS] <SEGMENT> <IN> <ORDERS> <OUT>\n\nFor more information, try '--help'.\n"
+        ))
+    };
+}
+
 mod cascades;
 mod ends;
 mod help;
 mod runtime;
+
+ghost use Rattle.std.specs.Prelude.{◌≤◌, length};
+ghost use Rattle.xm_files.specs.declared.order_files.TheConstants.{MAX_FILES};
 
 use crate::files::fixtures::{CASCADE, HEADER, SEGMENT};
 use crate::memory::want_of_memory;
@@ -45,7 +70,7 @@ use std::thread::Threads;
 use std::{fs, io};
 use xm_config::{MAX_WORKERS, OpenFault};
 use xm_day::{AskedTexts, DayFault};
-use xm_files::{FileCause, FileFault};
+use xm_files::{FileCause, FileFault, OrdersFault};
 use xm_name_index::Storage;
 use xm_program::{
     Concurrency, Count, DayRequest, Failure, Input, Output, Request, TextFiles, TextPaths,
@@ -85,6 +110,11 @@ fn has_line(rt: &impl Abort, fault: DayFault, expected: &str) {
     );
 }
 
+/// A fault of the order file with this number.
+fn orders_fault(file: u32, fault: FileFault) -> DayFault {
+    DayFault::Orders(OrdersFault { file, fault })
+}
+
 /// Compares the lines by which the program tells of a fault in each file.
 fn has_lines(rt: &(impl Abort + AllocGlobal), fault: &FileFault, end: &str) {
     let line = (format!(in rt.alloc(); "xetra-day: segment: {end}")).expect(rt, "memory");
@@ -92,7 +122,9 @@ fn has_lines(rt: &(impl Abort + AllocGlobal), fault: &FileFault, end: &str) {
     let line = (format!(in rt.alloc(); "xetra-day: carry: {end}")).expect(rt, "memory");
     has_line(rt, DayFault::Carry(*fault), line.as_str());
     let line = (format!(in rt.alloc(); "xetra-day: orders: {end}")).expect(rt, "memory");
-    has_line(rt, DayFault::Orders(*fault), line.as_str());
+    has_line(rt, orders_fault(1, *fault), line.as_str());
+    let line = (format!(in rt.alloc(); "xetra-day: orders 256: {end}")).expect(rt, "memory");
+    has_line(rt, orders_fault(256, *fault), line.as_str());
 }
 
 #[test]
@@ -113,13 +145,19 @@ fn lines_of_faults_that_no_case_shows(rt: HostRuntime) {
     has_line(&rt, DayFault::WriteFailed, "xetra-day: write failed\n");
 }
 
-/// A command line of these words, after the program's name.
-fn command_line(rt: &(impl Abort + AllocGlobal), words: &[&str]) -> Vec<String> {
-    let mut line = Vec::new(rt.alloc());
-    for word in ["target/xetra_day"].iter().chain(words) {
+/// Adds words to a command line.
+fn add_words(rt: &(impl Abort + AllocGlobal), line: &mut Vec<String>, words: &[&str]) {
+    for word in words {
         let word = String::from_str(rt.alloc(), word).expect(rt, "memory");
         line.push(word).ok().expect(rt, "memory");
     }
+}
+
+/// A command line of these words, after the program's name.
+fn command_line(rt: &(impl Abort + AllocGlobal), words: &[&str]) -> Vec<String> {
+    let mut line = Vec::new(rt.alloc());
+    add_words(rt, &mut line, &["target/xetra_day"]);
+    add_words(rt, &mut line, words);
     line
 }
 
@@ -136,10 +174,23 @@ fn taken(concurrency: Concurrency) -> (&'static str, u32) {
     ("on", MAX_WORKERS + 1)
 }
 
+/// Paths, one behind the other, as a text.
+fn listed(rt: &(impl Abort + AllocGlobal), paths: &[&str]) -> String {
+    let mut list = String::new(rt.alloc());
+    for path in paths {
+        if !list.as_str().is_empty() {
+            list.push_str(", ").expect(rt, "memory");
+        }
+        list.push_str(*path).expect(rt, "memory");
+    }
+    list
+}
+
 /// What a command line asks for, as a text.
 fn day_asked(rt: &(impl Abort + AllocGlobal), request: &DayRequest<'_>) -> String {
     let alloc = rt.alloc();
-    let (segment, orders) = (request.segment, request.orders);
+    let orders = listed(rt, request.orders.as_slice());
+    let segment = request.segment;
     let (how, number) = taken(request.concurrency);
     let day = match &request.carrying {
         None => format!(in alloc; "run {segment} and {orders} {how} {number}"),
@@ -192,7 +243,7 @@ macro_rules! untold {
     };
 }
 
-const RUNS: [Answered; 21] = [
+const RUNS: [Answered; 26] = [
     (
         &["run", "day.toml", "day.csv"],
         untold!("run day.toml and day.csv on 0"),
@@ -202,6 +253,26 @@ const RUNS: [Answered; 21] = [
         untold!("run -s and --orders on 0"),
     ),
     (&["run", "a day", ""], untold!("run a day and  on 0")),
+    (
+        &["run", "day.toml", "b.csv", "a.csv", "b.csv"],
+        untold!("run day.toml and b.csv, a.csv, b.csv on 0"),
+    ),
+    (
+        &["run", "--", "day.toml", "-s", "-"],
+        untold!("run day.toml and -s, - on 0"),
+    ),
+    (
+        &["run", "day.toml", "a.csv", "--threads=2", "b.csv"],
+        untold!("run day.toml and a.csv, b.csv on 2"),
+    ),
+    (
+        &["run", "--workers", "2", "day.toml", "a.csv", "b.csv"],
+        untold!("run day.toml and a.csv, b.csv by 2"),
+    ),
+    (
+        &["run", "day.toml", "a.csv", "b.csv", "--answers", "-"],
+        CANNOT_TELL,
+    ),
     (
         &["run", "day.toml", "day.csv", "--workers", "1"],
         untold!("run day.toml and day.csv on 0"),
@@ -305,10 +376,85 @@ const RUNS: [Answered; 21] = [
     ),
 ];
 
-const CARRIES: [Answered; 8] = [
+const CARRIES: [Answered; 18] = [
     (
         &["carry", "day.toml", "in.csv", "day.csv", "out.csv"],
         untold!("carry day.toml, in.csv and day.csv to out.csv on 0"),
+    ),
+    (
+        &["carry", "day.toml", "in.csv", "day.csv", "--out", "out.csv"],
+        untold!("carry day.toml, in.csv and day.csv to out.csv on 0"),
+    ),
+    (
+        &[
+            "carry",
+            "--out=out.csv",
+            "day.toml",
+            "in.csv",
+            "b.csv",
+            "a.csv",
+            "b.csv",
+        ],
+        untold!("carry day.toml, in.csv and b.csv, a.csv, b.csv to out.csv on 0"),
+    ),
+    (
+        &[
+            "carry",
+            "day.toml",
+            "in.csv",
+            "a.csv",
+            "--out=out.csv",
+            "b.csv",
+            "--workers=2",
+        ],
+        untold!("carry day.toml, in.csv and a.csv, b.csv to out.csv by 2"),
+    ),
+    (
+        &["carry", "day.toml", "in.csv", "day.csv"],
+        mistakes_carry!(
+            "OUT is missing, the carry file of the next day: it stands behind the order file, or behind --out"
+        ),
+    ),
+    (
+        &["carry", "day.toml", "in.csv", "a.csv", "b.csv", "out.csv"],
+        mistakes_carry!("several order files go with --out OUT"),
+    ),
+    (
+        &["carry", "day.toml", "in.csv", "--out", "out.csv"],
+        mistakes_carry!("the following required arguments were not provided:\n  <ORDERS>..."),
+    ),
+    (
+        &["carry", "day.toml", "in.csv", "a.csv", "--out=b", "--out=b"],
+        mistakes_carry!("the argument '--out <OUT>' cannot be used multiple times"),
+    ),
+    (
+        &["carry", "day.toml", "in.csv", "a.csv", "b.csv", "--out=-"],
+        CANNOT_KEEP,
+    ),
+    (
+        &[
+            "carry",
+            "day.toml",
+            "in.csv",
+            "a.csv",
+            "b.csv",
+            "--out=c",
+            "--depth=c",
+        ],
+        CANNOT_TELL_CARRIED,
+    ),
+    (
+        &[
+            "carry",
+            "day.toml",
+            "in.csv",
+            "a.csv",
+            "b.csv",
+            "--out=c",
+            "--threads=2",
+            "--workers=2",
+        ],
+        CANNOT_SHARE_CARRIED,
     ),
     (
         &[
@@ -442,13 +588,11 @@ const NUMBERS: [Answered; 8] = [
             "--workers",
             "2",
         ],
-        Printed::Text(
-            "error: the argument '--workers <N>' cannot be used multiple times\n\nUsage: xetra-day run [OPTIONS] <SEGMENT> <ORDERS>\n\nFor more information, try '--help'.\n",
-        ),
+        mistakes_run!("the argument '--workers <N>' cannot be used multiple times"),
     ),
 ];
 
-const MISTAKES: [Answered; 7] = [
+const MISTAKES: [Answered; 6] = [
     (
         &["check"],
         Printed::Text(
@@ -464,25 +608,19 @@ const MISTAKES: [Answered; 7] = [
     (
         &["run"],
         Printed::Text(
-            "error: the following required arguments were not provided:\n  <SEGMENT>\n  <ORDERS>\n\nUsage: xetra-day run <SEGMENT> <ORDERS>\n\nFor more information, try '--help'.\n",
+            "error: the following required arguments were not provided:\n  <SEGMENT>\n  <ORDERS>...\n\nUsage: xetra-day run <SEGMENT> <ORDERS>...\n\nFor more information, try '--help'.\n",
         ),
     ),
     (
         &["run", "day.toml"],
         Printed::Text(
-            "error: the following required arguments were not provided:\n  <ORDERS>\n\nUsage: xetra-day run <SEGMENT> <ORDERS>\n\nFor more information, try '--help'.\n",
-        ),
-    ),
-    (
-        &["run", "day.toml", "day.csv", "more"],
-        Printed::Text(
-            "error: unexpected argument 'more' found\n\nUsage: xetra-day run [OPTIONS] <SEGMENT> <ORDERS>\n\nFor more information, try '--help'.\n",
+            "error: the following required arguments were not provided:\n  <ORDERS>...\n\nUsage: xetra-day run <SEGMENT> <ORDERS>...\n\nFor more information, try '--help'.\n",
         ),
     ),
     (
         &["run", "-s", "day.csv"],
-        Printed::Text(
-            "error: unexpected argument '-s' found\n\n  tip: to pass '-s' as a value, use '-- -s'\n\nUsage: xetra-day run [OPTIONS] <SEGMENT> <ORDERS>\n\nFor more information, try '--help'.\n",
+        mistakes_run!(
+            "unexpected argument '-s' found\n\n  tip: to pass '-s' as a value, use '-- -s'"
         ),
     ),
     (
@@ -509,19 +647,90 @@ const HELP: [Answered; 7] = [
 
 const WHOLE_HELP: Printed = Printed::Between("help Replays a trading day", "");
 
-const RUN_HELP: Printed = Printed::Between("help Runs the day of two files", "");
+const RUN_HELP: Printed = Printed::Between("help Runs the day of its files", "");
+
+/// A command line with many order files: the words before them, how many they are, the words behind them, with what it is answered.
+type ManyFiles = (
+    &'static [&'static str],
+    u32,
+    &'static [&'static str],
+    Printed,
+);
+
+/// Their names are the numbers from 1 on.
+const MANY: [ManyFiles; 7] = [
+    (
+        &["run", "day.toml"],
+        256,
+        &[],
+        Printed::Between(
+            "run day.toml and 1, 2, 3, 4, 5, 6, 7, 8, 9, 10, 11, ",
+            ", 254, 255, 256 on 0, answers to nowhere, trades to nowhere, levels to nowhere",
+        ),
+    ),
+    (
+        &["run", "day.toml"],
+        257,
+        &[],
+        mistakes_run!("unexpected value '257' for '<ORDERS>...' found; no more were expected"),
+    ),
+    (
+        &["run", "day.toml"],
+        256,
+        &["--threads=2", "day.csv"],
+        mistakes_run!("a day has at most 256 order files"),
+    ),
+    (
+        &["carry", "day.toml", "in.csv"],
+        256,
+        &["--out=out.csv"],
+        Printed::Between(
+            "carry day.toml, in.csv and 1, 2, 3, 4, 5, 6, 7, 8, 9, 10, 11, ",
+            ", 254, 255, 256 to out.csv on 0, answers to nowhere, trades to nowhere, levels to nowhere",
+        ),
+    ),
+    (
+        &["carry", "day.toml", "in.csv"],
+        257,
+        &["--out=out.csv"],
+        mistakes_carry!("a day has at most 256 order files"),
+    ),
+    (
+        &["carry", "day.toml", "in.csv"],
+        257,
+        &[],
+        mistakes_carry!("several order files go with --out OUT"),
+    ),
+    (
+        &["carry", "day.toml", "in.csv"],
+        258,
+        &["--out=out.csv"],
+        mistakes_carry!("unexpected value '258' for '<ORDERS>...' found; no more were expected"),
+    ),
+];
 
 /// Compares what a command line of these words is answered.
-fn is_answered(rt: &(impl Abort + AllocGlobal), words: &[&str], answer: Printed) {
-    let line = command_line(rt, words);
-    let text = answer_to(rt, line.as_slice());
+fn is_answered(rt: &(impl Abort + AllocGlobal), line: &[String], answer: Printed) {
+    let text = answer_to(rt, line);
     assert!(rt; answer.is(text.as_str()), "{text}");
 }
 
 fn are_answered(rt: &(impl Abort + AllocGlobal), answers: &[Answered]) {
     for (words, answer) in answers {
-        is_answered(rt, words, *answer);
+        is_answered(rt, command_line(rt, words).as_slice(), *answer);
     }
+}
+
+/// Compares what a command line with many order files is answered.
+fn are_many_answered(rt: &(impl Abort + AllocGlobal), many: &ManyFiles) {
+    let (before, files, behind, answer) = many;
+    let mut line = command_line(rt, before);
+    for number in 1..=*files {
+        let word = (format!(in rt.alloc(); "{number}")).expect(rt, "memory");
+        line.push(word).ok().expect(rt, "memory");
+    }
+    add_words(rt, &mut line, behind);
+    is_answered(rt, line.as_slice(), *answer);
 }
 
 #[test]
@@ -532,6 +741,10 @@ fn words_of_command_lines(rt: HostRuntime) {
     are_answered(&rt, &NUMBERS);
     are_answered(&rt, &MISTAKES);
     are_answered(&rt, &HELP);
+    let many = MANY;
+    for line in &many {
+        are_many_answered(&rt, line);
+    }
 }
 
 /// A writer that takes each byte and fails when it is flushed.
@@ -548,14 +761,16 @@ impl Write for Unflushed {
     }
 }
 
-/// Runs the day of two files by so many workers. A clause sees nothing of it.
+/// Runs the day of a segment file and an order file by so many workers. A clause sees nothing of it.
 fn run_day(
     rt: &(impl Abort + AllocGlobal + Threads + Wait + Sync),
     segment: &mut impl Read,
-    orders: &mut impl Read,
+    orders: &mut [impl Read],
     workers: u32,
     out: &mut impl Write,
-) -> Result<(), DayFault> {
+) -> Result<(), DayFault>
+    requires { length orders.old ≤ MAX_FILES }
+{
     let storage = Storage::with_fixed_seed(rt.alloc());
     let workers = Concurrency::Workers(Count::new(workers).expect(rt, "a number of workers"));
     let asked = AskedTexts::nothing();
@@ -635,7 +850,7 @@ fn tell_day(
     files: &mut TextFiles<Kept>,
 ) -> Result<(), DayFault> {
     let storage = Storage::with_fixed_seed(rt.alloc());
-    let (mut segment, mut orders) = (SEGMENT.as_bytes(), CASCADE.as_bytes());
+    let (mut segment, mut orders) = (SEGMENT.as_bytes(), [CASCADE.as_bytes()]);
     let mut carried = NONE_LEFT.as_bytes();
     carry_over(
         rt,
@@ -663,9 +878,11 @@ fn check_file(
 fn has_fault(
     rt: &(impl Abort + AllocGlobal + Threads + Wait + Sync),
     segment: &mut impl Read,
-    orders: &mut impl Read,
+    orders: &mut [impl Read],
     fault: DayFault,
-) {
+)
+    requires { length orders.old ≤ MAX_FILES }
+{
     let mut out = Vec::new(rt.alloc());
     let answer = run_day(rt, segment, orders, 1, &mut out);
     assert!(rt; answer == Err(fault) && out.is_empty());
@@ -677,10 +894,10 @@ const READ_FAILED: FileFault = at!(0, FileCause::ReadFailed);
 fn unopened_files_fail_in_turn(rt: HostRuntime) {
     let mut missing = open_input(|path| fs::open(&rt, path), "no/such/file");
     assert!(rt; missing.read(&mut [0; 8]).is_err());
-    let mut orders: Input<File> = Input::Unopened;
+    let mut orders: [Input<File>; 1] = [Input::Unopened];
     let fault = DayFault::Segment(READ_FAILED);
     has_fault(&rt, &mut missing, &mut orders, fault);
-    let fault = DayFault::Orders(READ_FAILED);
+    let fault = orders_fault(1, READ_FAILED);
     has_fault(&rt, &mut SEGMENT.as_bytes(), &mut orders, fault);
 }
 
@@ -692,14 +909,14 @@ fn statement_of(
     workers: u32,
 ) -> Vec<u8> {
     let mut out = Vec::new(rt.alloc());
-    let (mut segment, mut orders) = (segment.as_bytes(), orders.as_bytes());
+    let (mut segment, mut orders) = (segment.as_bytes(), [orders.as_bytes()]);
     run_day(rt, &mut segment, &mut orders, workers, &mut out).expect(rt, "a statement");
     out
 }
 
 #[test]
 fn an_unflushed_statement_is_not_written(rt: HostRuntime) {
-    let (mut segment, mut orders) = (SEGMENT.as_bytes(), HEADER.as_bytes());
+    let (mut segment, mut orders) = (SEGMENT.as_bytes(), [HEADER.as_bytes()]);
     assert!(rt; !statement_of(&rt, SEGMENT, HEADER, 1).is_empty());
     let answer = run_day(&rt, &mut segment, &mut orders, 1, &mut Unflushed);
     assert!(rt; answer == Err(DayFault::WriteFailed));

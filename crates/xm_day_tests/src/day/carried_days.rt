@@ -1,4 +1,7 @@
 //! Days that open with what earlier days left, and hand on what they leave.
+ghost use Rattle.std.specs.Prelude.{◌≤◌, length};
+ghost use Rattle.xm_files.specs.declared.order_files.TheConstants.{MAX_FILES};
+
 use super::workers::{APART, APART_STATEMENT, TWO};
 use super::{Answer, BAD_HEADER, CASCADE_STATEMENT, FAILURES, READ_FAILED};
 use crate::files::fixtures::{
@@ -60,10 +63,12 @@ fn run_carried(
     alloc: Global,
     segment: &mut impl Read,
     carry: &mut impl Read,
-    orders: &mut impl Read,
+    orders: &mut [impl Read],
     out: &mut impl Write,
     keep: &mut impl Write,
-) -> Answer {
+) -> Answer
+    requires { length orders.old ≤ MAX_FILES }
+{
     let storage = Storage::with_fixed_seed(alloc);
     let report = carry_alone(storage, segment, carry, orders, out, keep)?;
     Ok((report.accepted, report.refused))
@@ -98,7 +103,7 @@ fn leaves(
     left: &str,
 ) {
     let (mut segment, mut carry) = (texts.segment.as_bytes(), texts.carry.as_bytes());
-    let mut orders = texts.orders.as_bytes();
+    let mut orders = [texts.orders.as_bytes()];
     let (mut out, mut keep) = (Vec::new(rt.alloc()), Vec::new(rt.alloc()));
     let answer = run_carried(
         rt.alloc(),
@@ -186,7 +191,7 @@ fn ends_slowly(
 ) {
     let mut segment = OneByteReader::new(NEXT, None);
     let mut carry = OneByteReader::new(LEFT, failure);
-    let mut orders = OneByteReader::new(HEADER, None);
+    let mut orders = [OneByteReader::new(HEADER, None)];
     let (mut out, mut keep) = (Vec::new(rt.alloc()), Vec::new(rt.alloc()));
     let answer = run_carried(
         rt.alloc(),
@@ -224,7 +229,7 @@ fn fails_after(
     let mut out = ShortWriter::new(rt.alloc(), start.len(), failure);
     let mut keep = ShortWriter::new(rt.alloc(), left.len(), failure);
     let (mut segment, mut carry) = (SEGMENT.as_bytes(), NONE.as_bytes());
-    let mut orders = CASCADE.as_bytes();
+    let mut orders = [CASCADE.as_bytes()];
     let answer = run_carried(
         rt.alloc(),
         &mut segment,
@@ -295,7 +300,7 @@ fn leaves_shared(
         storage,
         &mut texts.segment.as_bytes(),
         &mut texts.carry.as_bytes(),
-        &mut texts.orders.as_bytes(),
+        &mut [texts.orders.as_bytes()],
         &mut out,
         &mut keep,
         workers,

@@ -92,7 +92,7 @@ struct Written {
 fn run(rt: &(impl Abort + AllocGlobal), segment: &str, carry: &[u8], orders: &str) -> Written {
     let storage = Storage::with_fixed_seed(rt.alloc());
     let (mut statement, mut left) = (Vec::new(rt.alloc()), Vec::new(rt.alloc()));
-    let (mut segment, mut carry, mut orders) = (segment.as_bytes(), carry, orders.as_bytes());
+    let (mut segment, mut carry, mut orders) = (segment.as_bytes(), carry, [orders.as_bytes()]);
     let report = carry_alone(
         storage,
         &mut segment,

@@ -153,6 +153,25 @@ fn add_other(
     add(rt, orders, row.expect(rt, "memory").as_str());
 }
 
+/// Adds the rows with these numbers of a day of so many securities, of version 2.
+pub(super) fn add_rows(
+    rt: &(impl Abort + AllocGlobal),
+    draw: &mut Draw,
+    orders: &mut String,
+    securities: usize,
+    from: u32,
+    to: u32,
+) {
+    for reference in from..to {
+        let security = security(rt, draw, securities);
+        if draw.octal() < 5 {
+            add_entry(rt, draw, orders, security, reference);
+        } else {
+            add_other(rt, draw, orders, security, reference);
+        }
+    }
+}
+
 /// The order file of a day of so many securities, of version 2, with so many rows, which begins before the opening call and ends
 /// behind the day's end.
 pub(super) fn order_file(
@@ -162,14 +181,7 @@ pub(super) fn order_file(
     rows: u32,
 ) -> String {
     let mut orders = String::from_str(rt.alloc(), SECOND_HEADER).expect(rt, "memory");
-    for reference in 0..rows {
-        let security = security(rt, draw, securities);
-        if draw.octal() < 5 {
-            add_entry(rt, draw, &mut orders, security, reference);
-        } else {
-            add_other(rt, draw, &mut orders, security, reference);
-        }
-    }
+    add_rows(rt, draw, &mut orders, securities, 0, rows);
     add(rt, &mut orders, "close,,,*,,,,,,,,,\n");
     add(rt, &mut orders, "uncross,,,*,,,,,,,,,\n");
     add(rt, &mut orders, "end,,,*,,,,,,,,,\n");

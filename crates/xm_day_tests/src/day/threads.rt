@@ -1,8 +1,10 @@
 //! Days on several threads, which give what one thread gives, byte for byte. What these tests find doesn't hang on the schedule.
-use super::drawn::{Draw, add, order_file, segment_file};
+use super::drawn::{Draw, add, add_rows, order_file, segment_file};
 use super::workers::{APART, TWO};
 use super::{Answer, FAILURES, READ_FAILED};
-use crate::files::fixtures::{CASCADE, OneByteReader, SECOND_HEADER, SEGMENT, ShortWriter};
+use crate::files::fixtures::{
+    CASCADE, HEADER, OneByteReader, SECOND_HEADER, SEGMENT, ShortWriter, bytes_of,
+};
 use std::io::{ErrorKind, Read};
 use std::process::Abort;
 use std::thread::Threads;
@@ -10,7 +12,7 @@ use xm_day::{
     AskedTexts, DayFault, DayTexts, HandsOn, StatementText, day_texts, open_carried_files,
     send_statement, take_on_threads,
 };
-use xm_files::{FileCause, FileFault};
+use xm_files::{FileCause, FileFault, MAX_FILES, OrdersFault};
 use xm_name_index::Storage;
 
 /// On how many threads a day is run, beside the run by one.
@@ -24,13 +26,13 @@ const ALL: AskedTexts = AskedTexts {
 };
 
 /// A carry file without an entry.
-const NONE: &str = carried!("");
+pub(super) const NONE: &str = carried!("");
 
 /// What a day answers, and its texts.
 #[derive(Drop)]
-struct Told {
-    answer: Answer,
-    statement: Vec<u8>,
+pub(super) struct Told {
+    pub(super) answer: Answer,
+    pub(super) statement: Vec<u8>,
     answers: Vec<u8>,
     trades: Vec<u8>,
     depth: Vec<u8>,
@@ -88,15 +90,15 @@ fn written(rt: &(impl Abort + AllocGlobal), statement: &StatementText) -> Vec<u8
 }
 
 /// The texts of a day on so many threads. A clause sees nothing of them.
-fn made(
-    rt: &(impl Abort + AllocGlobal + Threads + Sync),
+fn made<T: Abort + AllocGlobal + Threads + Sync, R: Read>(
+    rt: &T,
     threads: u32,
     segment: &str,
     carry: &[u8],
-    orders: &mut impl Read,
+    orders: &mut [R],
     asked: AskedTexts,
 ) -> Result<DayTexts, DayFault> {
-    assert!(rt; 1 <= threads);
+    assert!(rt; 1 <= threads && orders.len() <= MAX_FILES);
     let storage = Storage::with_fixed_seed(rt.alloc());
     let (mut segment, mut carry) = (segment.as_bytes(), carry);
     let (config, names) = open_carried_files(storage, &mut segment, &mut carry)?;
@@ -104,28 +106,29 @@ fn made(
     day_texts(rt.alloc(), &names, taken, HandsOn::WhatIsLeft)
 }
 
-/// What the day of three texts gives on so many threads.
-fn tell(
+/// What the day of a segment file, a carry file and these order files gives on so many threads.
+pub(super) fn tell(
     rt: &(impl Abort + AllocGlobal + Threads + Sync),
     threads: u32,
     segment: &str,
     carry: &[u8],
-    orders: &str,
+    files: &[&str],
 ) -> Told {
-    let mut orders = orders.as_bytes();
-    told_of(rt, made(rt, threads, segment, carry, &mut orders, ALL))
+    let mut files = bytes_of(rt, files);
+    let orders = files.as_mut_slice();
+    told_of(rt, made(rt, threads, segment, carry, orders, ALL))
 }
 
-/// Compares what the day of three texts gives on several threads with what it gives on one, and gives it.
+/// Compares what such a day gives on several threads with what it gives on one, and gives it.
 fn agrees(
     rt: &(impl Abort + AllocGlobal + Threads + Sync),
     name: &str,
     segment: &str,
     carry: &[u8],
-    orders: &str,
+    files: &[&str],
 ) -> Told {
-    let alone = tell(rt, 1, segment, carry, orders);
-    let day = tell(rt, THREADS, segment, carry, orders);
+    let alone = tell(rt, 1, segment, carry, files);
+    let day = tell(rt, THREADS, segment, carry, files);
     assert!(rt; day.is(&alone), "{name}");
     alone
 }
@@ -138,13 +141,34 @@ fn long_drawn_days_in_a_row(rt: HostRuntime) {
     let second = segment_file(&rt, "20260106", 5);
     let orders = order_file(&rt, &mut draw, 5, 80_000);
     let (segment, carry) = (first.as_str(), NONE.as_bytes());
-    let day = agrees(&rt, "a drawn day", segment, carry, orders.as_str());
+    let day = agrees(&rt, "a drawn day", segment, carry, &[orders.as_str()]);
     let (accepted, refused) = day.answer.expect(&rt, "a day without a fault");
     assert!(rt; accepted > 0 && refused > 0 && day.left.len() > NONE.len());
     let orders = order_file(&rt, &mut draw, 5, 600);
     let (segment, carry) = (second.as_str(), day.left.as_slice());
-    let next = agrees(&rt, "the day behind it", segment, carry, orders.as_str());
+    let next = agrees(&rt, "the day behind it", segment, carry, &[orders.as_str()]);
     assert!(rt; next.answer.is_ok());
+}
+
+/// Two long files, each of which is read in several rounds and parts, and one without a row between them give the statement of their rows
+/// in one file, and leave the same.
+#[test]
+fn long_files_of_one_day(rt: HostRuntime) {
+    let mut draw = Draw { state: 20_260_107 };
+    let segment = segment_file(&rt, "20260105", 5);
+    let mut whole = String::from_str(rt.alloc(), SECOND_HEADER).expect(&rt, "memory");
+    add_rows(&rt, &mut draw, &mut whole, 5, 0, 30_000);
+    let first = String::from_str(rt.alloc(), whole.as_str()).expect(&rt, "memory");
+    let mut third = String::from_str(rt.alloc(), SECOND_HEADER).expect(&rt, "memory");
+    add_rows(&rt, &mut draw, &mut third, 5, 30_000, 60_000);
+    let (_, rows) = third.as_str().split_once('\n').expect(&rt, "a header");
+    add(&rt, &mut whole, rows);
+    let files = [first.as_str(), HEADER, third.as_str()];
+    let (segment, carry) = (segment.as_str(), NONE.as_bytes());
+    let day = agrees(&rt, "a day in three files", segment, carry, &files);
+    let uncut = tell(&rt, 1, segment, carry, &[whole.as_str()]);
+    assert!(rt; day.answer.is_ok() && day.answer == uncut.answer);
+    assert!(rt; day.statement == uncut.statement && day.left == uncut.left);
 }
 
 /// What is put between the rows of a file: its name, its text, and the cause of the fault that its first record then has, if any.
@@ -210,7 +234,7 @@ const PUTS: [(&str, &str, Option<FileCause>); 14] = [
 ];
 
 /// Adds so many cancellations, each of an order that isn't there, from this number on.
-fn add_rows(rt: &(impl Abort + AllocGlobal), orders: &mut String, from: u32, to: u32) {
+fn add_cancellations(rt: &(impl Abort + AllocGlobal), orders: &mut String, from: u32, to: u32) {
     for number in from..to {
         let security = number & 3;
         let row = format!(in rt.alloc(); "cancel,M1,{number},S{security},,,,,,,,,\n");
@@ -221,9 +245,9 @@ fn add_rows(rt: &(impl Abort + AllocGlobal), orders: &mut String, from: u32, to:
 /// The order file of so many rows, with a text before the row with this number.
 fn file_with(rt: &(impl Abort + AllocGlobal), rows: u32, place: u32, text: &str) -> String {
     let mut orders = String::from_str(rt.alloc(), SECOND_HEADER).expect(rt, "memory");
-    add_rows(rt, &mut orders, 0, place);
+    add_cancellations(rt, &mut orders, 0, place);
     add(rt, &mut orders, text);
-    add_rows(rt, &mut orders, place, rows);
+    add_cancellations(rt, &mut orders, place, rows);
     orders
 }
 
@@ -232,6 +256,11 @@ const ROWS: u32 = 40_000;
 
 /// Where a text is put into it: at its begin, behind the first round, and at its end.
 const PLACES: [u32; 3] = [0, 33_000, ROWS];
+
+/// The fault of the order file with this number.
+fn orders_fault(file: u32, fault: FileFault) -> DayFault {
+    DayFault::Orders(OrdersFault { file, fault })
+}
 
 /// Compares a day in whose order file such a text was put before the row with this number: its fault, or that it has none.
 fn put_agrees(
@@ -242,13 +271,13 @@ fn put_agrees(
 ) {
     let (name, text, cause) = put;
     let orders = file_with(rt, ROWS, place, text);
-    let day = agrees(rt, name, segment, NONE.as_bytes(), orders.as_str());
+    let day = agrees(rt, name, segment, NONE.as_bytes(), &[orders.as_str()]);
     match cause {
         Some(cause) => {
             let line = place.wrapping_add(2);
             let cause = *cause;
             assert!(rt;
-                day.answer == Err(DayFault::Orders(FileFault { line, cause })),
+                day.answer == Err(orders_fault(1, FileFault { line, cause })),
                 "{name}"
             );
         }
@@ -270,10 +299,10 @@ fn faults_and_odd_rows_anywhere_in_a_long_file(rt: HostRuntime) {
 /// How many rows of a phase of eight securities are 1,000,000 rows.
 const MOST_ROWS: u32 = 125_000;
 
-const TOO_MANY_ROWS: DayFault = DayFault::Orders(FileFault {
+const TOO_MANY_ROWS: FileFault = FileFault {
     line: 125_002,
     cause: FileCause::TooManyRows,
-});
+};
 
 #[test]
 fn rows_of_all_securities_beyond_the_most_rows(rt: HostRuntime) {
@@ -283,20 +312,31 @@ fn rows_of_all_securities_beyond_the_most_rows(rt: HostRuntime) {
         add(&rt, &mut orders, "open,,,*,,,,,,,,,\n");
     }
     add(&rt, &mut orders, "open,,,S0,,,,,,,,,\nwalk\n");
-    let mut orders = orders.as_bytes();
+    let mut orders = [orders.as_bytes()];
     let (segment, carry) = (segment.as_str(), NONE.as_bytes());
     let nothing = AskedTexts::nothing();
     let day = made(&rt, THREADS, segment, carry, &mut orders, nothing);
-    assert!(rt; told_of(&rt, day).answer == Err(TOO_MANY_ROWS));
+    assert!(rt; told_of(&rt, day).answer == Err(orders_fault(1, TOO_MANY_ROWS)));
 }
 
-/// The order file fails at each call in turn, one byte being read a call.
+/// Each of two order files fails at each call in turn, one byte being read a call.
 #[test]
 fn readers_that_fail(rt: HostRuntime) {
     for call in 0..CASCADE.len() + 1 {
-        let mut orders = OneByteReader::new(CASCADE, Some((call, ErrorKind::BrokenPipe)));
-        let day = made(&rt, THREADS, SEGMENT, NONE.as_bytes(), &mut orders, ALL);
-        assert!(rt; told_of(&rt, day).answer == Err(DayFault::Orders(READ_FAILED)));
+        for file in [1, 2] {
+            let failure = Some((call, ErrorKind::BrokenPipe));
+            let (first, second) = if file == 1 {
+                (failure, None)
+            } else {
+                (None, failure)
+            };
+            let mut orders = [
+                OneByteReader::new(CASCADE, first),
+                OneByteReader::new(CASCADE, second),
+            ];
+            let day = made(&rt, THREADS, SEGMENT, NONE.as_bytes(), &mut orders, ALL);
+            assert!(rt; told_of(&rt, day).answer == Err(orders_fault(file, READ_FAILED)));
+        }
     }
 }
 
@@ -310,7 +350,7 @@ fn fails_after(
 ) {
     for failure in FAILURES {
         let mut out = ShortWriter::new(rt.alloc(), room, failure);
-        let mut orders = orders.as_bytes();
+        let mut orders = [orders.as_bytes()];
         let day = made(rt, THREADS, segment, NONE.as_bytes(), &mut orders, ALL);
         let day = day.expect(rt, "a day");
         assert!(rt; send_statement(&day.statement, &mut out) == Err(DayFault::WriteFailed));
@@ -321,7 +361,7 @@ fn fails_after(
 #[test]
 fn writers_that_fail(rt: HostRuntime) {
     for (segment, orders) in [(SEGMENT, CASCADE), (TWO, APART)] {
-        let alone = tell(&rt, 1, segment, NONE.as_bytes(), orders);
+        let alone = tell(&rt, 1, segment, NONE.as_bytes(), &[orders]);
         let statement = alone.statement.as_slice();
         for room in (0..statement.len()).step_by(41) {
             fails_after(&rt, segment, orders, statement, room);

@@ -1,6 +1,8 @@
 //! Days that several workers share. What these tests find doesn't hang on the schedule.
 use super::{Answer, BAD_HEADER, CASCADE_STATEMENT};
-use crate::files::fixtures::{CASCADE, HEADER, NO_SECURITY, ORDERS, SEGMENT, ShortWriter};
+use crate::files::fixtures::{
+    CASCADE, HEADER, NO_SECURITY, ORDERS, SEGMENT, ShortWriter, bytes_of,
+};
 use std::io::Write;
 use std::process::Abort;
 use std::sync::Wait;
@@ -8,7 +10,7 @@ use std::sync::atomic::{AtomicU64, Ordering};
 use std::thread::{self, Threads};
 use xm_config::{MAX_WORKERS, OpenFault};
 use xm_day::{DayFault, run_day};
-use xm_files::{FileCause, FileFault};
+use xm_files::{FileCause, FileFault, MAX_FILES, OrdersFault};
 use xm_name_index::Storage;
 use xm_segment::{Gate, NoGate};
 
@@ -19,7 +21,7 @@ const TURNS: u64 = 100_000_000;
 pub(super) const TWO: &str = securities!("\"M0\", \"M1\"", "A" => 20, "B" => 20);
 
 /// Each of two members enters an order on a security of its own.
-const ONE_EACH: &str = orders!(
+pub(super) const ONE_EACH: &str = orders!(
     "enter,M0,1,A,buy,limit,9.90,,5,,,
 enter,M1,1,B,buy,limit,9.90,,5,,,
 "
@@ -116,7 +118,7 @@ ROWS 5 0
 ";
 
 /// A record that is none of an order file, behind rounds that are taken.
-const LATE_FAULT: &str = orders!(
+pub(super) const LATE_FAULT: &str = orders!(
     "open,,,*,,,,,,,,
 enter,M0,1,A,sell,limit,10.10,,5,,,
 enter,M1,1,B,sell,limit,10.10,,5,,,
@@ -241,9 +243,12 @@ const DAYS: [SharedDay; 13] = [
         "a late fault",
         TWO,
         LATE_FAULT,
-        DayFault::Orders(FileFault {
-            line: 6,
-            cause: FileCause::BadField
+        DayFault::Orders(OrdersFault {
+            file: 1,
+            fault: FileFault {
+                line: 6,
+                cause: FileCause::BadField
+            }
         })
     ),
     SharedDay {
@@ -257,26 +262,28 @@ const DAYS: [SharedDay; 13] = [
     },
 ];
 
-/// Runs the day of two texts by so many workers. A clause sees nothing of it.
-fn shared<R: Abort + AllocGlobal + Threads + Wait + Sync, G: Gate + Sync>(
+/// Runs the day of a segment file and these order files by so many workers. A clause sees nothing of it.
+pub(super) fn shared<R: Abort + AllocGlobal + Threads + Wait + Sync, G: Gate + Sync>(
     rt: &R,
     segment: &str,
-    orders: &str,
+    files: &[&str],
     out: &mut impl Write,
     workers: u32,
     gate: &G,
 ) -> Answer {
-    assert!(rt; 1 <= workers && workers <= MAX_WORKERS);
     let storage = Storage::with_fixed_seed(rt.alloc());
-    let (mut segment, mut orders) = (segment.as_bytes(), orders.as_bytes());
-    let report = run_day(rt, storage, &mut segment, &mut orders, out, workers, gate)?;
+    let (mut segment, mut files) = (segment.as_bytes(), bytes_of(rt, files));
+    let orders = files.as_mut_slice();
+    assert!(rt; 1 <= workers && workers <= MAX_WORKERS && orders.len() <= MAX_FILES);
+    let report = run_day(rt, storage, &mut segment, orders, out, workers, gate)?;
     Ok((report.accepted, report.refused))
 }
 
 /// Compares what a day answers, and what it writes.
 fn ends<R: Abort + AllocGlobal + Threads + Wait + Sync>(rt: &R, day: &SharedDay) {
     let mut out = ShortWriter::new(rt.alloc(), day.room, None);
-    let answer = shared(rt, day.segment, day.orders, &mut out, day.workers, &NoGate);
+    let (files, workers) = ([day.orders], day.workers);
+    let answer = shared(rt, day.segment, &files, &mut out, workers, &NoGate);
     let bytes = out.bytes.as_slice();
     let is_written = match day.written {
         Written::All(text) => bytes == text.as_bytes(),
@@ -330,7 +337,7 @@ fn meet<R: Abort + AllocGlobal + Threads + Wait + Sync, G: Gate + Sync>(
     meeting: &Meeting,
 ) {
     let mut out = Vec::new(rt.alloc());
-    let answer = shared(rt, segment, orders, &mut out, workers, gate);
+    let answer = shared(rt, segment, &[orders], &mut out, workers, gate);
     assert!(rt; meeting.missed.load(Ordering::SeqCst) == 0);
     assert!(rt; meeting.count.load(Ordering::SeqCst) == u64::from(workers));
     assert!(rt; answer == Ok((u64::from(workers), 0)));

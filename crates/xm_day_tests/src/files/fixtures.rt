@@ -1,6 +1,7 @@
 //! Files of tests, and readers and writers that are slow or fail.
 use std::alloc::Global;
 use std::io::{self, ErrorKind, Read, Write};
+use std::process::Abort;
 
 pub(crate) const SEGMENT: &str = segment!(20);
 
@@ -215,6 +216,16 @@ impl Write for ShortWriter {
     fn flush(&mut self) -> io::Result<()> {
         Ok(())
     }
+}
+
+/// The bytes of each of these texts, as so many files.
+pub(crate) fn bytes_of<'a>(rt: &(impl Abort + AllocGlobal), texts: &[&'a str]) -> Vec<&'a [u8]> {
+    let mut files = Vec::new(rt.alloc());
+    for text in texts {
+        let file = (*text).as_bytes();
+        files.push(file).ok().expect(rt, "memory");
+    }
+    files
 }
 
 /// The text with the first of these words replaced, or what is wanting.

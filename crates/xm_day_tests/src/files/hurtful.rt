@@ -1,5 +1,8 @@
 //! Files that are made to hurt, and what they answer. How long the built program takes over such files at the limit of bytes,
 //! `dev/hostile/run files` sees.
+ghost use Rattle.std.specs.Prelude.{◌≤◌, length};
+ghost use Rattle.xm_files.specs.declared.order_files.TheConstants.{MAX_FILES};
+
 use super::fixtures::{Filler, HEADER, SECOND, replaced};
 use super::{order_files, segment_files};
 use std::alloc::Global;
@@ -258,17 +261,20 @@ fn text_of(rt: &(impl Abort + AllocGlobal), day: &Repeated) -> String {
 fn run(
     alloc: Global,
     segment: &mut impl Read,
-    orders: &mut impl Read,
+    orders: &mut [impl Read],
     out: &mut impl Write,
-) -> Result<(u64, u64), DayFault> {
-    let report = run_alone(Storage::with_fixed_seed(alloc), segment, orders, out)?;
+) -> Result<(u64, u64), DayFault>
+    requires { length orders.old ≤ MAX_FILES }
+{
+    let storage = Storage::with_fixed_seed(alloc);
+    let report = run_alone(storage, segment, orders, out)?;
     Ok((report.accepted, report.refused))
 }
 
 /// Compares the counts of such a day.
 fn has_counts(rt: &(impl Abort + AllocGlobal), day: &Repeated) {
     let text = text_of(rt, day);
-    let (mut segment, mut orders) = (ONE.as_bytes(), text.as_bytes());
+    let (mut segment, mut orders) = (ONE.as_bytes(), [text.as_bytes()]);
     let mut out = Vec::new(rt.alloc());
     let answer = run(rt.alloc(), &mut segment, &mut orders, &mut out);
     assert!(rt; answer == Ok(day.counts), "{}", day.name);

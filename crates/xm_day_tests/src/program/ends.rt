@@ -105,8 +105,26 @@ const UNREAD_SEGMENT: Printed = Printed::Text("xetra-day: segment: line 0: ReadF
 
 const UNREAD_ORDERS: Printed = Printed::Text("xetra-day: orders: line 0: ReadFailed\n");
 
-const STATEMENTS: [End; 5] = [
+const BAD_SECOND_FILE: Printed = Printed::Text("xetra-day: orders 2: line 2: BadField\n");
+
+const STATEMENTS: [End; 7] = [
     prints!(Printed::Text(STATEMENT), b"run", b"day.toml", b"day.csv"),
+    prints!(
+        Printed::Text(STATEMENT),
+        b"run",
+        b"day.toml",
+        b"day.csv",
+        b"\n spaced.csv ",
+        b"day.csv"
+    ),
+    prints!(
+        Printed::Text(STATEMENT),
+        b"run",
+        b"day.toml",
+        b"day.csv",
+        b"--workers=2",
+        b"day.csv"
+    ),
     prints!(
         Printed::Text(STATEMENT),
         b"run",
@@ -197,7 +215,17 @@ const BOTH_WRITTEN: [End; 2] = [
     },
 ];
 
-const WRITTEN: [End; 4] = [
+const WRITTEN: [End; 5] = [
+    writes!(
+        ANSWERS,
+        b"run",
+        b"day.toml",
+        b"day.csv",
+        b"day.csv",
+        b"--threads=2",
+        b"--answers",
+        b"answers.csv"
+    ),
     writes!(
         ANSWERS,
         b"run",
@@ -233,17 +261,37 @@ const WRITTEN: [End; 4] = [
 ];
 
 /// What is told where the answers can't be written as the words ask.
-pub const CANNOT_TELL: Printed = Printed::Text(
-    "error: --answers, --trades and --depth go with one worker, and with a file each: standard output has the statement\n\nUsage: xetra-day run [OPTIONS] <SEGMENT> <ORDERS>\n\nFor more information, try '--help'.\n",
+pub const CANNOT_TELL: Printed = mistakes_run!(
+    "--answers, --trades and --depth go with one worker, and with a file each: standard output has the statement"
 );
 
 /// The same of a day that hands on what it leaves.
-pub const CANNOT_TELL_CARRIED: Printed = Printed::Text(
-    "error: --answers, --trades and --depth go with one worker, and with a file each: standard output has the statement\n\nUsage: xetra-day carry [OPTIONS] <SEGMENT> <IN> <ORDERS> <OUT>\n\nFor more information, try '--help'.\n",
+pub const CANNOT_TELL_CARRIED: Printed = mistakes_carry!(
+    "--answers, --trades and --depth go with one worker, and with a file each: standard output has the statement"
 );
 
 /// Runs that write no answers: the order file is at fault, the file is one that is read, or it can't be made, and mistakes.
-const UNANSWERED: [End; 9] = [
+const UNANSWERED: [End; 11] = [
+    complains!(
+        1,
+        BAD_SECOND_FILE,
+        b"run",
+        b"day.toml",
+        b"day.csv",
+        b"bad.csv",
+        b"--answers",
+        b"answers.csv"
+    ),
+    complains!(
+        1,
+        UNWRITTEN,
+        b"run",
+        b"day.toml",
+        b"day.csv",
+        b"bad.csv",
+        b"--answers",
+        b"bad.csv"
+    ),
     complains!(
         1,
         Printed::Text("xetra-day: orders: line 2: BadField\n"),
@@ -330,23 +378,53 @@ const UNANSWERED: [End; 9] = [
 ];
 
 /// What is told where several workers would each have several threads.
-pub const CANNOT_SHARE: Printed = Printed::Text(
-    "error: --threads goes with one worker: each of several takes its rows on a thread of its own\n\nUsage: xetra-day run [OPTIONS] <SEGMENT> <ORDERS>\n\nFor more information, try '--help'.\n",
+pub const CANNOT_SHARE: Printed = mistakes_run!(
+    "--threads goes with one worker: each of several takes its rows on a thread of its own"
 );
 
 /// The same of a day that hands on what it leaves.
-pub const CANNOT_SHARE_CARRIED: Printed = Printed::Text(
-    "error: --threads goes with one worker: each of several takes its rows on a thread of its own\n\nUsage: xetra-day carry [OPTIONS] <SEGMENT> <IN> <ORDERS> <OUT>\n\nFor more information, try '--help'.\n",
+pub const CANNOT_SHARE_CARRIED: Printed = mistakes_carry!(
+    "--threads goes with one worker: each of several takes its rows on a thread of its own"
 );
 
 /// What is told where what is left would go to standard output.
-pub const CANNOT_KEEP: Printed = Printed::Text(
-    "error: OUT is a file: standard output has the statement\n\nUsage: xetra-day carry [OPTIONS] <SEGMENT> <IN> <ORDERS> <OUT>\n\nFor more information, try '--help'.\n",
+pub const CANNOT_KEEP: Printed = mistakes_carry!(
+    "OUT is a file: standard output has the statement"
 );
 
 /// Days that hand on what they leave, to the file that is made, and such as don't: a file is at fault, what they leave would go to
 /// one that is read or can't be made, and a mistake.
-const CARRIED: [End; 13] = [
+const CARRIED: [End; 16] = [
+    writes!(
+        NONE_LEFT,
+        b"carry",
+        b"day.toml",
+        b"in.csv",
+        b"day.csv",
+        b"day.csv",
+        b"--out",
+        b"answers.csv"
+    ),
+    complains!(
+        1,
+        BAD_SECOND_FILE,
+        b"carry",
+        b"wide.toml",
+        b"in.csv",
+        b"day.csv",
+        b"bad.csv",
+        b"--out=answers.csv"
+    ),
+    complains!(
+        1,
+        UNWRITTEN,
+        b"carry",
+        b"day.toml",
+        b"in.csv",
+        b"day.csv",
+        b"bad.csv",
+        b"--out=bad.csv"
+    ),
     writes!(
         NONE_LEFT,
         b"carry",
@@ -480,7 +558,7 @@ const CHECKED: [End; 2] = [
     ),
 ];
 
-const FAULTS: [End; 10] = [
+const FAULTS: [End; 13] = [
     complains!(1, UNREAD_SEGMENT, b"check", b"none.toml"),
     complains!(
         1,
@@ -504,6 +582,32 @@ const FAULTS: [End; 10] = [
     complains!(1, UNREAD_ORDERS, b"run", b"day.toml", b" day.csv"),
     complains!(1, UNREAD_SEGMENT, b"run", b"none.toml", b"none.csv"),
     complains!(1, UNREAD_ORDERS, b"run", b"day.toml", b"none.csv"),
+    complains!(
+        1,
+        Printed::Text("xetra-day: orders 3: line 0: ReadFailed\n"),
+        b"run",
+        b"day.toml",
+        b"day.csv",
+        b"day.csv",
+        b"none.csv"
+    ),
+    complains!(
+        1,
+        Printed::Text("xetra-day: orders: line 2: BadField\n"),
+        b"run",
+        b"day.toml",
+        b"bad.csv",
+        b"none.csv"
+    ),
+    complains!(
+        1,
+        BAD_SECOND_FILE,
+        b"run",
+        b"wide.toml",
+        b"day.csv",
+        b"bad.csv",
+        b"--threads=2"
+    ),
     complains!(
         1,
         Printed::Text("xetra-day: orders: line 2: BadField\n"),
@@ -540,7 +644,7 @@ const MISTAKES: [End; 7] = [
     complains!(
         2,
         Printed::Text(
-            "error: the following required arguments were not provided:\n  <ORDERS>\n\nUsage: xetra-day run <SEGMENT> <ORDERS>\n\nFor more information, try '--help'.\n",
+            "error: the following required arguments were not provided:\n  <ORDERS>...\n\nUsage: xetra-day run <SEGMENT> <ORDERS>...\n\nFor more information, try '--help'.\n",
         ),
         b"run",
         b"day.toml"

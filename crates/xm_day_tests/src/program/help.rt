@@ -6,8 +6,9 @@ use super::statement_of;
 use std::process::Abort;
 
 /// What `run --help` prints.
-const RUN_HELP: &str = "Runs the day of two files and writes its statement to standard output.
+const RUN_HELP: &str = "Runs the day of its files and writes its statement to standard output.
 
+ORDERS is an order file or several, 256 at most: one day, in the order given, each with a header.
 docs/FORMATS.md tells all of the files that are read and written. SEGMENT and ORDERS may be pipes,
 as /dev/stdin or <(zcat day.csv.gz), and so may FILE, as >(gzip > answers.csv.gz). A whole small
 day, whose two files can be copied as they stand:
@@ -37,32 +38,32 @@ close,,,*,,,,,,,,
 uncross,,,*,,,,,,,,
 end,,,*,,,,,,,,
 
-Usage: xetra-day run [OPTIONS] <SEGMENT> <ORDERS>
+Usage: xetra-day run [OPTIONS] <SEGMENT> <ORDERS>...
 
 Arguments:
   <SEGMENT>
           The segment file (TOML): the date, the members and the securities
 
-  <ORDERS>
-          The order file (CSV): a header, then one command a row, in the order of the day
+  <ORDERS>...
+          The order files (CSV), one day in their order: each a header, then one command a row
 
 Options:
       --workers <N>
           How many workers take the rows of members, side by side: 1 to 64
           
-          One worker takes all rows in the order of the file. More take each member's rows in their order,
+          One worker takes all rows in the order of the files. More take each member's rows in their order,
           and the members side by side, as an exchange meets them, so that two runs may differ where members
           compete. They are not faster: a command is shorter than the hand-over of a lock.
           
           [default: 1]
 
       --threads <N>
-          On how many threads the rows are taken, in the order of the file: 1 to 64
+          On how many threads the rows are taken, in the order of the files: 1 to 64
           
-          By default on as many as there are processors where ORDERS has 700,000 bytes or more, some 20,000
-          rows, and else on one. What is written is what one thread writes, byte for byte. Each thread takes
-          the rows of securities of its own while the file is read ahead of it, so a day of one security
-          gains from the reading alone. It goes with one worker.
+          By default on as many as there are processors where the order files have 700,000 bytes or more
+          together, some 20,000 rows, and else on one. What is written is what one thread writes, byte for
+          byte. Each thread takes the rows of securities of its own while a file is read ahead of it, so a day
+          of one security gains from the reading alone. It goes with one worker.
 
       --answers <FILE>
           Writes the answer to each row, and the market after it, to this file (CSV)
@@ -128,15 +129,76 @@ const STATUSES: &str = "Exit status:
 
 const WHOLE_HELP: Printed = Printed::Between("Replays a trading day of a segment", STATUSES);
 
-const SHORT_HELP: Printed = Printed::Between("Runs the day of two files", STATUSES);
+const SHORT_HELP: Printed = Printed::Between("Runs the day of its files", STATUSES);
 
+/// What `carry --help` prints before the options that `run` has too.
 const CARRY_HELP: Printed = Printed::Between(
-    "Runs the day of two files with what earlier days left",
+    "Runs the day of its files with what earlier days left, and writes what it leaves.
+
+The statement goes to standard output, and then the carry file of the next day to OUT: the orders
+and stops that are valid beyond the day. OUT is made, empty, before any file is read. Where it is
+one of the files that are read, that is a failed write, and nothing is touched. The texts of
+`xetra-day run` may go beside the statement here too. docs/FORMATS.md tells all of the files that
+are read and written.
+
+ORDERS is an order file or several, 256 at most: one day, in the order given, each with a header.
+Several go with --out OUT; behind one OUT may stand as it is.
+
+Before the first day nothing was left:
+
+none.csv:
+
+security,member,reference,side,kind,limit,trigger,quantity,validity,restriction
+
+Two days in a row, where the segment file of the second has its date and its reference prices:
+
+xetra-day carry monday.toml none.csv monday.csv left.csv
+xetra-day carry tuesday.toml left.csv tuesday.csv left_again.csv
+
+A day in two order files:
+
+xetra-day carry monday.toml none.csv morning.csv afternoon.csv --out left.csv
+
+Usage: xetra-day carry [OPTIONS] <SEGMENT> <IN> <ORDERS>... --out <OUT>
+       xetra-day carry [OPTIONS] <SEGMENT> <IN> <ORDERS> <OUT>
+
+Arguments:
+  <SEGMENT>
+          The segment file (TOML): the date, the members and the securities
+
+  <IN>
+          The carry file (CSV): the orders and stops that earlier days left
+
+  <ORDERS>...
+          The order files (CSV), as of `run`; where --out is left out, one order file and OUT
+
+Options:
+      --out <OUT>
+          The carry file (CSV) of the next day, which is written behind the statement
+          
+          It has the orders and stops that are valid beyond the day. It is made, empty, before any file is
+          read. Several order files go with --out OUT; behind one OUT may stand as it is, without --out.
+
+      --workers <N>
+",
     STATUSES,
 );
 
-const HELP: [End; 10] = [
+/// How what `carry -h` prints begins.
+const SHORT_CARRY_HELP: Printed = Printed::Between(
+    "Runs the day of its files with what earlier days left, and writes what it leaves
+
+Usage: xetra-day carry [OPTIONS] <SEGMENT> <IN> <ORDERS>... --out <OUT>
+       xetra-day carry [OPTIONS] <SEGMENT> <IN> <ORDERS> <OUT>
+
+Arguments:
+",
+    STATUSES,
+);
+
+const HELP: [End; 11] = [
     prints!(CARRY_HELP, b"carry", b"--help"),
+    prints!(SHORT_CARRY_HELP, b"carry", b"-h"),
     prints!(Printed::Text(CHECK_HELP), b"check", b"--help"),
     prints!(Printed::Text(RUN_HELP), b"run", b"--help"),
     prints!(Printed::Text(RUN_HELP), b"help", b"run"),
