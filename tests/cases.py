@@ -1,7 +1,7 @@
 #!/usr/bin/env python3
 """The cases are complete: each stands once in the list that the gate runs, with what it gives, and in the index that other systems
 read; no file belongs to none; the worked days among them are those of examples/, and give the same statements in version 2 of the
-order file. And they show all: each rule of the table of docs/MARKET_MODEL.md names a case, and each command, side, kind, validity,
+order file and in two files. And they show all: each rule of the table of docs/MARKET_MODEL.md names a case, and each command, side, kind, validity,
 restriction and condition is accepted in one, each refusal answered, each phase reached, and a trade made in each kind of call.
 Prints what is wrong, and ends with status 1 where something is.
 
@@ -20,10 +20,14 @@ INDEX = CRATE / "index.json"
 EXAMPLES = ROOT / "examples"
 FEWEST = 60
 WORKED_DAYS = ("cascade", "opening_call", "small_day", "whole_day")
+# What the name of a case ends with whose day is that of another one, in other order files.
 AGAIN = "_in_version_2"
+IN_TWO_FILES = "_in_two_files"
 # What a case may have beside its orders, and what it must.
 BESIDE = (".answers.csv", ".trades.csv", ".depth.csv")
 ENDINGS = (".orders.csv", ".segment.toml", ".in.csv", ".statement", *BESIDE, ".out.csv", ".fault")
+# An order file behind the first one, by its number.
+LATER = re.compile(r"\.orders\.([2-9]|[1-9][0-9]+)\.csv$")
 # What the index calls the files that come out.
 GIVEN = {
     "statement": ".statement",
@@ -46,11 +50,22 @@ FIELDS = {
 }
 
 
+def ending_of(name):
+    """The ending of a file of a case, if it is one."""
+    later = LATER.search(name)
+    return later[0] if later else next((it for it in ENDINGS if name.endswith(it)), None)
+
+
+def later_orders(endings):
+    """The endings of the order files of a case behind the first one, in their order."""
+    return sorted(filter(LATER.search, endings), key=lambda ending: int(LATER.search(ending)[1]))
+
+
 def files_by_case():
     """The endings of the files of each case, and the files that are of none."""
     found, strays = {}, []
     for path in sorted(CASES.iterdir()):
-        ending = next((it for it in ENDINGS if path.name.endswith(it)), None)
+        ending = ending_of(path.name)
         if ending:
             found.setdefault(path.name.removesuffix(ending), set()).add(ending)
         elif path.name != "segment.toml":
@@ -73,9 +88,12 @@ def faults_of_files(found, strays):
     for name, endings in found.items():
         if not re.fullmatch(r"[a-z0-9_]{1,40}", name):
             yield f"{name}: a name has at most 40 lower-case letters, digits and _"
+        later = later_orders(endings)
         if ".orders.csv" not in endings:
             yield f"{name} has no orders"
-        if not has_result(endings - {".orders.csv", ".segment.toml"}):
+        if later != [f".orders.{number}.csv" for number in range(2, len(later) + 2)]:
+            yield f"{name}: the numbers of its order files don't go on from 2"
+        if not has_result(endings - {".orders.csv", ".segment.toml", *later}):
             yield f"{name} has not a statement and answers or a carry file, or a fault alone: dev/cases --update {name}"
     if len(found) < FEWEST:
         yield f"there are {len(found)} cases, and {FEWEST} are wanted"
@@ -106,9 +124,10 @@ def faults_of_worked_days():
 
 
 def faults_of_versions(found):
-    """A day gives one statement in both versions of the order file."""
-    for day in WORKED_DAYS:
-        again = f"{day}{AGAIN}"
+    """A day gives one statement in both versions of the order file, and in one file and in two."""
+    agains = [f"{day}{AGAIN}" for day in WORKED_DAYS]
+    for again in agains + [name for name in found if name.endswith(IN_TWO_FILES) and name.removesuffix(IN_TWO_FILES) in found]:
+        day = again.removesuffix(AGAIN).removesuffix(IN_TWO_FILES)
         if again not in found:
             yield f"{day} isn't there in version 2 of the order file"
         elif (CASES / f"{again}.statement").read_bytes() != (CASES / f"{day}.statement").read_bytes():
@@ -118,7 +137,7 @@ def faults_of_versions(found):
 def faults_of_texts(found):
     """Each answer tells the text of its record, and an empty one where the file has none."""
     for name in sorted(name for name in found if ".answers.csv" in found[name]):
-        records = records_of(name)
+        records = records_of(name, found[name])
         for line in answers_of(name):
             if line["text"] != records[int(line["record"])].get("text", ""):
                 yield f"{name}: record {line['record']} has another text than its answer"
@@ -164,6 +183,8 @@ def entry_of(name, endings, topic, shows, rules):
     if ".in.csv" in endings:
         taken["carried"] = f"{name}.in.csv"
     taken["orders"] = f"{name}.orders.csv"
+    if later_orders(endings):
+        taken["more_orders"] = [f"{name}{ending}" for ending in later_orders(endings)]
     given = {text: f"{name}{ending}" for text, ending in GIVEN.items() if ending in endings}
     return {"case": name, "topic": topic, "shows": shows, "rules": rules, "takes": taken, "gives": given}
 
@@ -192,11 +213,15 @@ def faults_of_index(found):
             yield f"{INDEX.relative_to(ROOT)} doesn't say what the case {entry['case']} shows"
 
 
-def records_of(name):
-    """The records of an order file by their numbers, as dictionaries."""
-    with (CASES / f"{name}.orders.csv").open(newline="", encoding="utf-8-sig") as file:
-        head, *others = [record for record in csv.reader(file) if record]
-    return {number: dict(zip(head, record)) for number, record in enumerate(others, 2)}
+def records_of(name, endings):
+    """The records of the order files of a case, as dictionaries, by their numbers, which count on over all files with their headers."""
+    records, header = {}, 1
+    for ending in (".orders.csv", *later_orders(endings)):
+        with (CASES / f"{name}{ending}").open(newline="", encoding="utf-8-sig") as file:
+            head, *others = [record for record in csv.reader(file) if record]
+        records |= {number: dict(zip(head, record)) for number, record in enumerate(others, header + 1)}
+        header += len(others) + 1
+    return records
 
 
 def answers_of(name):
@@ -210,11 +235,11 @@ def value_of(field, record):
     return "date" if field == "validity" and value.isdigit() else value
 
 
-def shown_by(names):
+def shown_by(found):
     """What the cases show: the fields of accepted rows, the answers, the phases, and the kinds of trades."""
     fields, answers, phases, trades = {field: set() for field in FIELDS}, set(), set(), set()
-    for name in names:
-        records = records_of(name)
+    for name in (name for name in found if ".answers.csv" in found[name]):
+        records = records_of(name, found[name])
         for line in answers_of(name):
             answers.add(line["answer"])
             phases.add(line["phase"])
@@ -228,7 +253,7 @@ def shown_by(names):
 
 
 def faults_of_what_is_shown(found):
-    fields, answers, phases, trades = shown_by(name for name in found if ".answers.csv" in found[name])
+    fields, answers, phases, trades = shown_by(found)
     for field, wanted in FIELDS.items():
         for value in sorted(wanted - fields[field]):
             yield f"no accepted row has the {field} '{value}'"

@@ -19,8 +19,7 @@ check() {
 copy=$room/copy
 data=$copy/crates/xetra_cases/data
 # What the stand-in gives for an order file: the files NAME.statement and NAME.answers.csv, or NAME.fault. Its levels are a name, as
-# are its trades. What
-# it leaves of a day that opens with a carry file is that file with a line more.
+# are its trades. What it leaves of a day that opens with a carry file is that file, and the name of each order file.
 gives=$room/gives
 mkdir -p "$data" "$gives" "$copy/dev" "$copy/dist" "$room/rooms"
 cp -- "$here/dev/cases" "$copy/dev"
@@ -34,18 +33,26 @@ cat >"$copy/xetra-day" <<END
 END
 cat >"$copy/dist/xetra-day" <<END
 #!/bin/sh
-if [ "\$1" = carry ]; then
-    { cat "\$3"; basename "\$4"; } >"\$5"
-    cat "$gives/\$(basename "\$4" .orders.csv).statement"
+command=\$1 segment=\$2 carried=\$3
+shift 2
+[ "\$command" = run ] || shift
+name=\$(basename "\$1" .orders.csv)
+rm -f "$room/orders"
+while [ "\${1#--}" = "\$1" ]; do
+    basename "\$1" >>"$room/orders"
+    shift
+done
+if [ "\$command" = carry ]; then
+    cat "\$carried" "$room/orders" >"\$2"
+    cat "$gives/\$name.statement"
     exit
 fi
-name=\$(basename "\$3" .orders.csv)
-echo "\$2" >"$room/segment"
+echo "\$segment" >"$room/segment"
 [ ! -e "$room/killed" ] || { echo 'gone' >&2; exit 137; }
-[ ! -e "$gives/\$name.fault" ] || { true >"\$5"; cat "$gives/\$name.fault" >&2; exit 1; }
-cat "$gives/\$name.answers.csv" >"\$5"
-echo "trades of \$name" >"\$7"
-echo "\$name" >"\$9"
+[ ! -e "$gives/\$name.fault" ] || { true >"\$2"; cat "$gives/\$name.fault" >&2; exit 1; }
+cat "$gives/\$name.answers.csv" >"\$2"
+echo "trades of \$name" >"\$4"
+echo "\$name" >"\$6"
 cat "$gives/\$name.statement"
 END
 chmod +x "$copy/xetra-day" "$copy/dist/xetra-day"
@@ -75,6 +82,15 @@ check 'the common segment' "$data/segment.toml" "$(cat "$room/segment")"
 call one
 check 'a segment of its own' "$data/one.segment.toml" "$(cat "$room/segment")"
 check 'one of them, count' '1 cases, 0 differ' "$(cat "$room/out")"
+check 'one order file' 'one.orders.csv' "$(cat "$room/orders")"
+touch "$data/one.orders.2.csv" "$data/one.orders.3.csv" "$data/one.orders.5.csv"
+call one
+check 'more order files, up to the first number that is not there' 'one.orders.csv
+one.orders.2.csv
+one.orders.3.csv' "$(cat "$room/orders")"
+call --list
+check 'list, with more order files' '3 cases, 0 differ' "$(tail -n 1 "$copy/crates/xetra_cases/stdout")"
+rm -- "$data/one.orders.2.csv" "$data/one.orders.3.csv" "$data/one.orders.5.csv"
 
 printf 'DAY of one\nROWS 2 0\n' >"$data/one.statement"
 echo '3,two' >>"$data/two.answers.csv"
@@ -138,6 +154,12 @@ store_all
 
 echo header >"$data/two.in.csv"
 rm -- "$data/two.answers.csv"
+touch "$data/two.orders.2.csv"
+call --update two
+check 'update, a carry file and two order files' 'header
+two.orders.csv
+two.orders.2.csv' "$(cat "$data/two.out.csv")"
+rm -- "$data/two.orders.2.csv"
 call --update two
 check 'update, a carry file' 'header
 two.orders.csv' "$(cat "$data/two.out.csv")"

@@ -129,7 +129,7 @@ check 'help before the first build, builds' '' "$(cat "$room/builds")"
 check 'the version before the first build' "$version" "$("$copy/xetra-day" --version)"
 check 'help before the first build, commands' \
     "$(sed -n 's/^ *\.subcommand(\(.*\)_command(alloc)?)?;*$/\1/p' "$here/crates/xm_program/src/requests.rt")" \
-    "$(sed -n 's/^\(Usage:\)* *xetra-day \([a-z]*\) .*/\2/p' "$room/out")"
+    "$(sed -n 's/^\(Usage:\)* *xetra-day \([a-z]*\) .*/\2/p' "$room/out" | uniq)"
 ../copy/xetra-day run segment.toml orders.csv >"$room/out" 2>"$room/err"
 check 'a first call from another folder, status' 0 $?
 check 'a first call from another folder, on relative paths' 'segment
