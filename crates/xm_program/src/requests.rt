@@ -8,6 +8,13 @@ ghost use Rattle.xm_program.specs.Requests.{AnswersWords, Asked, Asks, IsGranted
 
 use crate::concurrency::{Concurrency, concurrency_of};
 use crate::count::Count;
+use crate::help_texts::{
+    ANSWERS_HELP, ANSWERS_SHORT, CANNOT_KEEP, CANNOT_SHARE, CANNOT_TELL, CARRIED_HELP, CARRY_HELP,
+    CARRY_SHORT, CARRY_USAGE, CHECK_HELP, CHECK_SHORT, DAY_HELP, DAY_SHORT, DEPTH_HELP,
+    DEPTH_SHORT, KEEP_HELP, KEEP_SHORT, KEPT_BY_OUT, KEPT_NOWHERE, ORDERS_AND_OUT_HELP,
+    ORDERS_HELP, RUN_HELP, RUN_SHORT, SEGMENT_HELP, STATUS_HELP, THREADS_HELP, THREADS_SHORT,
+    TOO_MANY_FILES, TRADES_HELP, TRADES_SHORT, WORKERS_HELP, WORKERS_SHORT,
+};
 use arrayvec::ArrayVec;
 use clap::error::ErrorKind;
 use clap::{Arg, ArgAction, ArgMatches, Command, Error, value_parser};
@@ -45,24 +52,6 @@ const WORKERS: &str = "workers";
 
 const THREADS: &str = "threads";
 
-const SEGMENT_HELP: &str = "The segment file (TOML): the date, the members and the securities";
-
-const CARRIED_HELP: &str = "The carry file (CSV): the orders and stops that earlier days left";
-
-const ORDERS_HELP: &str =
-    "The order files (CSV), one day in their order: each a header, then one command a row";
-
-const ORDERS_AND_OUT_HELP: &str =
-    "The order files (CSV), as of `run`; where --out is left out, one order file and OUT";
-
-const KEEP_SHORT: &str =
-    "The carry file (CSV) of the next day, which is written behind the statement";
-
-const KEEP_HELP: &str = "The carry file (CSV) of the next day, which is written behind the statement
-
-It has the orders and stops that are valid beyond the day. It is made, empty, before any file is
-read. Several order files go with --out OUT; behind one OUT may stand as it is, without --out.";
-
 /// The value of an option that is the path of a file.
 const FILE: &str = "FILE";
 
@@ -72,80 +61,6 @@ const OUT: &str = "OUT";
 /// So many files a day is read from at most, with the segment file and the carry file.
 const MAX_INPUTS: usize = MAX_FILES + 2;
 
-const DAY_SHORT: &str = "Replays a trading day of a segment of securities and writes its statement";
-
-const DAY_HELP: &str = "Replays a trading day of a segment of securities and writes its statement.
-
-docs/FORMATS.md tells all of the files that are read and written.
-`xetra-day run --help` shows a whole small day.";
-
-const RUN_SHORT: &str = "Runs the day of its files and writes its statement to standard output";
-
-const RUN_HELP: &str = "Runs the day of its files and writes its statement to standard output.
-
-ORDERS is an order file or several, 256 at most: one day, in the order given, each with a header.
-docs/FORMATS.md tells all of the files that are read and written. SEGMENT and ORDERS may be pipes,
-as /dev/stdin or <(zcat day.csv.gz), and so may FILE, as >(gzip > answers.csv.gz). A whole small
-day, whose two files can be copied as they stand:
-
-segment.toml:
-
-date = 20260105
-members = [\"ALPHA\", \"BETA\"]
-
-[[security]]
-name = \"ACME\"
-tick = 100              # the step of its prices, in ten-thousandths of a euro
-reference = \"10.00\"     # the price before the day, in euros
-dynamic = 20            # widths of its price ranges, in thousandths
-static = 50
-wide = 40
-journal = 1000000       # how many commands it takes at most
-
-orders.csv:
-
-command,member,reference,security,side,kind,limit,trigger,quantity,validity,restriction,condition
-open,,,*,,,,,,,,
-enter,ALPHA,1,ACME,buy,limit,10.05,,100,,,
-enter,BETA,1,ACME,sell,limit,9.95,,60,,,
-uncross,,,*,,,,,,,,
-close,,,*,,,,,,,,
-uncross,,,*,,,,,,,,
-end,,,*,,,,,,,,";
-
-const CARRY_SHORT: &str =
-    "Runs the day of its files with what earlier days left, and writes what it leaves";
-
-const CARRY_HELP: &str =
-    "Runs the day of its files with what earlier days left, and writes what it leaves.
-
-The statement goes to standard output, and then the carry file of the next day to OUT: the orders
-and stops that are valid beyond the day. OUT is made, empty, before any file is read. Where it is
-one of the files that are read, that is a failed write, and nothing is touched. The texts of
-`xetra-day run` may go beside the statement here too. docs/FORMATS.md tells all of the files that
-are read and written.
-
-ORDERS is an order file or several, 256 at most: one day, in the order given, each with a header.
-Several go with --out OUT; behind one OUT may stand as it is.
-
-Before the first day nothing was left:
-
-none.csv:
-
-security,member,reference,side,kind,limit,trigger,quantity,validity,restriction
-
-Two days in a row, where the segment file of the second has its date and its reference prices:
-
-xetra-day carry monday.toml none.csv monday.csv left.csv
-xetra-day carry tuesday.toml left.csv tuesday.csv left_again.csv
-
-A day in two order files:
-
-xetra-day carry monday.toml none.csv morning.csv afternoon.csv --out left.csv";
-
-const CARRY_USAGE: &str = "xetra-day carry [OPTIONS] <SEGMENT> <IN> <ORDERS>... --out <OUT>
-       xetra-day carry [OPTIONS] <SEGMENT> <IN> <ORDERS> <OUT>";
-
 const ANSWERS: &str = "answers";
 
 const TRADES: &str = "trades";
@@ -154,80 +69,6 @@ const DEPTH: &str = "depth";
 
 /// By this word a file is standard output, where the statement goes.
 const STANDARD_OUTPUT: &str = "-";
-
-const CANNOT_TELL: &str =
-    "--answers, --trades and --depth go with one worker, and with a file each: standard output has the statement";
-
-const CANNOT_SHARE: &str =
-    "--threads goes with one worker: each of several takes its rows on a thread of its own";
-
-const CANNOT_KEEP: &str = "OUT is a file: standard output has the statement";
-
-const TOO_MANY_FILES: &str = "a day has at most 256 order files";
-
-const KEPT_NOWHERE: &str =
-    "OUT is missing, the carry file of the next day: it stands behind the order file, or behind --out";
-
-const KEPT_BY_OUT: &str = "several order files go with --out OUT";
-
-const ANSWERS_SHORT: &str =
-    "Writes the answer to each row, and the market after it, to this file (CSV)";
-
-const ANSWERS_HELP: &str =
-    "Writes the answer to each row, and the market after it, to this file (CSV)
-
-With a record that has a free text, as an order file of version 2 may have it, its text is told. The
-file is made before any file is read, and written behind the statement. docs/FORMATS.md tells of
-each field. It goes with one worker.";
-
-const TRADES_SHORT: &str = "Writes each trade, and the row that set it off, to this file (CSV)";
-
-const TRADES_HELP: &str = "Writes each trade, and the row that set it off, to this file (CSV)
-
-A line a trade, in the order of the rows: record,security,sweep,kind,price,quantity,buyer,
-buy_reference,seller,sell_reference,text. The file is made before any file is read, and written
-behind the statement and the answers. docs/FORMATS.md tells of each field. It goes with one worker.";
-
-const DEPTH_SHORT: &str =
-    "Writes the best levels of both sides, behind each row that changed them, to this file (CSV)";
-
-const DEPTH_HELP: &str =
-    "Writes the best levels of both sides, behind each row that changed them, to this file (CSV)
-
-Five limits of each side with the units that rest at them, and the units of market orders, as far as
-they are active in the phase. The file is made before any file is read, and written behind the
-statement, the answers and the trades. docs/FORMATS.md tells of each field. It goes with one worker.";
-
-const WORKERS_SHORT: &str = "How many workers take the rows of members, side by side";
-
-const WORKERS_HELP: &str = "How many workers take the rows of members, side by side: 1 to 64
-
-One worker takes all rows in the order of the files. More take each member's rows in their order,
-and the members side by side, as an exchange meets them, so that two runs may differ where members
-compete. They are not faster: a command is shorter than the hand-over of a lock.";
-
-const THREADS_SHORT: &str = "On how many threads the rows are taken, in the order of the files";
-
-const THREADS_HELP: &str =
-    "On how many threads the rows are taken, in the order of the files: 1 to 64
-
-By default on as many as there are processors where the order files have 700,000 bytes or more
-together, some 20,000 rows, and else on one. What is written is what one thread writes, byte for
-byte. Each thread takes the rows of securities of its own while a file is read ahead of it, so a day
-of one security gains from the reading alone. It goes with one worker.";
-
-const CHECK_SHORT: &str = "Checks a segment file and writes how many securities and members it has";
-
-const CHECK_HELP: &str = "Checks a segment file and writes how many securities and members it has.
-
-The line is `OK <securities> securities <members> members`. The first fault ends the check: of the
-segment file, of the opening of the segment, of the writing. docs/FORMATS.md tells of each.";
-
-const STATUS_HELP: &str = "Exit status:
-  0  it is done: the statement or the line was written
-  1  it is not done: standard error has one line that names the fault
-  2  the command line is mistaken
-  3  the script xetra-day has no program to run: standard error says why";
 
 /// What a command line asks for.
 #[derive(Debug, Drop)]
