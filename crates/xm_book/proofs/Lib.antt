@@ -6,7 +6,6 @@ pub mod FirstKinds
 pub mod Firsts
 pub mod Growing
 pub mod Heading
-pub mod InTime
 pub mod Indexing
 pub mod Joining
 pub mod Keeping

@@ -35,7 +35,3 @@ pub record Reserves (place : Place) (old new : TimeList) : Type 0 where
 
 abbrev pub is_known : ℕ → ℕ → TimeList → Bool
 is_known member reference l = list_any (is_named member reference) l.orders
-
--- the references of a member's orders, in time order
-abbrev pub references_of : ℕ → List Order → List ℕ
-references_of member orders = map (λ (o : Order). o.reference) (filter (λ (o : Order). o.member == member) orders)

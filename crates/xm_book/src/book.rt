@@ -1,16 +1,17 @@
 //! The book of one security.
-ghost use Rattle.std.specs.Prelude.{◌≡◌, ◌+◌, ◌++◌, ◌∷◌, ◌*◌, ◌<◌, ◌≤◌, ◌^◌, [], Contains, IsTrue, filter, length, find, false, option_copied, IfOk, IfSome, OnErr, OnOk};
+ghost use Rattle.std.specs.Prelude.{◌≡◌, ◌+◌, ◌++◌, ◌∷◌, ◌*◌, ◌<◌, ◌≤◌, ◌==◌, ◌^◌, [], Contains, IsTrue, filter, map, length, find, false, option_copied, IfOk, IfSome, OnErr, OnOk};
 ghost use Rattle.std.specs.Option.{option_map};
 ghost use Rattle.xm_book.specs.declared.places.TheConstants.{MAX_PLACES};
 ghost use Rattle.xm_book.specs.Curves.{units_between, worst_within};
 ghost use Rattle.xm_book.specs.Places.{SamePlaces, place_of};
 ghost use Rattle.xm_book.specs.Queues.{best_order, level_after, market_sum, next_order, taken_from};
-ghost use Rattle.xm_book.specs.TimeList.{IsBook, Reserves, is_known, is_reserved, references_of};
+ghost use Rattle.xm_book.specs.TimeList.{IsBook, Reserves, is_known, is_reserved};
 ghost use Rattle.xm_price_maps.specs.Sums.{groups_of, places_of};
 ghost use Rattle.xm_price_maps.specs.declared.marks.TheConstants.{PRICES};
 ghost use Rattle.xm_rules.specs.Active.{active, limits};
 ghost use Rattle.xm_rules.specs.Commands.{is_in_range, outlasts};
 ghost use Rattle.xm_rules.specs.declared.orders.Order.{Order};
+ghost use Rattle.xm_slots.specs.declared.entry.Entry.{Entry};
 ghost use Rattle.xm_rules.specs.Orders.{is_named, removed, with_rest, without_member};
 ghost use Rattle.xm_rules.specs.Sides.{best};
 
@@ -66,6 +67,17 @@ fn order_of(found: Option<&Entry<Order>>) -> Option<&Order>
     }
 }
 
+/// The orders of entries.
+fn items_of<A: Allocator + Copy>(
+    entries: &Vec<Entry<Order>, A>,
+) -> Result<Vec<Order, A>, OutOfMemory>
+    ensures { IfOk result (λ orders. orders.items ≡ map (λ (e : Entry Order). e.item) entries.now.items) }
+{
+    let alloc = *entries.allocator();
+    let orders = entries.iter().map(|entry| entry.item).collect(alloc)?;
+    Ok(orders)
+}
+
 impl<A: Allocator + Copy> Book<A> {
     /// A book with no order, which takes no memory.
     pub fn new(storage: Storage<A>) -> Book<A>
@@ -81,23 +93,17 @@ impl<A: Allocator + Copy> Book<A> {
     pub fn orders(&self) -> Result<Vec<Order, A>, OutOfMemory>
         ensures { IfOk result (λ orders. orders.items ≡ self.now.orders) }
     {
-        let entries = self.queues.in_time(None)?;
-        let alloc = *entries.allocator();
-        let orders = entries.iter().map(|entry| entry.item).collect(alloc)?;
-        Ok(orders)
+        let entries = self.queues.in_time()?;
+        items_of(&entries)
     }
 
-    /// The references of a member's orders, in time order, or `OutOfMemory` where the answer can't be held.
-    pub fn of_member(&self, member: u32) -> Result<Vec<u32, A>, OutOfMemory>
-        ensures { IfOk result (λ references. references.items ≡ references_of member self.now.orders) }
+    /// A member's orders in time order, or `OutOfMemory` where the answer can't be held. The cost grows with their number alone.
+    pub fn of_member(&self, member: u32) -> Result<Vec<Order, A>, OutOfMemory>
+        ensures { IfOk result (λ orders. orders.items ≡ filter (λ (o : Order). o.member == member) self.now.orders) }
     {
-        let entries = self.queues.in_time(Some(member))?;
-        let alloc = *entries.allocator();
-        let references = entries
-            .iter()
-            .map(|entry| entry.item.reference)
-            .collect(alloc)?;
-        Ok(references)
+        let names = self.names.of_member(member)?;
+        let entries = self.queues.named_in_time(&names)?;
+        items_of(&entries)
     }
 
     /// How many orders there are.

@@ -1,19 +1,11 @@
 //! Orders, as what lies under keys.
-ghost use Rattle.xm_book.specs.Listing.{order_owner, reduced_to};
+ghost use Rattle.xm_book.specs.Listing.{reduced_to};
 
 use xm_rules::Order;
-use xm_slots::{Owners, Rests};
+use xm_slots::Rests;
 
-/// Whose orders are, and how they become less.
+/// How orders become less.
 pub struct OrderItems;
-
-impl Owners<Order> for OrderItems {
-    ghost owner_of = { order_owner };
-
-    fn owner(item: &Order) -> u32 {
-        item.member
-    }
-}
 
 impl Rests<Order> for OrderItems {
     ghost reduced_to = { reduced_to };

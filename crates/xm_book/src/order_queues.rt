@@ -1,18 +1,18 @@
 //! The orders of a book in their queues.
-ghost use Rattle.std.specs.Prelude.{◌≡◌, ◌+◌, ◌++◌, ◌*◌, ◌∷◌, [], ◌<◌, ◌≤◌, ◌^◌, ◌&&◌, Contains, IfOk, IfSome, IsSome, IsTrue, OnErr, OnOk, Some, filter, length, map, option_copied, sum_by, true};
+ghost use Rattle.std.specs.Prelude.{◌≡◌, ℕ, ◌+◌, ◌++◌, ◌*◌, ◌∷◌, [], ◌<◌, ◌≤◌, ◌^◌, ◌&&◌, Contains, IfOk, IfSome, IsSome, IsTrue, OnErr, OnOk, Some, filter, length, map, option_copied, sum_by, true};
 ghost use Rattle.std.specs.List.{list_all, list_any};
 ghost use Rattle.std.specs.Option.{option_map};
 ghost use Rattle.xm_slots.specs.Listing.{is_below, listed_item, is_other_key, keys_in, listed_entry, rises};
 ghost use Rattle.xm_book.specs.declared.places.TheConstants.{MAX_PLACES};
 ghost use Rattle.xm_ticks.specs.declared.numbers.TheConstants.{MAX_QUANTITY};
 ghost use Rattle.xm_book.specs.Fronts.{IsBestOf, IsFirstOf, IsKindOfFirst, better_of_two, earlier_of_two, goes_ahead, has_kind, has_kind_later, has_limit_in, has_worse, is_any, is_earlier, is_in, is_on, lies_within};
-ghost use Rattle.xm_book.specs.Listing.{order_owner, reduced_at};
+ghost use Rattle.xm_book.specs.Listing.{order_owner, order_reference, reduced_at};
 ghost use Rattle.xm_book.specs.Places.{place_of, same_place};
 ghost use Rattle.xm_book.specs.Curves.{units_between};
 ghost use Rattle.xm_book.specs.Queued.{units_in};
 ghost use Rattle.xm_book.specs.Queues.{units_at};
 ghost use Rattle.xm_book.specs.Reserved.{Gains};
-ghost use Rattle.xm_slots.specs.Slots.{is_of};
+ghost use Rattle.xm_slots.specs.Naming.{AreNamesOf, is_owned};
 ghost use Rattle.xm_slots.specs.declared.listing.Listed.{Listed};
 ghost use Rattle.xm_price_maps.specs.Sums.{groups_of, places_of};
 ghost use Rattle.xm_price_maps.specs.declared.marks.TheConstants.{PRICES};
@@ -181,12 +181,20 @@ impl<A: Allocator + Copy> OrderQueues<A> {
 }
 
 impl<A: Allocator + Copy> OrderQueues<A> {
-    /// The orders in time order, each with the number of its add: those of a member, or all where no member is named, or
-    /// `OutOfMemory` where the answer can't be held.
-    pub fn in_time(&self, member: Option<u32>) -> Result<Vec<Entry<Order>, A>, OutOfMemory>
-        ensures { IfOk result (λ entries. entries.items ≡ filter (is_of order_owner member) (map listed_entry self.now.orders)) }
+    /// The orders in time order, each with the number of its add, or `OutOfMemory` where the answer can't be held.
+    pub fn in_time(&self) -> Result<Vec<Entry<Order>, A>, OutOfMemory>
+        ensures { IfOk result (λ entries. entries.items ≡ map listed_entry self.now.orders) }
     {
-        let mut entries = self.entries.entries_of::<OrderItems>(member)?;
+        let mut entries = self.entries.entries()?;
+        entries.sort_unstable_by_key(|entry| entry.time);
+        Ok(entries)
+    }
+
+    /// Those that have these names: all of one member.
+    pub fn named_in_time(&self, names: &[(u32, usize)]) -> Result<Vec<Entry<Order>, A>, OutOfMemory>
+        ensures { IfOk result (λ entries. (member : ℕ) → AreNamesOf order_owner order_reference member self.now.orders names.now → entries.items ≡ filter (is_owned order_owner order_reference member) (map listed_entry self.now.orders)) }
+    {
+        let mut entries = self.entries.entries_under(names)?;
         entries.sort_unstable_by_key(|entry| entry.time);
         Ok(entries)
     }

@@ -10,7 +10,7 @@ use Rattle.xm_name_index.specs.declared.slot.Slot.{Slot}
 use Rattle.xm_name_index.specs.declared.slot.TheConstants.{VACANT}
 
 -- a slot without a name has_reference that of no reference
-vacant-has : (r : ℕ) (s : Slot) → is_vacant s ≡ true → has_reference r s ≡ false
+pub vacant-has : (r : ℕ) (s : Slot) → is_vacant s ≡ true → has_reference r s ≡ false
 vacant-has r s e = grind (arith, nat_tests, e)
 
 -- a slot with a name has_reference that of its own reference

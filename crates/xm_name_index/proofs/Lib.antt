@@ -1,6 +1,7 @@
 mod Buckets
 mod Entries
 mod Joined
+mod Listed
 mod Noted
 mod Placed
 mod Retained

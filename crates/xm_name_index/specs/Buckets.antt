@@ -24,6 +24,10 @@ key_for r s = if s.reference == r then s.key else VACANT
 abbrev pub key_in : ℕ → List Slot → Option ℕ
 key_in r slots = option_map (λ (s : Slot). s.key) (find (has_reference r) slots)
 
+-- the name that a slot has, with its key
+abbrev pub slot_name : Slot → List (ℕ × ℕ)
+slot_name s = if is_vacant s then [] else (s.reference, s.key) ∷ []
+
 -- no two slots have the name of one reference
 abbrev pub AreNamedApart : List Slot → Type 0
 AreNamedApart [] = Unit {0}

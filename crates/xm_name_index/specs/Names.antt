@@ -1,5 +1,7 @@
 -- The names of members: a member's own references, each with a key.
 use Rattle.std.specs.Prelude.{◌≡◌, ◌≢◌, ◌≤◌, ℕ, Bool, false, if◌then◌else◌, nat_eq, nat_lt, List, Option, Some, None, IfSome, length, position, slice_get}
+use Rattle.std.specs.List.{IsDistinct}
+use Rattle.std.specs.Map.{keys_of}
 use Rattle.std.specs.Map as map
 use Rattle.xm_name_index.specs.declared.members.TheConstants.{NOWHERE}
 use Rattle.xm_name_index.specs.declared.seed.Seed.{Seed}
@@ -32,6 +34,11 @@ reserved_among (Some names) = names.reserved
 abbrev pub Retains : (ℕ → Bool → Type 0) → Option ℕ → Option ℕ → Type 0
 Retains answers None left = left ≡ None
 Retains answers (Some key) left = (passes : Bool) × answers key passes × (left ≡ (if passes then Some key else None))
+
+-- these are all names that have keys, each once
+pub record AreAllNames (keys : ℕ → Option ℕ) (names : List (ℕ × ℕ)) : Type 0 where
+  pub keyed : (reference : ℕ) → map.lookup (nat_eq reference) names ≡ keys reference
+  pub once : IsDistinct nat_eq (keys_of names)
 
 -- the names of a member, where it has had any
 abbrev pub names_of : List (ℕ × NamesOfMember) → ℕ → Option NamesOfMember

@@ -1,11 +1,14 @@
 //! A bucket of names.
-ghost use Rattle.std.specs.Prelude.{◌≡◌, ℕ, None, Some, IfNone, IfSome, IsSome, IsTrue, not, false, find, option_copied, position, if◌then◌else◌, ◌==◌, ◌<◌};
-ghost use Rattle.xm_name_index.specs.Buckets.{AreNamedApart, Leaves, is_occupied, is_vacant, key_in};
+ghost use Rattle.std.specs.List.{flat_map};
+ghost use Rattle.std.specs.Prelude.{◌≡◌, ◌++◌, OnOk, ℕ, None, Some, IfNone, IfSome, IsSome, IsTrue, not, false, find, option_copied, position, if◌then◌else◌, ◌==◌, ◌<◌};
+ghost use Rattle.xm_name_index.specs.Buckets.{AreNamedApart, Leaves, is_occupied, is_vacant, key_in, slot_name};
 ghost use Rattle.xm_name_index.specs.declared.slot.TheConstants.{VACANT};
 ghost use Rattle.xm_name_index.specs.declared.slot.Slot.{Slot};
 
 use crate::slot::{SLOTS, Slot, VACANT};
+use std::alloc::Allocator;
 use std::marker::Model;
+use xm_memory::OutOfMemory;
 
 /// Up to four names, each reference once. A clause sees the slots.
 #[derive(Drop)]
@@ -143,5 +146,17 @@ impl Bucket {
             Some(slot) => Some(slot.reference),
             None => None,
         }
+    }
+
+    /// Adds each name with its key.
+    pub fn list<A: Allocator>(&self, names: &mut Vec<(u32, usize), A>) -> Result<(), OutOfMemory>
+        ensures listed { OnOk result (names.new.items ≡ names.old.items ++ flat_map slot_name self.now) }
+        ensures apart { AreNamedApart self.now }
+    {
+        let [a, b, c, d] = self.slots;
+        a.list(names)?;
+        b.list(names)?;
+        c.list(names)?;
+        d.list(names)
     }
 }

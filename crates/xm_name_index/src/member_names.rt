@@ -1,7 +1,8 @@
 //! The names of one member.
-ghost use Rattle.std.specs.Prelude.{◌≡◌, ℕ, ◌+◌, ◌-◌, ◌<◌, ◌==◌, None, Some, IfNone, IfSome, OnErr, OnOk, if◌then◌else◌, nat_eq};
-ghost use Rattle.xm_name_index.specs.Names.{Retains, key_of};
+ghost use Rattle.std.specs.Prelude.{◌≡◌, ℕ, ◌++◌, ◌+◌, ◌-◌, ◌<◌, ◌==◌, None, Some, IfNone, IfOk, IfSome, OnErr, OnOk, if◌then◌else◌, nat_eq};
+ghost use Rattle.xm_name_index.specs.Names.{AreAllNames, Retains, key_of};
 ghost use Rattle.xm_name_index.specs.Tables.{table_key};
+ghost use Rattle.indexmap.specs.IndexMap.{IsUnique};
 ghost use Rattle.std.specs.Map as map;
 
 use crate::seed::Seed;
@@ -212,6 +213,15 @@ impl<A: Allocator> MemberNames<A> {
         );
     }
 
+    /// All names with their keys, each once, in no order.
+    pub fn names<B: Allocator>(&self, alloc: B) -> Result<Vec<(u32, usize), B>, OutOfMemory>
+        ensures { IfOk result (λ names. AreAllNames (λ r. key_of r self.now) names.items) }
+    {
+        let mut names = self.table.names(alloc)?;
+        list_rest(&self.rest, &mut names)?;
+        Ok(names)
+    }
+
     /// Takes any one reference out, and answers it with its key.
     pub fn pop(&mut self, seed: Seed) -> Option<(u32, usize)>
         requires { seed ≡ self.old.table.seed }
@@ -231,4 +241,19 @@ impl<A: Allocator> MemberNames<A> {
             }
         }
     }
+}
+
+/// Adds the names that found no place in a table, with their keys.
+fn list_rest<A: Allocator, B: Allocator>(
+    rest: &IndexMap<u32, usize, Seed, A>,
+    names: &mut Vec<(u32, usize), B>,
+) -> Result<(), OutOfMemory>
+    ensures listed { OnOk result (names.new.items ≡ names.old.items ++ rest.now.entries) }
+    ensures unique { IsUnique nat_eq rest.now }
+{
+    for index in 0..rest.len() {
+        let (reference, key) = rest.get_index(index).unwrap();
+        names.push((*reference, *key))?;
+    }
+    Ok(())
 }

@@ -1,9 +1,9 @@
 //! The tables of all members.
 #![tactic(auto, unfolding(crate::specs::Names::lookup, crate::specs::Names::reserved))]
 
-ghost use Rattle.std.specs.Prelude.{◌≡◌, ℕ, List, true, ◌+◌, ◌-◌, ◌<◌, ◌==◌, ◌&&◌, None, Some, IfNone, IfSome, IsTrue, OnErr, OnOk, if◌then◌else◌, nat_eq, position, slice_get};
+ghost use Rattle.std.specs.Prelude.{◌≡◌, ℕ, List, true, ◌+◌, ◌-◌, ◌<◌, ◌==◌, ◌&&◌, None, Some, IfNone, IfOk, IfSome, IsTrue, OnErr, OnOk, if◌then◌else◌, nat_eq, position, slice_get};
 ghost use Rattle.std.specs.Map.{keys_of};
-ghost use Rattle.xm_name_index.specs.Names.{Retains, AreNoted, StandsAt, key_of, lookup, names_of, reserved};
+ghost use Rattle.xm_name_index.specs.Names.{AreAllNames, Retains, AreNoted, StandsAt, key_of, lookup, names_of, reserved};
 
 use crate::member_names::MemberNames;
 use crate::seed::Seed;
@@ -88,6 +88,22 @@ impl<A: Allocator + Copy> Members<A> {
         self.members.insert(member, names)?;
         self.note(member, place);
         Ok(())
+    }
+}
+
+impl<A: Allocator + Copy> Members<A> {
+    /// All names of a member with their keys, each once, in no order.
+    pub fn of_member(&self, member: u32) -> Result<Vec<(u32, usize), A>, OutOfMemory>
+        ensures { IfOk result (λ names. AreAllNames (λ r. lookup self.now member r) names.items) }
+    {
+        let alloc = *self.members.allocator();
+        match self.place(member) {
+            Some(place) => {
+                let (_member, names) = self.members.get_index(place).unwrap();
+                names.names(alloc)
+            }
+            None => Ok(Vec::new(alloc)),
+        }
     }
 }
 

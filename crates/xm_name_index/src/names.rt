@@ -1,6 +1,6 @@
 //! The names of all members.
-ghost use Rattle.std.specs.Prelude.{◌≡◌, ℕ, List, true, false, ◌+◌, ◌-◌, ◌<◌, ◌==◌, ◌&&◌, None, Some, IfNone, IfSome, IsTrue, OnErr, OnOk, if◌then◌else◌};
-ghost use Rattle.xm_name_index.specs.Names.{Retains, is_above, lookup, reserved};
+ghost use Rattle.std.specs.Prelude.{◌≡◌, ℕ, List, true, false, ◌+◌, ◌-◌, ◌<◌, ◌==◌, ◌&&◌, None, Some, IfNone, IfOk, IfSome, IsTrue, OnErr, OnOk, if◌then◌else◌};
+ghost use Rattle.xm_name_index.specs.Names.{AreAllNames, Retains, is_above, lookup, reserved};
 
 use crate::members::Members;
 use crate::storage::Storage;
@@ -55,6 +55,16 @@ impl<A: Allocator + Copy> Names<A> {
             self.begin()?;
         }
         self.members.reserve(member)
+    }
+}
+
+impl<A: Allocator + Copy> Names<A> {
+    /// All names of a member with their keys, each once, in no order, at a cost that grows with their number and with what room for
+    /// the member's names is left.
+    pub fn of_member(&self, member: u32) -> Result<Vec<(u32, usize), A>, OutOfMemory>
+        ensures { IfOk result (λ names. AreAllNames (λ r. lookup self.now member r) names.items) }
+    {
+        self.members.of_member(member)
     }
 }
 

@@ -1,7 +1,10 @@
 //! One slot of a bucket.
-ghost use Rattle.std.specs.Prelude.{◌≡◌, ◌==◌, true, not, if◌then◌else◌};
-ghost use Rattle.xm_name_index.specs.Buckets.{LeavesSlot, is_vacant, key_for};
+ghost use Rattle.std.specs.Prelude.{◌≡◌, ◌==◌, ◌++◌, OnOk, true, not, if◌then◌else◌};
+ghost use Rattle.xm_name_index.specs.Buckets.{LeavesSlot, is_vacant, key_for, slot_name};
 ghost use Rattle.xm_name_index.specs.declared.slot.TheConstants.{SLOTS};
+
+use std::alloc::Allocator;
+use xm_memory::OutOfMemory;
 
 /// How many names have room in a bucket.
 pub const SLOTS: usize = 4;
@@ -52,6 +55,16 @@ impl Slot {
         } else {
             VACANT
         }
+    }
+
+    /// Adds the name that the slot has, with its key.
+    pub fn list<A: Allocator>(&self, names: &mut Vec<(u32, usize), A>) -> Result<(), OutOfMemory>
+        ensures { OnOk result (names.new.items ≡ names.old.items ++ slot_name self.now) }
+    {
+        if !self.is_vacant() {
+            names.push((self.reference, self.key as usize))?;
+        }
+        Ok(())
     }
 
     /// The slot, which loses its name where that has this reference.

@@ -1,6 +1,6 @@
 //! A table of names.
-ghost use Rattle.std.specs.Prelude.{◌≡◌, ◌≢◌, ◌<◌, ◌≤◌, ◌*◌, ◌^◌, ℕ, [], None, Some, IfNone, IfSome, IsSome, IsTrue, OnErr, false, if◌then◌else◌, ◌==◌, length};
-ghost use Rattle.xm_name_index.specs.Names.{Retains};
+ghost use Rattle.std.specs.Prelude.{◌≡◌, ◌≢◌, ◌<◌, ◌≤◌, ◌*◌, ◌^◌, ℕ, [], None, Some, IfNone, IfOk, IfSome, IsSome, IsTrue, OnErr, false, if◌then◌else◌, ◌==◌, length};
+ghost use Rattle.xm_name_index.specs.Names.{AreAllNames, Retains};
 ghost use Rattle.xm_name_index.specs.Tables.{home, home_among, key_at, table_key};
 ghost use Rattle.xm_name_index.specs.Buckets.{key_in};
 
@@ -188,6 +188,17 @@ impl<A: Allocator> NameTable<A> {
                 ensures { F.post passes.entry.now slot.key result }
             { passes(slot.key as usize) },
         );
+    }
+
+    /// All names with their keys, each once, in no order.
+    pub fn names<B: Allocator>(&self, alloc: B) -> Result<Vec<(u32, usize), B>, OutOfMemory>
+        ensures { IfOk result (λ names. AreAllNames (table_key self.now) names.items) }
+    {
+        let mut names = Vec::new(alloc);
+        for index in self.first as usize..self.buckets.len() {
+            self.buckets[index].list(&mut names)?;
+        }
+        Ok(names)
     }
 
     /// Gives most buckets back, where there are many and `pop` has found no name.

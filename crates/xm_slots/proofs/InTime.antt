@@ -6,15 +6,15 @@ use Rattle.std.specs.Prelude.{nat_le}
 use Rattle.std.proofs.lemmas.Bool.{and_parts, leb-true}
 use Rattle.std.proofs.lemmas.List.{length-map}
 use Rattle.std.proofs.lemmas.List.Elements.{All-cons, All-contains, All-nil, All-weaker}
-use Rattle.std.proofs.lemmas.List.Sorted.{Contains-permutation, length_permutation, sum_by-IsPermutation}
-use Rattle.std.proofs.lemmas.List.Sums.{length-filter, sum_by-cons}
+use Rattle.std.proofs.lemmas.List.Sorted.{Contains-permutation, length_permutation}
+use Rattle.std.proofs.lemmas.List.Sums.{sum_by-cons}
 use Rattle.xm_slots.specs.Listing.{listed_entry, rises, LiesAt, time_of}
-use Rattle.xm_slots.specs.Slots.{SlotsView, entries_of, get, is_of, used}
+use Rattle.xm_slots.specs.Slots.{SlotsView, all_entries, get, used}
 use Rattle.xm_slots.specs.declared.entry.Entry.{Entry}
 use Rattle.xm_slots.specs.declared.listing.Listed.{Listed}
-use Rattle.xm_slots.proofs.Members.{Contains-filter, Contains-here, Contains-there, IsMade-map, Passes-filter}
+use Rattle.xm_slots.proofs.Members.{Contains-here, Contains-there, IsMade-map}
 use Rattle.xm_slots.proofs.Tests.{same_some}
-use Rattle.xm_slots.proofs.Rising.{IsRising, rearranged, rising-filter, sorted-same}
+use Rattle.xm_slots.proofs.Rising.{IsRising, rearranged, sorted-same}
 
 module _ {I : Type 0} where
   -- ---- the entries of the slots
@@ -49,7 +49,7 @@ module _ {I : Type 0} where
       let parts = and_parts (nat_le low x.time) (rises (x.time + 1) xs high) h in
       (All-weaker (λ (e : Entry I). x.time + 1 ≤ e.time) (λ (e : Entry I). x.time < e.time) (λ e le. omega arith) (map listed_entry xs) (no-lower (x.time + 1) high xs parts.1), times-rise (x.time + 1) high xs parts.1)
 
-  module _ (owner : I → ℕ) (xs : List (Listed I)) (adds : ℕ) (slots : SlotsView I) (lie : All (LiesAt slots) xs) (count : used slots ≡ length xs) (rise : rises 0 xs adds ≡ true) where
+  module _ (xs : List (Listed I)) (adds : ℕ) (slots : SlotsView I) (lie : All (LiesAt slots) xs) (count : used slots ≡ length xs) (rise : rises 0 xs adds ≡ true) where
     abbrev all_in_time : List (Entry I)
     all_in_time = map listed_entry xs
 
@@ -58,21 +58,16 @@ module _ {I : Type 0} where
         let made = IsMade-map listed_entry xs e at in
         entry-there slots.slots made.from.key e (All-contains (LiesAt slots) xs made.from lie made.contains ∙ ap (λ (x : Entry I). Some x) made.made)
 
-    -- they are those of the list in another order
-    same-entries : IsPermutation (entries_in slots.slots) all_in_time
-    same-entries = rearranged time_of all_in_time (entries_in slots.slots) (times-rise 0 adds xs rise) each-there (entries-length slots.slots ∙ count ∙ sym (length-map xs listed_entry))
+    as-many : length (entries_in slots.slots) ≡ length all_in_time
+    as-many = entries-length slots.slots ∙ count ∙ sym (length-map xs listed_entry)
 
-    -- what lies under a key is an entry of the list
+    -- what lies under a key is an entry of the list, of which they are all in another order
     pub held-in-time : (key : ℕ) (slot : Option (Entry I)) → slot ≡ get slots key → IfSome slot (Contains all_in_time)
     held-in-time key None here = tt
-    held-in-time key (Some e) here = Contains-permutation (entries_in slots.slots) all_in_time e same-entries (entry-there slots.slots key e (sym here))
+    held-in-time key (Some e) here =
+        Contains-permutation (entries_in slots.slots) all_in_time e (rearranged time_of all_in_time (entries_in slots.slots) (times-rise 0 adds xs rise) each-there as-many) (entry-there slots.slots key e (sym here))
 
-    -- sorted, they are in order of entry, those of an owner as well as all
-    pub in-time : (member : Option ℕ) (zs : List (Entry I)) → IsPermutation (entries_of owner member slots) zs → IsNonDecreasingBy time_of zs → zs ≡ filter (is_of owner member) all_in_time
-    in-time member zs moved up =
-        sorted-same time_of zs (filter (is_of owner member) all_in_time) (rising-filter time_of (is_of owner member) all_in_time (times-rise 0 adds xs rise)) up
-        (λ e at.
-        (let passes = Passes-filter (is_of owner member) all_in_time e at in
-        Contains-permutation (entries_of owner member slots) zs e moved (Contains-filter (is_of owner member) (entries_in slots.slots) e passes.passes (each-there e passes.contains))))
-        (length_permutation (entries_of owner member slots) zs moved ∙ length-filter (is_of owner member) (entries_in slots.slots)
-        ∙ sym (sum_by-IsPermutation (λ (e : Entry I). cond (is_of owner member e) 1 0) (entries_in slots.slots) all_in_time same-entries) ∙ sym (length-filter (is_of owner member) all_in_time))
+    -- sorted, they are in order of entry
+    pub in-time : (zs : List (Entry I)) → IsPermutation (all_entries slots) zs → IsNonDecreasingBy time_of zs → zs ≡ all_in_time
+    in-time zs moved up =
+        sorted-same time_of zs all_in_time (times-rise 0 adds xs rise) up (λ e at. Contains-permutation (all_entries slots) zs e moved (each-there e at)) (length_permutation (all_entries slots) zs moved ∙ as-many)

@@ -6,6 +6,7 @@ pub mod Keeping
 pub mod Leaving
 pub mod Members
 pub mod Naming
+pub mod OfOwner
 pub mod Rising
 pub mod SlotKeys
 pub mod Tests

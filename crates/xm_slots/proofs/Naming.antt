@@ -22,7 +22,7 @@ same_tests true t h k = sym (h refl)
 same_tests false true h k = k refl
 same_tests false false h k = refl
 
-not-true : (b : Bool) → not b ≡ true → b ≡ false
+pub not-true : (b : Bool) → not b ≡ true → b ≡ false
 not-true true h = absurd (cc)
 not-true false h = refl
 

@@ -1,5 +1,5 @@
 -- Entries under keys, as a clause sees them.
-use Rattle.std.specs.Prelude.{◌≡◌, ◌≢◌, ◌==◌, ℕ, Bool, true, List, Option, None, Some, is_some, IsSome, count_by, filter, filter_map, slice_index_or}
+use Rattle.std.specs.Prelude.{◌≡◌, ◌≢◌, ℕ, List, Option, None, is_some, IsSome, count_by, filter_map, slice_index_or}
 use Rattle.xm_slots.specs.declared.entry.Entry.{Entry}
 
 -- the entry or nothing under each key from 0 on, and for how many entries there is room
@@ -24,12 +24,11 @@ module _ {I : Type 0} where
     pub changed : get new key ≡ slot
     pub others : (other : ℕ) → other ≢ key → get new other ≡ get old other
 
-module _ {I : Type 0} (owner_of : I → ℕ) where
-  -- an entry of this owner, or any where no owner is named
-  abbrev pub is_of : Option ℕ → Entry I → Bool
-  is_of None e = true
-  is_of (Some owner) e = owner_of e.item == owner
+module _ {I : Type 0} where
+  -- all entries, by rising key
+  abbrev pub all_entries : SlotsView I → List (Entry I)
+  all_entries s = filter_map (λ slot. slot) s.slots
 
-  -- the entries of an owner, or all, by rising key
-  abbrev pub entries_of : Option ℕ → SlotsView I → List (Entry I)
-  entries_of owner s = filter (is_of owner) (filter_map (λ slot. slot) s.slots)
+  -- those under the keys of these names, in the order of the names
+  abbrev pub entries_under : List (ℕ × ℕ) → SlotsView I → List (Entry I)
+  entries_under names s = filter_map (λ (name : ℕ × ℕ). get s name.1) names

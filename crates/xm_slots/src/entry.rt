@@ -8,16 +8,6 @@ pub struct Entry<I> {
     pub time: u64,
 }
 
-/// Whose items of a kind are. Whoever keeps such items says it by a type of its own.
-pub trait Owners<I> {
-    /// The number of an item's owner.
-    ghost owner_of: { I → ℕ };
-
-    /// The number of an item's owner.
-    fn owner(item: &I) -> u32
-        ensures { result ≡ owner_of item.now };
-}
-
 /// How items of a kind become less where they are. Whoever keeps such items says it by a type of its own.
 pub trait Rests<I> {
     /// The item with this rest.

@@ -7,7 +7,7 @@ mod room;
 mod slot;
 mod slots;
 
-pub use crate::entry::{Entry, Owners, Rests};
+pub use crate::entry::{Entry, Rests};
 pub use crate::listing::{Listed, Listing};
 pub use crate::room::hold;
 pub use crate::slot::VACANT;

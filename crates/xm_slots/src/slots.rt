@@ -1,11 +1,12 @@
 //! Entries under keys that are given and come back.
-ghost use Rattle.std.specs.Prelude.{◌≡◌, ℕ, ◌+◌, ◌<◌, ◌≤◌, [], None, Some, IfOk, IsSome, OnErr, OnOk, length, option_copied};
+ghost use Rattle.std.specs.Prelude.{◌≡◌, ℕ, ◌+◌, ◌++◌, ◌<◌, ◌≤◌, [], None, Some, IfOk, IsSome, OnErr, OnOk, length, option_copied};
+ghost use Rattle.std.specs.Option.{option_to_list};
 ghost use Rattle.xm_slots.specs.Slot.{with_item};
 ghost use Rattle.xm_slots.specs.declared.entry.Entry.{Entry};
 ghost use Rattle.xm_slots.specs.declared.slot.TheConstants.{VACANT};
-ghost use Rattle.xm_slots.specs.Slots.{ContainsKey, Updates, entries_of, get, is_of, used};
+ghost use Rattle.xm_slots.specs.Slots.{ContainsKey, Updates, all_entries, entries_under, get, used};
 
-use crate::entry::{Entry, Owners, Rests};
+use crate::entry::{Entry, Rests};
 use crate::slot::Slot;
 use std::alloc::Allocator;
 use std::marker::Model;
@@ -149,32 +150,38 @@ impl<I: Copy, A: Allocator> Slots<I, A> {
 }
 
 impl<I: Copy, A: Allocator + Copy> Slots<I, A> {
-    /// The entries of an owner, or all where no owner is named, by rising key, or `OutOfMemory` where the answer can't be
-    /// held.
-    pub fn entries_of<O: Owners<I>>(
-        &self,
-        owner: Option<u32>,
-    ) -> Result<Vec<Entry<I>, A>, OutOfMemory>
-        ensures { IfOk result (λ entries. entries.items ≡ entries_of O.owner_of owner self.now) }
+    /// The entries by rising key, or `OutOfMemory` where the answer can't be held.
+    pub fn entries(&self) -> Result<Vec<Entry<I>, A>, OutOfMemory>
+        ensures { IfOk result (λ entries. entries.items ≡ all_entries self.now) }
     {
         let mut entries = Vec::new(*self.entries.allocator());
         for slot in &self.entries {
-            if let Some(entry) = slot.get() {
-                if is_of::<I, O>(owner, entry) {
-                    entries.push(*entry)?;
-                }
-            }
+            push_found(&mut entries, slot.get())?;
+        }
+        Ok(entries)
+    }
+
+    /// The entries under the keys of these names, in the order of the names, or `OutOfMemory` where the answer can't be held.
+    pub fn entries_under(&self, names: &[(u32, usize)]) -> Result<Vec<Entry<I>, A>, OutOfMemory>
+        ensures { IfOk result (λ entries. entries.items ≡ entries_under names.now self.now) }
+    {
+        let mut entries = Vec::new(*self.entries.allocator());
+        for name in names {
+            push_found(&mut entries, self.get(name.1))?;
         }
         Ok(entries)
     }
 }
 
-/// Whether an entry is of this owner, or of any where no owner is named.
-fn is_of<I, O: Owners<I>>(owner: Option<u32>, entry: &Entry<I>) -> bool
-    ensures { result ≡ is_of O.owner_of owner entry.now }
+/// Adds an entry that was found.
+fn push_found<I: Copy, A: Allocator>(
+    entries: &mut Vec<Entry<I>, A>,
+    found: Option<&Entry<I>>,
+) -> Result<(), OutOfMemory>
+    ensures { OnOk result (entries.new.items ≡ entries.old.items ++ option_to_list (option_copied found.entry)) }
 {
-    match owner {
-        Some(owner) => O::owner(&entry.item) == owner,
-        None => true,
+    if let Some(entry) = found {
+        entries.push(*entry)?;
     }
+    Ok(())
 }

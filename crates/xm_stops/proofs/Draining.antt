@@ -31,6 +31,7 @@ none-drained leaves q pending = record {
   taken = [];
   behind = sym (append-nil pending.entries);
   room = omega arith;
+  gone = refl;
   counted = omega arith;
   each = λ e at. inl at;
 }
@@ -41,7 +42,7 @@ key-passed test xs key at = subst (λ (n : ℕ). Contains (keys_in xs) n) at.key
 
 -- one more is taken
 module _ (leaves : Listed Stop → Bool) (old q q' : QueuedStops) (pending p p' : EntriesView) (x : Listed Stop) (at : Contains q.stops x) (reached : leaves x ≡ true) (distinct : AreDistinct (keys_in q.stops))
-    (left : q' ≡ record q { stops = filter (is_other_key x.key) q.stops }) (some : 0 < p.room) (push : p' ≡ record { entries = p.entries ++ listed_entry x ∷ []; room = p.room - 1 }) (h : IsDrained leaves old q pending p) where
+    (left : q' ≡ record q { stops = filter (is_other_key x.key) q.stops }) (some : 0 < p.room) (push : p' ≡ record p { entries = p.entries ++ listed_entry x ∷ []; room = p.room - 1 }) (h : IsDrained leaves old q pending p) where
   abbrev stops : List (Listed Stop)
   stops = filter (is_other_key x.key) q.stops
 
@@ -97,6 +98,7 @@ module _ (leaves : Listed Stop → Bool) (old q q' : QueuedStops) (pending p p' 
     taken = h.taken ++ listed_entry x ∷ [];
     behind = ap (λ (v : EntriesView). v.entries) push ∙ ap (λ (es : List (Entry Stop)). es ++ listed_entry x ∷ []) h.behind ∙ append_assoc pending.entries h.taken (listed_entry x ∷ []);
     room = omega (arith, h.room, some, ap (λ (v : EntriesView). v.room) push, length-append h.taken (listed_entry x ∷ []));
+    gone = ap (λ (v : EntriesView). v.gone) push ∙ h.gone;
     counted = omega (arith, h.counted, one-less-hit, ap (λ (xs : List (Listed Stop)). length (filter leaves xs)) stops-are, length-append h.taken (listed_entry x ∷ []));
     each = each-one;
   }
@@ -171,11 +173,11 @@ stops-that test xs = same (filter (keeps test) xs) ∙ items-kept test xs
 
 -- what is seen of the pending ones
 abbrev pub seen_of : EntriesView → PendingStops
-seen_of p = record { stops = map stop_of_entry p.entries; room = p.room }
+seen_of p = record { stops = map stop_of_entry p.entries; gone = map stop_of_entry p.gone; room = p.room }
 
-pub seen-pending : (test : Stop → Bool) (q : QueuedStops) (p p' : EntriesView) → p'.entries ≡ p.entries ++ entries_that (keeps test) q.stops → p'.room ≡ p.room - length (entries_that (keeps test) q.stops)
-    → seen_of p' ≡ record { stops = map stop_of_entry p.entries ++ filter test (map listed_item q.stops); room = p.room - length (filter test (map listed_item q.stops)) }
-seen-pending test q p p' entries room = (λ i. record { stops = stops i; room = rooms i })
+pub seen-pending : (test : Stop → Bool) (q : QueuedStops) (p p' : EntriesView) → p'.entries ≡ p.entries ++ entries_that (keeps test) q.stops → p'.room ≡ p.room - length (entries_that (keeps test) q.stops) → p'.gone ≡ p.gone
+    → seen_of p' ≡ record { stops = map stop_of_entry p.entries ++ filter test (map listed_item q.stops); gone = map stop_of_entry p.gone; room = p.room - length (filter test (map listed_item q.stops)) }
+seen-pending test q p p' entries room gone = (λ i. record { stops = stops i; gone = map stop_of_entry (gone i); room = rooms i })
   where
     stops : map stop_of_entry p'.entries ≡ map stop_of_entry p.entries ++ filter test (map listed_item q.stops)
     stops = ap (map stop_of_entry) entries ∙ map-append stop_of_entry p.entries (entries_that (keeps test) q.stops) ∙ ap (λ (ss : List Stop). map stop_of_entry p.entries ++ ss) (stops-that test q.stops)
@@ -186,7 +188,7 @@ seen-pending test q p p' entries room = (λ i. record { stops = stops i; room = 
 -- the stop of a key leaves, and its entry becomes pending
 pub drained-more : (leaves : Listed Stop → Bool) (old q q' : QueuedStops) (pending p p' : EntriesView) (key : ℕ) (at : IsPassedAt leaves q.stops key) → AreDistinct (keys_in q.stops)
     → q' ≡ record q { stops = filter (is_other_key key) q.stops } → 0 < p.room
-    → ((x : Listed Stop) → Contains q.stops x → x.key ≡ key → p' ≡ record { entries = p.entries ++ listed_entry x ∷ []; room = p.room - 1 }) → IsDrained leaves old q pending p → IsDrained leaves old q' pending p'
+    → ((x : Listed Stop) → Contains q.stops x → x.key ≡ key → p' ≡ record p { entries = p.entries ++ listed_entry x ∷ []; room = p.room - 1 }) → IsDrained leaves old q pending p → IsDrained leaves old q' pending p'
 drained-more leaves old q q' pending p p' key at distinct left some push h =
     one-drained leaves old q q' pending p p' at.listed at.contains at.passes distinct (left ∙ (λ i. record q { stops = filter (is_other_key (sym at.key_is i)) q.stops })) some
     (push at.listed at.contains at.key_is) h

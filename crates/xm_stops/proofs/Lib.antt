@@ -1,6 +1,5 @@
 mod Draining
 mod Growing
-mod InTime
 mod Indexing
 mod Joining
 mod Leaving

@@ -15,5 +15,6 @@ pub record IsDrained (leaves : Listed Stop → Bool) (old new : QueuedStops) (pe
   pub taken : List (Entry Stop)
   pub behind : pending'.entries ≡ pending.entries ++ taken
   pub room : pending'.room + length taken ≡ pending.room
+  pub gone : pending'.gone ≡ pending.gone
   pub counted : length (filter leaves new.stops) + length taken ≡ length (filter leaves old.stops)
   pub each : (e : Entry Stop) → Contains (entries_that leaves old.stops) e → Contains (entries_that leaves new.stops) e ⊎ Contains taken e

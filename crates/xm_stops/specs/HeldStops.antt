@@ -13,16 +13,14 @@ pub record HeldStops : Type 0 where
 pub record PendingStops : Type 0 where
   -- the stops in the order in which they come in
   pub stops : List Stop
+  -- those that have left since these were last forgotten, in the order in which they did
+  pub gone : List Stop
   -- for how many more there is room
   pub room : ℕ
 
 -- the pending stops once others stand behind them, in room that was there
 abbrev pub joined_by : List Stop → PendingStops → PendingStops
-joined_by stops p = record { stops = p.stops ++ stops; room = p.room - length stops }
+joined_by stops p = record p { stops = p.stops ++ stops; room = p.room - length stops }
 
 abbrev pub is_held : ℕ → ℕ → List Stop → Bool
 is_held member reference stops = list_any (is_stop_named member reference) stops
-
--- the references of a member's stops, in order of entry
-abbrev pub stop_references : ℕ → List Stop → List ℕ
-stop_references member stops = map (λ (s : Stop). s.reference) (filter (λ (s : Stop). s.member == member) stops)

@@ -6,9 +6,10 @@ use Rattle.xm_slots.specs.Listing.{listed_entry, time_of}
 use Rattle.xm_slots.specs.declared.entry.Entry.{Entry}
 use Rattle.xm_slots.specs.declared.listing.Listed.{Listed}
 
--- entries in the order in which their stops come in
+-- entries in the order in which their stops come in, and those that have come in since these were last forgotten
 pub record EntriesView : Type 0 where
   pub entries : List (Entry Stop)
+  pub gone : List (Entry Stop)
   -- for how many more there is room
   pub room : ℕ
 

@@ -5,7 +5,6 @@
 #![tactic(auto)]
 
 mod entry_queue;
-mod items;
 mod stop_queues;
 mod stops;
 mod taking;

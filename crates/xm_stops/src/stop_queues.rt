@@ -1,16 +1,15 @@
 //! The held stops in their queues.
-ghost use Rattle.xm_stops.specs.Listing.{stop_owner};
-ghost use Rattle.std.specs.Prelude.{◌≡◌, All, ◌+◌, ◌++◌, ◌∷◌, [], ◌<◌, ◌≤◌, Contains, IfNone, IfOk, IfSome, IsSome, None, OnErr, OnOk, Some, filter, length, map, option_copied, true};
+ghost use Rattle.xm_stops.specs.Listing.{stop_owner, stop_reference};
+ghost use Rattle.std.specs.Prelude.{◌≡◌, ℕ, All, ◌+◌, ◌++◌, ◌∷◌, [], ◌<◌, ◌≤◌, Contains, IfNone, IfOk, IfSome, IsSome, None, OnErr, OnOk, Some, filter, length, map, option_copied, true};
 ghost use Rattle.std.specs.List.{list_all};
 ghost use Rattle.xm_queues.specs.Keys.{AreDistinct};
 ghost use Rattle.xm_slots.specs.Listing.{is_below, is_other_key, keys_in, listed_entry, rises};
-ghost use Rattle.xm_slots.specs.Slots.{is_of};
+ghost use Rattle.xm_slots.specs.Naming.{AreNamesOf, is_owned};
 ghost use Rattle.xm_slots.specs.declared.listing.Listed.{Listed};
 ghost use Rattle.xm_rules.specs.declared.orders.Stop.{Stop};
 ghost use Rattle.xm_stops.specs.Queued.{IsReachedAt, IsReachedOn, has_reached, has_reached_on};
 ghost use Rattle.xm_ticks.specs.declared.numbers.TheConstants.{MAX_PRICE};
 
-use crate::items::StopItems;
 use crate::trigger_queues::TriggerQueues;
 use std::alloc::Allocator;
 use std::marker::Model;
@@ -146,12 +145,20 @@ impl<A: Allocator + Copy> StopQueues<A> {
 }
 
 impl<A: Allocator + Copy> StopQueues<A> {
-    /// The stops in order of entry, each with the number of its entry: those of a member, or all where no member is named,
-    /// or `OutOfMemory` where the answer can't be held.
-    pub fn in_time(&self, member: Option<u32>) -> Result<Vec<Entry<Stop>, A>, OutOfMemory>
-        ensures { IfOk result (λ entries. entries.items ≡ filter (is_of stop_owner member) (map listed_entry self.now.stops)) }
+    /// The stops in order of entry, each with the number of its entry, or `OutOfMemory` where the answer can't be held.
+    pub fn in_time(&self) -> Result<Vec<Entry<Stop>, A>, OutOfMemory>
+        ensures { IfOk result (λ entries. entries.items ≡ map listed_entry self.now.stops) }
     {
-        let mut entries = self.entries.entries_of::<StopItems>(member)?;
+        let mut entries = self.entries.entries()?;
+        entries.sort_unstable_by_key(|entry| entry.time);
+        Ok(entries)
+    }
+
+    /// Those that have these names: all of one member.
+    pub fn named_in_time(&self, names: &[(u32, usize)]) -> Result<Vec<Entry<Stop>, A>, OutOfMemory>
+        ensures { IfOk result (λ entries. (member : ℕ) → AreNamesOf stop_owner stop_reference member self.now.stops names.now → entries.items ≡ filter (is_owned stop_owner stop_reference member) (map listed_entry self.now.stops)) }
+    {
+        let mut entries = self.entries.entries_under(names)?;
         entries.sort_unstable_by_key(|entry| entry.time);
         Ok(entries)
     }

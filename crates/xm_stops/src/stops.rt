@@ -1,13 +1,14 @@
 //! The held stops of one security, and the pending ones.
 ghost use Rattle.xm_stops.specs.Listing.{stop_owner, stop_reference};
 ghost use Rattle.xm_slots.specs.Naming.{have_own_names};
-ghost use Rattle.std.specs.Prelude.{◌≡◌, All, ◌+◌, ◌<◌, ◌≤◌, ◌^◌, ◌++◌, ◌∷◌, [], IsTrue, filter, length, find, false, None, Some, option_copied, IfNone, IfOk, IfSome, OnErr, OnOk, drop, max, not, slice_get};
+ghost use Rattle.std.specs.Prelude.{◌≡◌, All, ◌+◌, ◌<◌, ◌≤◌, ◌^◌, ◌==◌, ◌++◌, ◌∷◌, [], IsTrue, filter, map, length, find, false, None, Some, option_copied, IfNone, IfOk, IfSome, OnErr, OnOk, drop, max, not, slice_get, option_to_list};
 ghost use Rattle.std.specs.Option.{option_map};
 ghost use Rattle.xm_rules.specs.Commands.{outlasts};
 ghost use Rattle.xm_rules.specs.Orders.{is_stop_named, removed_stop, without_stops_of};
 ghost use Rattle.xm_rules.specs.Settling.{is_reached};
 ghost use Rattle.xm_rules.specs.declared.orders.Stop.{Stop};
-ghost use Rattle.xm_stops.specs.HeldStops.{is_held, joined_by, stop_references};
+ghost use Rattle.xm_slots.specs.declared.entry.Entry.{Entry};
+ghost use Rattle.xm_stops.specs.HeldStops.{is_held, joined_by};
 ghost use Rattle.xm_ticks.specs.declared.numbers.TheConstants.{MAX_PRICE};
 
 use crate::entry_queue::EntryQueue;
@@ -60,6 +61,15 @@ fn stop_of(found: Option<&Entry<Stop>>) -> Option<&Stop>
     }
 }
 
+/// The stops of entries.
+fn items_of<A: Allocator + Copy>(entries: &Vec<Entry<Stop>, A>) -> Result<Vec<Stop, A>, OutOfMemory>
+    ensures { IfOk result (λ stops. stops.items ≡ map (λ (e : Entry Stop). e.item) entries.now.items) }
+{
+    let alloc = *entries.allocator();
+    let stops = entries.iter().map(|entry| entry.item).collect(alloc)?;
+    Ok(stops)
+}
+
 impl<A: Allocator + Copy> Stops<A> {
     /// No stop, which takes no memory.
     pub fn new(storage: Storage<A>) -> Stops<A>
@@ -75,23 +85,17 @@ impl<A: Allocator + Copy> Stops<A> {
     pub fn list(&self) -> Result<Vec<Stop, A>, OutOfMemory>
         ensures { IfOk result (λ stops. stops.items ≡ self.now.stops) }
     {
-        let entries = self.queues.in_time(None)?;
-        let alloc = *entries.allocator();
-        let stops = entries.iter().map(|entry| entry.item).collect(alloc)?;
-        Ok(stops)
+        let entries = self.queues.in_time()?;
+        items_of(&entries)
     }
 
-    /// The references of a member's stops, in order of entry, or `OutOfMemory` where the answer can't be held.
-    pub fn of_member(&self, member: u32) -> Result<Vec<u32, A>, OutOfMemory>
-        ensures { IfOk result (λ references. references.items ≡ stop_references member self.now.stops) }
+    /// A member's stops in order of entry, or `OutOfMemory` where the answer can't be held. The cost grows with their number alone.
+    pub fn of_member(&self, member: u32) -> Result<Vec<Stop, A>, OutOfMemory>
+        ensures { IfOk result (λ stops. stops.items ≡ filter (λ (s : Stop). s.member == member) self.now.stops) }
     {
-        let entries = self.queues.in_time(Some(member))?;
-        let alloc = *entries.allocator();
-        let references = entries
-            .iter()
-            .map(|entry| entry.item.reference)
-            .collect(alloc)?;
-        Ok(references)
+        let names = self.names.of_member(member)?;
+        let entries = self.queues.named_in_time(&names)?;
+        items_of(&entries)
     }
 
     /// How many stops there are. No two have one name, and each trigger is a price.
@@ -218,13 +222,13 @@ impl<A: Allocator> Model for Pending<A> {
 
     ghost Value = { PendingStops };
 
-    ghost view = { λ p. record { stops = map stop_of_entry p.entries.entries; room = p.entries.room } };
+    ghost view = { λ p. record { stops = map stop_of_entry p.entries.entries; gone = map stop_of_entry p.entries.gone; room = p.entries.room } };
 }
 
 impl<A: Allocator> Pending<A> {
     /// No stop and no room, which takes no memory.
     pub fn new(alloc: A) -> Pending<A>
-        ensures { result ≡ record { stops = []; room = 0 } }
+        ensures { result ≡ record { stops = []; gone = []; room = 0 } }
     {
         Pending {
             entries: EntryQueue::new(alloc),
@@ -252,9 +256,27 @@ impl<A: Allocator> Pending<A> {
     /// The first stop leaves. What there is room for stays as it is.
     pub fn pop(&mut self) -> Option<Stop>
         ensures first { result ≡ slice_get self.old.stops 0 }
-        ensures rest { self.new ≡ record self.old { stops = drop 1 self.old.stops } }
+        ensures rest { self.new ≡ record self.old { stops = drop 1 self.old.stops; gone = self.old.gone ++ option_to_list result } }
     {
         let entry = self.entries.pop()?;
         Some(entry.item)
+    }
+
+    /// Forgets the stops that have left. None is pending.
+    #[inline(always)]
+    pub fn forget(&mut self)
+        requires { self.old.stops ≡ [] }
+        ensures { self.new ≡ record self.old { gone = [] } }
+    {
+        self.entries.forget();
+    }
+}
+
+impl<A: Allocator + Copy> Pending<A> {
+    /// The stops that have left since these were last forgotten, or `OutOfMemory` where the answer can't be held.
+    pub fn gone(&self) -> Result<Vec<Stop, A>, OutOfMemory>
+        ensures { IfOk result (λ stops. stops.items ≡ self.now.gone) }
+    {
+        self.entries.gone()
     }
 }

@@ -39,6 +39,7 @@ pub fn take_leaving<A: Allocator + Copy>(
     ensures held { queues.new ≡ record queues.old { stops = filter (stays (is_leaving reason)) queues.old.stops } }
     ensures pending { pending.new.entries ≡ pending.old.entries ++ entries_that (is_leaving reason) queues.old.stops }
     ensures room_left { pending.new.room ≡ pending.old.room - length (entries_that (is_leaving reason) queues.old.stops) }
+    ensures gone { pending.new.gone ≡ pending.old.gone }
 {
     let _ = queues.len(); // What every queue keeps is known of one whose length is asked.
     let waiting = pending.len();
@@ -128,7 +129,7 @@ fn take_at<A: Allocator + Copy>(
     ensures indexed { AreStopsIndexed queues.new names.new }
     ensures left { queues.new ≡ record queues.old { stops = filter (is_other_key key) queues.old.stops } }
     ensures distinct { AreDistinct (keys_in queues.old.stops) }
-    ensures pending { (x : Listed Stop) → Contains queues.old.stops x → x.key ≡ key → pending.new ≡ record { entries = pending.old.entries ++ listed_entry x ∷ []; room = pending.old.room - 1 } }
+    ensures pending { (x : Listed Stop) → Contains queues.old.stops x → x.key ≡ key → pending.new ≡ record pending.old { entries = pending.old.entries ++ listed_entry x ∷ []; room = pending.old.room - 1 } }
 {
     let entry = queues.take(key);
     names.remove(entry.item.member, entry.item.reference);

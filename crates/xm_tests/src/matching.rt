@@ -18,7 +18,8 @@ struct Example {
     units: u32,
     trades: &'static [(u32, u32, u32)],
     rest: u32,
-    interrupted: bool,
+    // The price in ticks that interrupts trading, if one does.
+    interruption: Option<u32>,
     fillable: bool,
 }
 
@@ -31,7 +32,7 @@ const EXAMPLES: [Example; 11] = [
         units: 8,
         trades: &[(999, 1, 2), (1000, 5, 1), (1000, 2, 3)],
         rest: 0,
-        interrupted: false,
+        interruption: None,
         fillable: true,
     },
     // A market order at the best limit of its side, which is better than the reference.
@@ -42,7 +43,7 @@ const EXAMPLES: [Example; 11] = [
         units: 12,
         trades: &[(985, 10, 2), (985, 2, 1)],
         rest: 0,
-        interrupted: false,
+        interruption: None,
         fillable: true,
     },
     Example {
@@ -52,7 +53,7 @@ const EXAMPLES: [Example; 11] = [
         units: 12,
         trades: &[(1015, 10, 2), (1015, 2, 1)],
         rest: 0,
-        interrupted: false,
+        interruption: None,
         fillable: true,
     },
     // A market order at the reference, and at the incoming limit.
@@ -63,7 +64,7 @@ const EXAMPLES: [Example; 11] = [
         units: 10,
         trades: &[(1000, 10, 2)],
         rest: 0,
-        interrupted: false,
+        interruption: None,
         fillable: true,
     },
     Example {
@@ -73,7 +74,7 @@ const EXAMPLES: [Example; 11] = [
         units: 12,
         trades: &[(1010, 10, 2)],
         rest: 2,
-        interrupted: false,
+        interruption: None,
         fillable: false,
     },
     // Units are left where the next order is met outside a range: it lies around the price before the first fill.
@@ -84,7 +85,7 @@ const EXAMPLES: [Example; 11] = [
         units: 8,
         trades: &[(1020, 5, 1)],
         rest: 3,
-        interrupted: true,
+        interruption: Some(1021),
         fillable: false,
     },
     // None is left there.
@@ -95,7 +96,7 @@ const EXAMPLES: [Example; 11] = [
         units: 5,
         trades: &[(1020, 5, 1)],
         rest: 0,
-        interrupted: false,
+        interruption: None,
         fillable: true,
     },
     // Market orders, and levels of several orders each, the last of which is outside a range.
@@ -122,7 +123,7 @@ const EXAMPLES: [Example; 11] = [
             (1010, 2, 7),
         ],
         rest: 0,
-        interrupted: false,
+        interruption: None,
         fillable: true,
     },
     // A unit more than they have.
@@ -149,7 +150,7 @@ const EXAMPLES: [Example; 11] = [
             (990, 2, 7),
         ],
         rest: 1,
-        interrupted: true,
+        interruption: Some(979),
         fillable: false,
     },
     // Market orders that are met outside a range, at the best limit of their side: the order inside is behind them.
@@ -160,7 +161,7 @@ const EXAMPLES: [Example; 11] = [
         units: 5,
         trades: &[],
         rest: 5,
-        interrupted: true,
+        interruption: Some(1021),
         fillable: false,
     },
     // No order is met.
@@ -171,7 +172,7 @@ const EXAMPLES: [Example; 11] = [
         units: 5,
         trades: &[],
         rest: 5,
-        interrupted: false,
+        interruption: None,
         fillable: false,
     },
 ];
@@ -222,7 +223,7 @@ fn run<A: Allocator + Copy>(rt: &impl Abort, alloc: A, example: &Example) {
     let expected = Swept {
         filled: example.units.wrapping_sub(example.rest),
         rest: example.rest,
-        interrupted: example.interrupted,
+        interruption: example.interruption.and_then(Price::new),
     };
     assert!(rt; found == Ok(expected));
     assert!(rt; are_trades(example, trades.as_slice()));

@@ -57,7 +57,7 @@ impl<A: Allocator + Copy> Entries<A> {
         self.book.orders()
     }
 
-    pub fn of_member(&self, member: u32) -> Result<Vec<u32, A>, OutOfMemory> {
+    pub fn of_member(&self, member: u32) -> Result<Vec<Order, A>, OutOfMemory> {
         self.book.of_member(member)
     }
 

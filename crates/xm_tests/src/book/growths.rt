@@ -35,7 +35,7 @@ const CALLS: [Counted<(u32, Call)>; 12] = [
     ((8, Call::Replace), 3, 0),
     ((0, Call::Orders), 0, 0),
     ((8, Call::Orders), 2, 1),
-    ((8, Call::OfMember), 1, 1),
+    ((8, Call::OfMember), 2, 1),
     ((8, Call::Reserve(100)), 1, 0),
     ((8, Call::MakeRoom(100)), 1, 0),
 ];
@@ -67,7 +67,7 @@ struct Filled<A: Allocator + Copy> {
     book: Entries<A>,
     trades: Trades<A>,
     orders: Vec<Order, A>,
-    references: Vec<u32, A>,
+    own: Vec<Order, A>,
 }
 
 impl<A: Allocator + Copy> Drop for Filled<A> {
@@ -76,7 +76,7 @@ impl<A: Allocator + Copy> Drop for Filled<A> {
             book: _book,
             trades: _trades,
             orders: _orders,
-            references: _references,
+            own: _own,
         } = self;
     }
 }
@@ -99,7 +99,7 @@ impl<A: Allocator + Copy, R: Abort + AllocGlobal> Tried<A, R> for Filled<A> {
             book,
             trades: Trades::new(alloc),
             orders: Vec::new(alloc),
-            references: Vec::new(alloc),
+            own: Vec::new(alloc),
         }
     }
 
@@ -108,7 +108,7 @@ impl<A: Allocator + Copy, R: Abort + AllocGlobal> Tried<A, R> for Filled<A> {
             Call::Enter => assert!(rt; self.book.enter(numbered(rt, *orders))?),
             Call::Replace => assert!(rt; self.book.replace(changed(rt))?),
             Call::Orders => self.orders = self.book.orders()?,
-            Call::OfMember => self.references = self.book.of_member(0)?,
+            Call::OfMember => self.own = self.book.of_member(0)?,
             Call::Reserve(trades) => self.trades.reserve(trades)?,
             Call::MakeRoom(trades) => self.trades.make_room(trades)?,
         }
@@ -123,7 +123,7 @@ impl<A: Allocator + Copy, R: Abort + AllocGlobal> Tried<A, R> for Filled<A> {
             && self.book.best(Side::Sell, OPENING) == like.book.best(Side::Sell, OPENING)
             && self.trades.as_slice() == like.trades.as_slice()
             && self.orders.as_slice() == like.orders.as_slice()
-            && self.references.as_slice() == like.references.as_slice()
+            && self.own.as_slice() == like.own.as_slice()
     }
 }
 

@@ -28,7 +28,7 @@ const CALLS: [Counted<(u32, Call)>; 9] = [
     ((8, Call::Enter), 3, 0),
     ((0, Call::List), 0, 0),
     ((8, Call::List), 2, 1),
-    ((8, Call::OfMember), 1, 1),
+    ((8, Call::OfMember), 2, 1),
     ((8, Call::TakeReached), 1, 0),
 ];
 
@@ -49,7 +49,7 @@ fn numbered(reference: u32) -> Stop {
 struct Filled<A: Allocator + Copy> {
     stops: Held<A>,
     listed: Vec<Stop, A>,
-    references: Vec<u32, A>,
+    own: Vec<Stop, A>,
 }
 
 impl<A: Allocator + Copy> Drop for Filled<A> {
@@ -57,7 +57,7 @@ impl<A: Allocator + Copy> Drop for Filled<A> {
         let Filled {
             stops: _stops,
             listed: _listed,
-            references: _references,
+            own: _own,
         } = self;
     }
 }
@@ -79,7 +79,7 @@ impl<A: Allocator + Copy, R: Abort + AllocGlobal> Tried<A, R> for Filled<A> {
         Filled {
             stops,
             listed: Vec::new(alloc),
-            references: Vec::new(alloc),
+            own: Vec::new(alloc),
         }
     }
 
@@ -87,7 +87,7 @@ impl<A: Allocator + Copy, R: Abort + AllocGlobal> Tried<A, R> for Filled<A> {
         match *call {
             Call::Enter => assert!(rt; self.stops.enter(numbered(*held))?),
             Call::List => self.listed = self.stops.list()?,
-            Call::OfMember => self.references = self.stops.of_member(1)?,
+            Call::OfMember => self.own = self.stops.of_member(1)?,
             Call::TakeReached => self.stops.take_reached(price(rt, 1))?,
         }
         Ok(())
@@ -99,7 +99,7 @@ impl<A: Allocator + Copy, R: Abort + AllocGlobal> Tried<A, R> for Filled<A> {
             && self.stops.len() == like.stops.len()
             && self.stops.pending_len() == like.stops.pending_len()
             && self.listed.as_slice() == like.listed.as_slice()
-            && self.references.as_slice() == like.references.as_slice()
+            && self.own.as_slice() == like.own.as_slice()
     }
 }
 

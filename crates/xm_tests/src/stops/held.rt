@@ -37,7 +37,7 @@ impl<A: Allocator + Copy> Held<A> {
         self.stops.list()
     }
 
-    pub fn of_member(&self, member: u32) -> Result<Vec<u32, A>, OutOfMemory> {
+    pub fn of_member(&self, member: u32) -> Result<Vec<Stop, A>, OutOfMemory> {
         self.stops.of_member(member)
     }
 

@@ -9,4 +9,4 @@ returns-clause-indexed g c =
 
 pub returns-clause-pending : goal.returns-clause-pending
 returns-clause-pending g c x there same =
-    c.push.ensures ∙ (λ i. record { entries = c.args.pending.now.entries ++ c.take-entry.ensures.entry x there same i ∷ []; room = c.args.pending.now.room - 1 })
+    c.push.ensures ∙ (λ i. record (c.args.pending.now) { entries = c.args.pending.now.entries ++ c.take-entry.ensures.entry x there same i ∷ []; room = c.args.pending.now.room - 1 })

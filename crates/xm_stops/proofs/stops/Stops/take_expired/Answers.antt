@@ -23,4 +23,4 @@ pub returns-clause-pending : goal.returns-clause-pending
 returns-clause-pending g c =
     let b = c.self.inside in
     rw (← c.self.view_is, ← c.pending.view_is)
-    (seen-pending (λ (s : Stop). not (outlasts c.args.today s.validity)) b.queues c.pending.inside.entries c.take_leaving.new.pending c.take_leaving.ensures.pending c.take_leaving.ensures.room_left)
+    (seen-pending (λ (s : Stop). not (outlasts c.args.today s.validity)) b.queues c.pending.inside.entries c.take_leaving.new.pending c.take_leaving.ensures.pending c.take_leaving.ensures.room_left c.take_leaving.ensures.gone)

@@ -1,0 +1,16 @@
+use Rattle.xm_stops.specs.Listing.{stop_owner, stop_reference}
+use Rattle.std.proofs.Common.{rules}
+use Rattle.std.proofs.lemmas.List.Sorted.{IsNonDecreasingBy-from_sort_by_key}
+use Rattle.xm_slots.specs.declared.entry.Entry.{Entry}
+use Rattle.xm_rules.specs.declared.orders.Stop.{Stop}
+use Rattle.xm_slots.proofs.OfOwner.{owned-in-time}
+use Rattle.xm_stops.proofs.stop_queues.StopQueues.named_in_time.Goals as goal
+
+pub returns : goal.returns
+returns g c =
+    let q = c.self.inside in
+    let kept = c.self.invariant in
+    let sort = c.sort_unstable_by_key in
+    let up = IsNonDecreasingBy-from_sort_by_key (λ (e : Entry Stop). e.time) sort.new.self.items sort.ensures.sorted (λ a r f k. search rules) in
+    rw (← c.self.view_is)
+    (λ member of. owned-in-time stop_owner stop_reference member q.listing q.adds q.entries kept.queued.lie kept.rise c.args.names.now of sort.new.self.items (rw c.in_ok-entries.ensures at sort.ensures.permutation) up)
