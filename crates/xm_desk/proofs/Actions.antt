@@ -1,5 +1,5 @@
 -- What the action of an accepted command does, and what its checks found.
-use Rattle.std.proofs.Common.{◌≡◌, ◌∙◌, ◌≤◌, ℕ, [], ◌∷◌, ◌++◌, Bool, true, false, ◌&&◌, not, if◌then◌else◌, find, Option, Some, None, IfSome, refl, ap, sym, subst, arith}
+use Rattle.std.proofs.Common.{◌≡◌, ◌∙◌, ◌≤◌, ℕ, [], ◌∷◌, ◌++◌, List, Bool, true, false, ◌&&◌, ◌==◌, filter, not, if◌then◌else◌, find, Option, Some, None, IfSome, refl, ap, sym, subst, arith}
 use Rattle.std.specs.Option.{option_map}
 use Rattle.std.specs.Prelude.{nat_le}
 use Rattle.std.proofs.lemmas.Bool.{and_parts}
@@ -8,11 +8,15 @@ use Rattle.xm_desk.proofs.Named.{find-named}
 use Rattle.xm_desk.specs.Accepted.{action_of, changing, ending, entering}
 use Rattle.xm_desk.specs.declared.accepted.Action.{Action}
 use Rattle.xm_desk.specs.declared.accepted.Action.TheVariants as action
+use Rattle.xm_events.proofs.Seeing.{cancelled-unseen, ending-unseen}
+use Rattle.xm_events.specs.Seen.{Seen, seen_after}
+use Rattle.xm_events.specs.Story as story
+use Rattle.xm_events.specs.declared.events.Event.{Event}
 use Rattle.xm_rules.proofs.Accepted.{change-accepted, entry-accepted}
 use Rattle.xm_rules.proofs.Ranges.{range_high}
 use Rattle.xm_rules.specs.Auction.{auction_price}
 use Rattle.xm_rules.specs.Commands.{has_prices_in_range, is_for_trading, is_in_range, trigger_of}
-use Rattle.xm_rules.specs.Orders.{is_named, with_rest}
+use Rattle.xm_rules.specs.Orders.{is_named, is_stop_named, with_rest}
 use Rattle.xm_rules.specs.Refusals.{has_order, has_stop, refusal_of}
 use Rattle.xm_rules.specs.Settling.{come, is_continuous}
 use Rattle.xm_rules.specs.State.{State, ref1}
@@ -46,6 +50,13 @@ done s (action.StartCall auction) = record s { phase = phase.Call auction Ordina
 done s (action.EndCall auction stage) = uncrossed_at s auction stage (auction_price (phase.Call auction stage) s.orders (ref1 s))
 done s action.EndDay = day_ended s
 
+-- what happens by an action, as far as it is seen
+abbrev pub telling : State → Action → List Event
+telling s (action.Enter o condition) = story.come_under_events condition s o
+telling s (action.Replace o) = story.come_events (cancelled s o.member o.reference) o
+telling s (action.EndCall auction stage) = story.uncross_at_events s auction stage (auction_price (phase.Call auction stage) s.orders (ref1 s))
+telling s _ = []
+
 -- an order that comes in has a new name and units; an immediate one comes in continuous trading
 pub record CanEnter (s : State) (o : Order) (condition : Condition) : Type 0 where
   pub name : has_order s o.member o.reference ≡ false
@@ -72,6 +83,7 @@ CanDo s _ = Unit {0}
 
 pub record Does (s : State) (command : Command) (a : Action) : Type 0 where
   pub same : done s a ≡ act s command
+  pub told : (seen : Seen) → seen_after seen (telling s a) ≡ seen_after seen (story.act_events s command)
   pub can : CanDo s a
 
 immediate_if : (continuous : Bool) → not continuous ≡ false → continuous ≡ true
@@ -99,6 +111,7 @@ module _ (s : State) (member reference : ℕ) (side : Side) (k : Kind) (quantity
       let passes = entry-accepted s member reference side k quantity v r condition h in
       record {
         same = ap (λ (t : Option ℕ). entered s condition t order) (sym e);
+        told = λ seen. ap (λ (t : Option ℕ). seen_after seen (story.entry_events s condition t order)) (sym e);
         can = record {
           name = passes.no_order;
           rest = passes.quantity;
@@ -109,6 +122,7 @@ module _ (s : State) (member reference : ℕ) (side : Side) (k : Kind) (quantity
       let passes = entry-accepted s member reference side k quantity v r condition h in
       record {
         same = ap (λ (t : Option ℕ). entered s condition t order) (sym e);
+        told = λ seen. ap (λ (t : Option ℕ). seen_after seen (story.entry_events s condition t order)) (sym e);
         can = record { name = passes.no_stop; trigger = trigger-within k trigger passes.prices e };
       }
 
@@ -121,6 +135,7 @@ module _ (s : State) (member reference quantity : ℕ) (limit : Option ℕ) (o :
       let within = (and_parts (same_limit limit o.kind) (nat_le quantity o.rest) e).1 in
       record {
         same = rw (found, e) refl;
+        told = λ seen. rw (found, e) refl;
         can = rw (name.member, name.reference, found) (grind (arith, nat_tests, passes.quantity), grind (arith, nat_tests, within));
       }
   change_if false e =
@@ -128,6 +143,7 @@ module _ (s : State) (member reference quantity : ℕ) (limit : Option ℕ) (o :
       let passes = change-accepted s member reference quantity limit h in
       record {
         same = rw (found, e) refl;
+        told = λ seen. rw (found, e) refl;
         can = record { name = rw (name.member, name.reference) passes.no_stop; rest = passes.quantity };
       }
 
@@ -145,7 +161,7 @@ ends s phase.PostTrading a e is = cc
 ends s phase.Ended a e is = cc
 ends s (phase.Call auction stage) a e is =
     let same : action.EndCall auction stage ≡ a = cc in
-    subst (λ (x : Action). Does s Uncross x) same (record { same = ap (λ (p : Phase). uncrossed s p) (sym e); can = e })
+    subst (λ (x : Action). Does s Uncross x) same (record { same = ap (λ (p : Phase). uncrossed s p) (sym e); told = λ seen. ap (λ (p : Phase). seen_after seen (story.uncross_events s p)) (sym e); can = e })
 
 -- what an accepted command does, and what its checks found
 pub does : (s : State) (command : Command) (a : Action) → refusal_of s command ≡ None → action_of s command ≡ Some a → Does s command a
@@ -155,12 +171,12 @@ does s (Enter member reference side k quantity v r condition) a h is =
 does s (Change member reference quantity limit) a h is = changes s member reference quantity limit a (find (is_named member reference) s.orders) refl h is
 does s (Cancel member reference) a h is =
     let same : action.Cancel member reference ≡ a = cc in
-    subst (λ (x : Action). Does s (Cancel member reference) x) same (record { same = refl; can = tt })
+    subst (λ (x : Action). Does s (Cancel member reference) x) same (record { same = refl; told = λ seen. sym (cancelled-unseen seen (filter (is_named member reference) s.orders) (filter (is_stop_named member reference) s.stops)); can = tt })
 does s (CancelAll member) a h is =
     let same : action.CancelAll member ≡ a = cc in
-    subst (λ (x : Action). Does s (CancelAll member) x) same (record { same = refl; can = tt })
-does s StartOpening a h is = let same : action.StartCall Opening ≡ a = cc in subst (λ (x : Action). Does s StartOpening x) same (record { same = refl; can = tt })
-does s StartIntraday a h is = let same : action.StartCall Intraday ≡ a = cc in subst (λ (x : Action). Does s StartIntraday x) same (record { same = refl; can = tt })
-does s StartClosing a h is = let same : action.StartCall Closing ≡ a = cc in subst (λ (x : Action). Does s StartClosing x) same (record { same = refl; can = tt })
+    subst (λ (x : Action). Does s (CancelAll member) x) same (record { same = refl; told = λ seen. sym (cancelled-unseen seen (filter (λ (o : Order). o.member == member) s.orders) (filter (λ (stop : Stop). stop.member == member) s.stops)); can = tt })
+does s StartOpening a h is = let same : action.StartCall Opening ≡ a = cc in subst (λ (x : Action). Does s StartOpening x) same (record { same = refl; told = λ seen. refl; can = tt })
+does s StartIntraday a h is = let same : action.StartCall Intraday ≡ a = cc in subst (λ (x : Action). Does s StartIntraday x) same (record { same = refl; told = λ seen. refl; can = tt })
+does s StartClosing a h is = let same : action.StartCall Closing ≡ a = cc in subst (λ (x : Action). Does s StartClosing x) same (record { same = refl; told = λ seen. refl; can = tt })
 does s Uncross a h is = ends s s.phase a refl is
-does s EndDay a h is = let same : action.EndDay ≡ a = cc in subst (λ (x : Action). Does s EndDay x) same (record { same = refl; can = tt })
+does s EndDay a h is = let same : action.EndDay ≡ a = cc in subst (λ (x : Action). Does s EndDay x) same (record { same = refl; told = λ seen. sym (ending-unseen seen s); can = tt })

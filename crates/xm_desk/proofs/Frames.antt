@@ -16,7 +16,7 @@ use Rattle.xm_rules.specs.declared.orders.Stop.{Stop}
 use Rattle.xm_stops.specs.HeldStops.{HeldStops, PendingStops}
 
 -- before the day
-pub empty-framed : IsFramed 0 (record { orders = []; reserved = []; adds = 0 }) (record { stops = []; ready = None }) (record { stops = []; room = 0 }) 0 Nothing
+pub empty-framed : IsFramed 0 (record { orders = []; reserved = []; adds = 0 }) (record { stops = []; ready = None }) (record { stops = []; gone = []; room = 0 }) 0 Nothing
 empty-framed =
     record {
       reserved = record { length = refl; counts = λ p. refl };
@@ -225,12 +225,12 @@ stop-leaves accepted book new held left pending room ready stop f used orders ad
 -- some held stops become pending
 pub moves : (accepted : ℕ) (book : TimeList) (held : HeldStops) (stay leave : List Stop) (pending new : PendingStops) (room : ℕ) (ready : Ready)
     → IsFramed accepted book held pending room ready → ((f : Stop → ℕ) → sum_by f leave + sum_by f stay ≡ sum_by f held.stops) → length leave + length stay ≡ length held.stops
-    → new ≡ record { stops = pending.stops ++ leave; room = pending.room - length leave }
+    → new ≡ record pending { stops = pending.stops ++ leave; room = pending.room - length leave }
     → IsFramed accepted book (record held { stops = stay }) new room ready
 moves accepted book held stay leave pending new room ready f sums lengths moved =
     let are = counted book.reserved held.stops pending.stops (places_in ready) f.reserved in
     let more = length-append pending.stops leave in
-    let p' : PendingStops = record { stops = pending.stops ++ leave; room = pending.room - length leave } in
+    let p' : PendingStops = record pending { stops = pending.stops ++ leave; room = pending.room - length leave } in
     let frame : IsFramed accepted book (record held { stops = stay }) p' room ready = record {
       reserved = uncounted book.reserved stay (pending.stops ++ leave) (places_in ready) (record {
         number = omega (arith, are.number, more, lengths);
@@ -256,7 +256,7 @@ first-is (s ∷ stops) stop e = let same : s ≡ stop = cc in ap (λ (x : Stop).
 
 module _ (accepted : ℕ) (book : TimeList) (held : HeldStops) (pending : PendingStops) (room : ℕ) (stop : Stop) (first : slice_get pending.stops 0 ≡ Some stop) where
   abbrev popped : PendingStops
-  popped = record pending { stops = drop 1 pending.stops }
+  popped = record pending { stops = drop 1 pending.stops; gone = pending.gone ++ stop ∷ [] }
 
   head-counted : (f : Stop → ℕ) → sum_by f pending.stops ≡ f stop + sum_by f (drop 1 pending.stops)
   head-counted f = ap (λ (ss : List Stop). sum_by f ss) (first-is pending.stops stop first) ∙ sum_by-cons f stop (drop 1 pending.stops)

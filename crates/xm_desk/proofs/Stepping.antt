@@ -8,6 +8,9 @@ use Rattle.xm_desk.specs.Made.{AreSized, CanSettle, IsCounted, Makes}
 use Rattle.xm_desk.specs.Settled.{Unsettled, came, joined_in, places_in, once_used, possible_trades, trades_in}
 use Rattle.xm_desk.specs.declared.unsettled.Ready.{Ready}
 use Rattle.xm_desk.specs.declared.unsettled.Ready.TheVariants.{Nothing, ForStop, ForOrder, Used, OneTrade}
+use Rattle.xm_events.proofs.Seeing.{story-seen}
+use Rattle.xm_events.specs.Seen.{Seen, seen_after}
+use Rattle.xm_events.specs.Story.{act_events, settle_events, story}
 use Rattle.xm_rules.proofs.Accepted.{accepted-below}
 use Rattle.xm_rules.proofs.Following.{act-follows}
 use Rattle.xm_rules.proofs.Kept.{act-keeps, step-counts}
@@ -38,7 +41,7 @@ once_used-none Used = refl
 
 module _ (u : Unsettled) (command : Command) (settled : u.pending ≡ []) (lawful : refusal_of u.state command ≡ None) (counted : IsCounted u.state) where
   abbrev acted : Unsettled
-  acted = record u { state = act u.state command; ready = once_used u.ready }
+  acted = record u { state = act u.state command; ready = once_used u.ready; seen = seen_after u.seen (act_events u.state command) }
 
   none : length u.pending ≡ 0
   none = ap (λ (stops : List Stop). length stops) settled
@@ -64,16 +67,19 @@ module _ (u : Unsettled) (command : Command) (settled : u.pending ≡ []) (lawfu
   can-settle a is = subst CanSettle (sym is) acted-standing
 
   -- and it is counted
-  pub stepped : (a t n : Unsettled) → a ≡ acted → t ≡ record a { state = settle a.state a.pending; pending = []; ready = t.ready }
-      → n ≡ record t { state = record t.state { accepted = t.state.accepted + 1 }; ready = Nothing } → n ≡ record u { state = step u.state command; ready = Nothing }
+  pub stepped : (a t n : Unsettled) → a ≡ acted → t ≡ record a { state = settle a.state a.pending; pending = []; ready = t.ready; seen = seen_after a.seen (settle_events a.state a.pending) }
+      → n ≡ record t { state = record t.state { accepted = t.state.accepted + 1 }; ready = Nothing } → n ≡ record u { state = step u.state command; ready = Nothing; seen = seen_after u.seen (story u.state command) }
   stepped a t n is settles counts =
       let one_more : State → State = λ s. record s { accepted = s.accepted + 1 } in
+      let done : State → List Stop → Seen → Unsettled = λ s stops seen. record { state = s; pending = stops; ready = Nothing; seen = seen } in
+      let s = act u.state command in
       counts
-      ∙ ap (λ (w : Unsettled). let x : Unsettled = record w { state = one_more w.state; ready = Nothing } in x) settles
-      ∙ ap (λ (w : Unsettled). let x : Unsettled = record { state = one_more (settle w.state w.pending); pending = []; ready = Nothing } in x) is
-      ∙ ap (λ (stops : List Stop). let x : Unsettled = record { state = one_more (settle (act u.state command) stops); pending = []; ready = Nothing } in x) settled
-      ∙ ap (λ (s : State). let x : Unsettled = record { state = s; pending = []; ready = Nothing } in x) (sym (step-counts u.state command))
-      ∙ ap (λ (stops : List Stop). let x : Unsettled = record { state = step u.state command; pending = stops; ready = Nothing } in x) (sym settled)
+      ∙ ap (λ (w : Unsettled). done (one_more w.state) w.pending w.seen) settles
+      ∙ ap (λ (w : Unsettled). done (one_more (settle w.state w.pending)) [] (seen_after w.seen (settle_events w.state w.pending))) is
+      ∙ ap (λ (stops : List Stop). done (one_more (settle s stops)) [] (seen_after (seen_after u.seen (act_events u.state command)) (settle_events s stops))) settled
+      ∙ ap (λ (t : State). done t [] (seen_after (seen_after u.seen (act_events u.state command)) (settle_events s []))) (sym (step-counts u.state command))
+      ∙ ap (λ (stops : List Stop). done (step u.state command) stops (seen_after (seen_after u.seen (act_events u.state command)) (settle_events s []))) (sym settled)
+      ∙ ap (done (step u.state command) u.pending) (sym (story-seen u.seen u.state command))
 
 -- ---- what it trades
 

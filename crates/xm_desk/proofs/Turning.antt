@@ -10,6 +10,11 @@ use Rattle.xm_desk.specs.Incoming.{CanComeIn}
 use Rattle.xm_desk.specs.Made.{CanSettle, HaveUnits, Makes, uses}
 use Rattle.xm_desk.specs.Settled.{Unsettled, came, place_of_stop}
 use Rattle.xm_desk.specs.declared.unsettled.Ready.TheVariants.{ForOrder, Used}
+use Rattle.xm_events.proofs.Seeing.{seen-append}
+use Rattle.xm_events.proofs.Settlings.{settling-none, settling-turn}
+use Rattle.xm_events.specs.Seen.{Seen, seen_after}
+use Rattle.xm_events.specs.Story.{come_events, settle_events}
+use Rattle.xm_events.specs.declared.events.Event.{Event}
 use Rattle.xm_rules.proofs.Following.{come-sweeps}
 use Rattle.xm_rules.proofs.Kept.{come-keeps}
 use Rattle.xm_rules.proofs.OneName.{come-uses}
@@ -53,7 +58,7 @@ first-none [] e = refl
 first-none (stop ∷ stops) e = cc
 
 pub record Ends (u v : Unsettled) : Type 0 where
-  pub after : v ≡ record u { state = settle u.state u.pending; pending = [] }
+  pub after : v ≡ record u { state = settle u.state u.pending; pending = []; seen = seen_after u.seen (settle_events u.state u.pending) }
   pub standing : CanSettle v
   pub made : Makes u v
 
@@ -64,7 +69,8 @@ ends u v w can is none same =
     record {
       after =
           here ∙ ap (λ (s : State). let x : Unsettled = record u { state = s; pending = u.pending ++ reached u.state } in x) (sym (settle-none u.state u.pending empty))
-          ∙ ap (λ (stops : List Stop). let x : Unsettled = record u { state = settle u.state u.pending; pending = stops } in x) empty;
+          ∙ ap (λ (stops : List Stop). let x : Unsettled = record u { state = settle u.state u.pending; pending = stops } in x) empty
+          ∙ ap (λ (events : List Event). let x : Unsettled = record u { state = settle u.state u.pending; pending = []; seen = seen_after u.seen events } in x) (sym (settling-none u.state u.pending empty));
       standing = subst CanSettle (sym here) (taken-standing u can);
       made = subst (λ (x : Unsettled). Makes u x) (sym here) (makes-none u (taken u) refl (omega (arith, as_many u.state u.pending)));
     }
@@ -95,6 +101,7 @@ unnamed m r (o ∷ os) e =
 pub record Turns (u v : Unsettled) : Type 0 where
   pub fewer : length v.state.stops + length v.pending < length u.state.stops + length u.pending
   pub same : settle v.state v.pending ≡ settle u.state u.pending
+  pub told : seen_after v.seen (settle_events v.state v.pending) ≡ seen_after u.seen (settle_events u.state u.pending)
   pub standing : CanSettle v
   pub made : Makes u v
 
@@ -105,12 +112,16 @@ module _ (u : Unsettled) (can : CanSettle u) (stop : Stop) (first : slice_get (u
   abbrev left : List Stop
   left = drop 1 (u.pending ++ reached u.state)
 
+  -- it is seen
+  abbrev came_in : Seen
+  came_in = record u.seen { triggered = u.seen.triggered ++ stop ∷ [] }
+
   -- the stop is ready to come in
   abbrev before : Unsettled
-  before = record u { state = s; pending = left; ready = ForOrder (place_of_stop stop) }
+  before = record u { state = s; pending = left; ready = ForOrder (place_of_stop stop); seen = came_in }
 
   abbrev after : Unsettled
-  after = record u { state = come s (order_of_stop stop); pending = left; ready = Used }
+  after = record u { state = come s (order_of_stop stop); pending = left; ready = Used; seen = seen_after came_in (come_events s (order_of_stop stop)) }
 
   next : u.pending ++ reached u.state ≡ stop ∷ left
   next = first-some (u.pending ++ reached u.state) stop first
@@ -169,6 +180,7 @@ module _ (u : Unsettled) (can : CanSettle u) (stop : Stop) (first : slice_get (u
       let here : goal after = λ m. record {
         fewer = omega (arith, one_less, kept_stops);
         same = sym (settle-turn u.state u.pending stop left next);
+        told = sym (ap (seen_after u.seen) (settling-turn u.state u.pending stop left next) ∙ seen-append came_in (come_events s (order_of_stop stop)) (settle_events (come s (order_of_stop stop)) left));
         standing = standing;
         made = m;
       } in

@@ -1,4 +1,5 @@
 pub mod Accepted
+pub mod Answered
 pub mod Entries
 pub mod Frame
 pub mod Growth

@@ -4,22 +4,25 @@ use Rattle.xm_book.specs.Places.{place_of}
 use Rattle.xm_book.specs.declared.places.Place.{Place}
 use Rattle.xm_desk.specs.declared.unsettled.Ready.{Ready}
 use Rattle.xm_desk.specs.declared.unsettled.Ready.TheVariants.{Nothing, OneTrade, ForOrder, ForStop, Used}
+use Rattle.xm_events.specs.Seen.{Seen}
 use Rattle.xm_rules.specs.Settling.{order_of_stop}
 use Rattle.xm_rules.specs.Opening.{opening}
 use Rattle.xm_rules.specs.State.{State}
 use Rattle.xm_rules.specs.declared.orders.Stop.{Stop}
 use Rattle.xm_rules.specs.declared.settings.DeskSettings.{DeskSettings}
 
--- settled up to the pending stops: a state, the stops that are pending, and what is ready for the command
+-- settled up to the pending stops: a state, the stops that are pending, what is ready for the command, and what was seen of it so far
 pub record Unsettled : Type 0 where
   pub state : State
   pub pending : List Stop
   pub ready : Ready
+  pub seen : Seen
 
--- no stop is pending
+-- no stop is pending; what was seen is of the last command
 pub record Settled : Type 0 where
   pub state : State
   pub ready : Ready
+  pub seen : Seen
 
 -- the place in the book of the order that a stop becomes
 abbrev pub place_of_stop : Stop → Place

@@ -1,16 +1,25 @@
 //! The desk of one security.
-ghost use Rattle.std.specs.Prelude.{◌≡◌, ◌≢◌, ◌≤◌, ◌+◌, ◌++◌, ◌∷◌, [], All, IsTrue, None, Some, Err, IfOk, IfErr, OnErr, OnOk, length, pos, true};
+ghost use Rattle.std.specs.Prelude.{◌≡◌, ◌≢◌, ◌≤◌, ◌==◌, ◌+◌, ◌++◌, ◌∷◌, [], All, IsTrue, None, Some, Err, IfOk, IfErr, OnErr, OnOk, filter, find, length, option_copied, pos, true};
+ghost use Rattle.xm_config.specs.Day.{answer_by};
 ghost use Rattle.xm_config.specs.Opening.{open_fault};
+ghost use Rattle.xm_desk.specs.Answered.{journal_after};
 ghost use Rattle.xm_desk.specs.Shown.{level_in, market_units, units_left};
 ghost use Rattle.xm_desk.specs.declared.tape.TheConstants.{MAX_TRADES};
 ghost use Rattle.xm_positions.specs.Positions.{cash_position, net_position};
+ghost use Rattle.xm_events.specs.Seen.{last_seen};
 ghost use Rattle.xm_rules.specs.Refusals.{refusal_of};
 ghost use Rattle.xm_rules.specs.Opening.{are_carriable};
+ghost use Rattle.xm_rules.specs.Orders.{is_named, is_stop_named};
 ghost use Rattle.xm_rules.specs.Quote.{best_limit, indicative, quote};
+ghost use Rattle.xm_rules.specs.Settings.{are_widths};
 ghost use Rattle.xm_rules.specs.State.{ref1, ref2};
+ghost use Rattle.xm_rules.specs.declared.orders.Order.{Order};
+ghost use Rattle.xm_rules.specs.declared.orders.Stop.{Stop};
 ghost use Rattle.xm_rules.specs.Step.{is_lawful, new_trades, replay, reply};
 ghost use Rattle.xm_rules.specs.Sums.{AreWithinLimits, cash, has_traded, net, total_money, total_quantity};
-ghost use Rattle.xm_ticks.specs.declared.numbers.TheConstants.{MAX_QUANTITY};
+ghost use Rattle.xm_rules.specs.declared.carried.TheConstants.{MAX_CARRIED};
+ghost use Rattle.xm_rules.specs.declared.settings.TheConstants.{PHASE_COMMANDS_MORE};
+ghost use Rattle.xm_ticks.specs.declared.numbers.TheConstants.{MAX_JOURNAL_LIMIT, MAX_QUANTITY};
 
 use crate::journal::{Journaling, KeptJournal, UnkeptJournal};
 use crate::unsettled::market::Market;
@@ -22,7 +31,7 @@ use xm_name_index::Storage;
 use xm_positions::Positions;
 use xm_rules::{
     Command, DeskSettings, Order, PHASE_COMMANDS_MORE, Phase, Quote, Refusal, Reply, Side, Stop,
-    Totals, Trade,
+    Totals, Trade, Widths,
 };
 use xm_ticks::Price;
 
@@ -49,6 +58,7 @@ impl<A: Allocator + Copy, J: Journaling> Drop for Desk<A, J> {
 impl<A: Allocator + Copy, J: Journaling> Model for Desk<A, J> {
     ghost use Rattle.std.specs.Prelude.{◌≡◌, true};
     ghost use Rattle.xm_desk.specs.declared.unsettled.Ready.TheVariants.{Nothing};
+    ghost use Rattle.xm_events.specs.Seen.{last_seen};
     ghost use Rattle.xm_rules.specs.Step.{Journal, is_lawful, replay};
 
     ghost Value = { Journal };
@@ -59,6 +69,7 @@ impl<A: Allocator + Copy, J: Journaling> Model for Desk<A, J> {
       replayed : d.market.state ≡ replay (record { settings = d.market.state.settings; commands = J.commands d.journal });
       lawful : is_lawful (record { settings = d.market.state.settings; commands = J.commands d.journal }) ≡ true;
       ready : d.market.ready ≡ Nothing;
+      seen : d.market.seen ≡ last_seen (record { settings = d.market.state.settings; commands = J.commands d.journal });
       positions : d.positions ≡ record { members = d.market.state.settings.members; trades = d.market.state.trades };
     } };
 }
@@ -99,6 +110,22 @@ impl<A: Allocator + Copy, J: Journaling> Desk<A, J> {
         ensures { IfOk result (λ stops. stops.items ≡ (replay self.now).stops) }
     {
         self.market.stops()
+    }
+
+    /// A member's live orders in time order, or `OutOfMemory` where the growth of their list was refused. The cost grows with their
+    /// number alone.
+    pub fn orders_of(&self, member: u32) -> Result<Vec<Order, A>, OutOfMemory>
+        ensures { IfOk result (λ orders. orders.items ≡ filter (λ (o : Order). o.member == member) (replay self.now).orders) }
+    {
+        self.market.orders_of(member)
+    }
+
+    /// A member's held stops in order of entry, or `OutOfMemory` where the growth of their list was refused. The cost grows with
+    /// their number alone.
+    pub fn stops_of(&self, member: u32) -> Result<Vec<Stop, A>, OutOfMemory>
+        ensures { IfOk result (λ stops. stops.items ≡ filter (λ (s : Stop). s.member == member) (replay self.now).stops) }
+    {
+        self.market.stops_of(member)
     }
 
     /// The trades, the first one first.
@@ -149,6 +176,22 @@ impl<A: Allocator + Copy, J: Journaling> Desk<A, J> {
         Ok(reply)
     }
 
+    /// Answers a command: it is taken into the journal, or refused by a rule. `OutOfMemory` changes nothing, and comes only where no
+    /// rule refuses the command.
+    #[inline(always)]
+    pub fn answer(&mut self, command: &Command) -> Result<Result<Reply, Refusal>, OutOfMemory>
+        ensures answer { IfOk result (λ answer. answer ≡ answer_by (replay self.old) command.now (refusal_of (replay self.old) command.now)) }
+        ensures after { OnOk result (self.new ≡ journal_after self.old command.now) }
+        ensures appended { OnOk result ((replay self.new).trades ≡ (replay self.old).trades ++ new_trades (replay self.old) (replay self.new)) }
+        ensures kept { OnErr result (self.new ≡ self.old) }
+        ensures memory { OnErr result (refusal_of (replay self.old) command.now ≡ None) }
+    {
+        match self.apply(command) {
+            Ok(reply) => Ok(Ok(reply)),
+            Err(refusal) => Ok(Err(by_rule(refusal)?)),
+        }
+    }
+
     /// The settings that the desk was opened with. It takes the orders and stops that they carry.
     pub fn settings(&self) -> &DeskSettings
         ensures opened { result.now ≡ self.now.settings }
@@ -156,6 +199,14 @@ impl<A: Allocator + Copy, J: Journaling> Desk<A, J> {
         ensures kept { result.now ≡ (replay self.now).settings }
     {
         self.market.settings()
+    }
+
+    /// The widths of the price ranges.
+    pub fn widths(&self) -> Widths
+        ensures widths { result ≡ (replay self.now).settings.widths }
+        ensures lawful { IsTrue (are_widths result) }
+    {
+        self.market.widths()
     }
 
     /// The phase of the security.
@@ -215,6 +266,43 @@ impl<A: Allocator + Copy, J: Journaling> Desk<A, J> {
         ensures { result ≡ units_left (replay self.now) member reference }
     {
         self.market.units_left(member, reference)
+    }
+
+    /// The live order of this name. It costs no pass over orders.
+    pub fn order(&self, member: u32, reference: u32) -> Option<&Order>
+        ensures { option_copied result ≡ find (is_named member reference) (replay self.now).orders }
+    {
+        self.market.order(member, reference)
+    }
+
+    /// The held stop of this name. It costs no pass over stops.
+    pub fn stop(&self, member: u32, reference: u32) -> Option<&Stop>
+        ensures { option_copied result ≡ find (is_stop_named member reference) (replay self.now).stops }
+    {
+        self.market.stop(member, reference)
+    }
+
+    /// The number of sweeps so far, and of calls that traded.
+    pub fn sweeps(&self) -> u64
+        ensures sweeps { result ≡ (replay self.now).sweeps }
+        ensures few { result ≤ MAX_CARRIED + MAX_JOURNAL_LIMIT + PHASE_COMMANDS_MORE }
+    {
+        self.market.sweeps()
+    }
+
+    /// The stops that the last command triggered, in the order in which they came in, or `OutOfMemory` where the growth of their
+    /// list was refused.
+    pub fn triggered(&self) -> Result<Vec<Stop, A>, OutOfMemory>
+        ensures { IfOk result (λ stops. stops.items ≡ (last_seen self.now).triggered) }
+    {
+        self.market.triggered()
+    }
+
+    /// The price at which the last command interrupted trading, or led a call to its next stage, if it did.
+    pub fn interruption(&self) -> Option<Price>
+        ensures { result ≡ (last_seen self.now).interruption }
+    {
+        self.market.interruption()
     }
 
     /// What is shown of the security to those who watch it. It costs no pass over orders or trades.
@@ -280,6 +368,18 @@ impl<A: Allocator + Copy, J: Journaling> Desk<A, J> {
             Ok(_accepted) => None,
             Err(refusal) => Some(refusal),
         }
+    }
+}
+
+/// A refusal by a rule, or the want of memory that it is.
+#[inline(always)]
+fn by_rule(refusal: Refusal) -> Result<Refusal, OutOfMemory>
+    ensures rule { IfOk result (λ same. (same ≡ refusal) × (refusal ≢ Refusal.OutOfMemory tt)) }
+    ensures memory { OnErr result (refusal ≡ Refusal.OutOfMemory tt) }
+{
+    match refusal {
+        Refusal::OutOfMemory(error) => Err(error),
+        _ => Ok(refusal),
     }
 }
 

@@ -7,7 +7,8 @@ ghost use Rattle.xm_rules.specs.Auction.{volume as executable};
 ghost use Rattle.xm_desk.specs.Tape.{swept_by};
 ghost use Rattle.xm_rules.specs.declared.phases.Phase.TheVariants.{Call};
 ghost use Rattle.xm_rules.specs.State.{last_auction_price, last_price};
-ghost use Rattle.xm_rules.specs.Sweep.{filled, is_interrupted, orders_after_sweep, rest_after, sweep_trades};
+ghost use Rattle.xm_events.specs.Story.{interruption};
+ghost use Rattle.xm_rules.specs.Sweep.{filled, orders_after_sweep, rest_after, sweep_trades};
 ghost use Rattle.xm_ticks.specs.declared.numbers.TheConstants.{MAX_PRICE};
 ghost use Rattle.xm_ticks.specs.declared.ranges.TheConstants.{MAX_WIDTH};
 
@@ -154,7 +155,7 @@ impl<A: Allocator> Tape<A> {
         ensures room { self.new.room + length (sweep_trades number (swept_by self.old book.old.orders incoming.now widths.now)) ≡ self.old.room }
         ensures filled { result.filled ≡ filled (swept_by self.old book.old.orders incoming.now widths.now) }
         ensures rest { result.rest ≡ rest_after (swept_by self.old book.old.orders incoming.now widths.now) }
-        ensures interrupted { result.interrupted ≡ is_interrupted (swept_by self.old book.old.orders incoming.now widths.now) }
+        ensures interruption { result.interruption ≡ interruption (swept_by self.old book.old.orders incoming.now widths.now) }
         ensures used_up { EachUsesUp number (swept_by self.old book.old.orders incoming.now widths.now) }
     {
         let swept = sweep(

@@ -1,9 +1,12 @@
 //! A security in the middle of a command: settled up to the pending stops.
-ghost use Rattle.std.specs.Prelude.{◌≡◌, []};
+ghost use Rattle.std.specs.Prelude.{◌≡◌, [], IsTrue};
 ghost use Rattle.xm_desk.specs.Accepted.{IsAccepted};
 ghost use Rattle.xm_desk.specs.Growth.{ready_for};
 ghost use Rattle.xm_desk.specs.Made.{IsCounted, Makes};
 ghost use Rattle.xm_desk.specs.Settled.{once_used};
+ghost use Rattle.xm_events.specs.Seen.{nothing_seen, seen_after};
+ghost use Rattle.xm_events.specs.Story.{act_events};
+ghost use Rattle.xm_rules.specs.Settings.{are_widths};
 ghost use Rattle.xm_rules.specs.State.{ref1, ref2};
 ghost use Rattle.xm_rules.specs.Step.{act};
 
@@ -22,7 +25,7 @@ use std::alloc::Allocator;
 use std::marker::Model;
 use std::snapshot::Snapshot;
 use xm_book::{Book, Place};
-use xm_rules::{DeskSettings, Phase, Stop};
+use xm_rules::{DeskSettings, Phase, Stop, Widths};
 use xm_stops::{Pending, Stops};
 use xm_ticks::Price;
 
@@ -41,8 +44,8 @@ pub enum Ready {
     Used,
 }
 
-/// All that changes orders, trades and stops stands on this. A clause sees a state of the model, the pending stops, and what is
-/// kept ready for the command.
+/// All that changes orders, trades and stops stands on this. A clause sees a state of the model, the pending stops, what is kept ready
+/// for the command, and what was seen of it so far.
 #[derive(Drop)]
 pub struct Unsettled<A: Allocator + Copy> {
     settings: DeskSettings,
@@ -56,6 +59,8 @@ pub struct Unsettled<A: Allocator + Copy> {
     sweeps: u64,
     // A snapshot has no bytes.
     ready: Snapshot<Ready>,
+    // The price that interrupted trading, or led a call to its next stage, in the last command.
+    interruption: Option<Price>,
 }
 
 impl<A: Allocator + Copy> Model for Unsettled<A> {
@@ -79,6 +84,7 @@ impl<A: Allocator + Copy> Model for Unsettled<A> {
       };
       pending = u.pending.stops;
       ready = u.ready.value;
+      seen = record { triggered = u.pending.gone; interruption = u.interruption };
     } };
 
     ghost invariant = { λ u. record {
@@ -104,6 +110,14 @@ impl<A: Allocator + Copy> Unsettled<A> {
         self.tape.last_auction_price()
     }
 
+    /// The widths of the price ranges.
+    pub fn widths(&self) -> Widths
+        ensures widths { result ≡ self.now.state.settings.widths }
+        ensures lawful { IsTrue (are_widths result) }
+    {
+        self.settings.widths
+    }
+
     /// What an accepted command does, before the stops that it reached are settled.
     #[inline(always)]
     pub fn act(&mut self, accepted: &Accepted)
@@ -111,7 +125,12 @@ impl<A: Allocator + Copy> Unsettled<A> {
         requires settled { self.old.pending ≡ [] }
         requires accepted { IsAccepted self.old.state accepted.now }
         requires counted { IsCounted self.old.state }
-        ensures acted { self.new ≡ record self.old { state = act self.old.state accepted.now.command.value; ready = once_used self.old.ready } }
+        requires unseen { self.old.seen ≡ nothing_seen }
+        ensures acted { self.new ≡ record self.old {
+          state = act self.old.state accepted.now.command.value;
+          ready = once_used self.old.ready;
+          seen = seen_after self.old.seen (act_events self.old.state accepted.now.command.value);
+        } }
         ensures made { Makes self.old self.new }
     {
         match &accepted.action {

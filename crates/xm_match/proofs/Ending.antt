@@ -1,24 +1,25 @@
--- Where there is no further trade, a sweep has come to its end: it has filled what the rules fill, and it is interrupted where
--- the next order is met.
-use Rattle.std.proofs.Common.{◌≡◌, ℕ, ◌+◌, ◌-◌, ◌<◌, ◌≤◌, Bool, true, false, not, ◌&&◌, if◌then◌else◌, List, ◌++◌, length, sum_by, Contains, Some, None, refl, sym, ap, ◌∙◌, ◌⊎◌, inl, inr, arith}
+-- Where there is no further trade, a sweep has come to its end: it has filled what the rules fill, and the price at which the next order
+-- is met interrupts it.
+use Rattle.std.proofs.Common.{◌≡◌, ℕ, ◌+◌, ◌-◌, ◌<◌, ◌≤◌, Bool, true, false, not, ◌&&◌, if◌then◌else◌, List, ◌++◌, length, sum_by, Contains, Option, Some, None, option_map, refl, sym, ap, ◌∙◌, ◌⊎◌, inl, inr, arith}
 use Rattle.std.specs.List.{list_all}
 use Rattle.std.specs.Prelude.{nat_lt}
 use Rattle.std.proofs.lemmas.Bool.{and_from, both_ways, false_from_ne_true, lt-ltb, ltb-true}
 use Rattle.std.proofs.lemmas.List.Elements.{All-contains_itself}
+use Rattle.xm_events.specs.Story.{interruption}
 use Rattle.xm_book.proofs.Cutting.{given_same}
 use Rattle.xm_slots.proofs.Tests.{some_none}
-use Rattle.xm_slots.proofs.Members.{Contains-filter, Passes-filter, list_any-none}
+use Rattle.xm_slots.proofs.Members.{Contains-filter, Passes-filter, find-none, find-only}
 use Rattle.xm_book.proofs.Remaining.{same_left}
 use Rattle.xm_match.specs.Meeting.{EachUsesUp, next_met, terms_of}
 use Rattle.xm_match.specs.declared.meeting.Next.TheVariants.{Inside}
 use Rattle.xm_match.proofs.Cuts.{AllDone, IsNext, IsSound, fill_none, fill_of, next_or_all, not_behind, not_inside, placed, some_units, upto}
-use Rattle.xm_match.proofs.NextTrade.{at_end, interrupts, is_met_if, next_trade}
-use Rattle.xm_match.proofs.Lists.{all_of_each, all_pass, any_of_one}
-use Rattle.xm_match.proofs.Progress.{Progress, best_now, count, met_same, next_is, no_best, some_or_none}
+use Rattle.xm_match.proofs.NextTrade.{at_end, next_price, next_trade, price_if_left, price_if_met}
+use Rattle.xm_match.proofs.Lists.{all_of_each, all_pass}
+use Rattle.xm_match.proofs.Progress.{Progress, best_now, count, met_same, next_is, no_best, price_same, some_or_none}
 use Rattle.xm_match.proofs.Trading.{fill_off, given_of, trade_of, trades_are}
 use Rattle.xm_rules.specs.Active.{Positioned, is_active_on, positioned_from}
 use Rattle.xm_rules.specs.Priority.{in_order, is_ahead}
-use Rattle.xm_rules.specs.Sweep.{Sweep, ahead_of, fill, filled, interrupts_at, is_executable, is_interrupted, is_met, is_met_inside, orders_after_sweep, other_side, queue, rest_after, sweep_trades, units_before}
+use Rattle.xm_rules.specs.Sweep.{Sweep, ahead_of, fill, filled, interrupts_at, is_executable, is_met, meet_price, is_met_inside, orders_after_sweep, other_side, queue, rest_after, sweep_trades, units_before}
 use Rattle.xm_rules.specs.declared.orders.Order.{Order}
 use Rattle.xm_rules.specs.declared.orders.Trade.{Trade}
 use Rattle.xm_rules.specs.declared.phases.Phase.TheVariants.{Continuous}
@@ -32,7 +33,7 @@ pub record Ended (w : Sweep) (number left : ℕ) (now : List Order) (old made : 
   pub filled : w.incoming.rest - left ≡ filled w
   pub rest : left ≡ rest_after w
   pub used_up : EachUsesUp number w
-  pub interrupted : interrupts (terms_of w) left now ≡ is_interrupted w
+  pub interruption : next_price (terms_of w) left now ≡ interruption w
 
 -- no order is filled another number of units
 abbrev FillsSame : Sweep → ℕ → Type 0
@@ -64,14 +65,14 @@ no_units true false true false h = refl
 no_units true false false b h = refl
 no_units false e l b h = refl
 
-and_false : (a : Bool) → (a && false) ≡ false
-and_false true = refl
-and_false false = refl
+no_price : (b : Bool) → let none : Option ℕ = None in (if b then none else none) ≡ none
+no_price true = refl
+no_price false = refl
 
 module _ (w : Sweep) (number left : ℕ) (now : List Order) (old made : List Trade) (from room : ℕ) (s : IsSound w) (p : Progress w number left now old made from room) where
   -- so it has ended
-  ended_from : FillsSame w p.done → interrupts (terms_of w) left now ≡ is_interrupted w → Ended w number left now old made from room
-  ended_from same interrupted =
+  ended_from : FillsSame w p.done → next_price (terms_of w) left now ≡ interruption w → Ended w number left now old made from room
+  ended_from same interrupts =
       let trades : sweep_trades number (upto p.done w) ≡ sweep_trades number w =
       trades_are number w p.done
       ∙ ap in_order (given_same (λ (i : Positioned). given_of number w i (fill w i)) (λ (i : Positioned). given_of number w i (fill (upto p.done w) i)) (queue w) (λ i at. ap (given_of number w i) (same i at)))
@@ -89,7 +90,7 @@ module _ (w : Sweep) (number left : ℕ) (now : List Order) (old made : List Tra
         filled = omega arith;
         rest = omega arith;
         used_up = (let long = ap length trades in let shorter = ap length orders in record { units_left = λ some. let u = p.units_left (omega arith) in omega arith; at_most = (let u = p.at_most in omega arith) });
-        interrupted = interrupted;
+        interruption = interrupts;
       }
     where
       of_list : (i : Positioned) → Contains (positioned_from 0 w.orders) i → (b : Bool) → is_active_on Continuous (other_side w) i ≡ b → fill (upto p.done w) i ≡ fill w i
@@ -103,10 +104,10 @@ module _ (w : Sweep) (number left : ℕ) (now : List Order) (old made : List Tra
   nothing_left : left ≡ 0 → Ended w number left now old made from room
   nothing_left e =
       ended_from (λ i at. ap (λ (n : ℕ). fill (upto n w) i) (all_executed e))
-      (ap (λ (n : ℕ). interrupts (terms_of w) n now) e
-      ∙ sym (list_any-none (interrupts_at w) (queue w) (λ i at.
+      (ap (λ (n : ℕ). next_price (terms_of w) n now) e
+      ∙ sym (ap (option_map (meet_price w)) (find-none (interrupts_at w) (queue w) (λ i at.
       no_units (is_met w i) (is_executable w i) (list_all (is_executable w) (ahead_of w i)) (nat_lt (units_before w i) w.incoming.rest)
-      (λ h. let l = ltb-true (units_before w i) w.incoming.rest h in let f = all_executed e in p.is_done.executed i at (omega arith)))))
+      (λ h. let l = ltb-true (units_before w i) w.incoming.rest h in let f = all_executed e in p.is_done.executed i at (omega arith))))))
 
   -- ---- units are left
   module _ (some : 0 < left) where
@@ -128,10 +129,10 @@ module _ (w : Sweep) (number left : ℕ) (now : List Order) (old made : List Tra
     all_past : AllDone w p.done → Ended w number left now old made from room
     all_past all =
         ended_from (λ i at. same_past i at (all i at))
-        (ap (λ o. nat_lt 0 left && is_met_if (terms_of w) o) (no_best w number left now old made from room s p all)
-        ∙ and_false (nat_lt 0 left)
-        ∙ sym (list_any-none (interrupts_at w) (queue w) (λ i at.
-        not_executable (is_met w i) (is_executable w i) (list_all (is_executable w) (ahead_of w i) && nat_lt (units_before w i) w.incoming.rest) (executed_past i at (all i at)))))
+        (ap (price_if_left (terms_of w) left) (no_best w number left now old made from room s p all)
+        ∙ no_price (nat_lt 0 left)
+        ∙ sym (ap (option_map (meet_price w)) (find-none (interrupts_at w) (queue w) (λ i at.
+        not_executable (is_met w i) (is_executable w i) (list_all (is_executable w) (ahead_of w i) && nat_lt (units_before w i) w.incoming.rest) (executed_past i at (all i at))))))
 
     -- the next order isn't met inside the ranges
     module _ (m : Positioned) (next : IsNext w p.done m) (outside : is_met_inside w m ≡ false) where
@@ -149,24 +150,28 @@ module _ (w : Sweep) (number left : ℕ) (now : List Order) (old made : List Tra
       same_by i at (inr (inl e)) = same_none i (ap (is_executable w) e ∙ not_next)
       same_by i at (inr (inr h)) = same_none i (not_behind w m outside next.contained i h)
 
-      next_is_met : interrupts (terms_of w) left now ≡ is_met w m
-      next_is_met =
-          (λ k. lt-ltb 0 left some k && is_met_if (terms_of w) (best_now w number left now old made from room s p some m next k))
-          ∙ met_same w m next.contained
+      price_now : next_price (terms_of w) left now ≡ (if is_met w m then Some (meet_price w m) else None)
+      price_now =
+          (λ k. if lt-ltb 0 left some k then price_if_met (terms_of w) (best_now w number left now old made from room s p some m next k) else None)
+          ∙ (λ k. if met_same w m next.contained k then Some (price_same w m.order.kind k) else None)
+
+      -- an order behind the next one doesn't interrupt it
+      behind_next : (i : Positioned) → is_ahead (other_side w) m i ≡ true → interrupts_at w i ≡ false
+      behind_next i h =
+          not_all (is_met w i) (is_executable w i) (list_all (is_executable w) (ahead_of w i)) (nat_lt (units_before w i) w.incoming.rest)
+          (false_from_ne_true (list_all (is_executable w) (ahead_of w i))
+          (λ all. both_ways (is_executable w m) not_next
+          (all_pass (is_executable w) (ahead_of w i) m all (Contains-filter (λ (j : Positioned). is_ahead (other_side w) j i) (queue w) m h next.contained))))
 
       no_interruption : is_met w m ≡ false → (i : Positioned) → Contains (queue w) i → Place i → interrupts_at w i ≡ false
       no_interruption e i at (inl l) =
           not_executable (is_met w i) (is_executable w i) (list_all (is_executable w) (ahead_of w i) && nat_lt (units_before w i) w.incoming.rest) (executed_past i at l)
       no_interruption e i at (inr (inl f)) =
           not_met (is_met w i) (is_executable w i) (list_all (is_executable w) (ahead_of w i) && nat_lt (units_before w i) w.incoming.rest) (ap (is_met w) f ∙ e)
-      no_interruption e i at (inr (inr h)) =
-          not_all (is_met w i) (is_executable w i) (list_all (is_executable w) (ahead_of w i)) (nat_lt (units_before w i) w.incoming.rest)
-          (false_from_ne_true (list_all (is_executable w) (ahead_of w i))
-          (λ all. both_ways (is_executable w m) not_next
-          (all_pass (is_executable w) (ahead_of w i) m all (Contains-filter (λ (j : Positioned). is_ahead (other_side w) j i) (queue w) m h next.contained))))
+      no_interruption e i at (inr (inr h)) = behind_next i h
 
-      interruption : is_met w m ≡ true → interrupts_at w m ≡ true
-      interruption e =
+      interrupts_next : is_met w m ≡ true → interrupts_at w m ≡ true
+      interrupts_next e =
           and_from (is_met w m && not (is_executable w m)) (list_all (is_executable w) (ahead_of w m) && nat_lt (units_before w m) w.incoming.rest)
           (and_from (is_met w m) (not (is_executable w m)) e (ap not not_next))
           (and_from (list_all (is_executable w) (ahead_of w m)) (nat_lt (units_before w m) w.incoming.rest)
@@ -175,12 +180,23 @@ module _ (w : Sweep) (number left : ℕ) (now : List Order) (old made : List Tra
           executed_past i passes.contains (next.ahead i passes.contains passes.passes)))
           (lt-ltb (units_before w m) w.incoming.rest (let at = next.at in let h = p.whole in omega arith)))
 
-      interrupted_by : (b : Bool) → is_met w m ≡ b → is_met w m ≡ is_interrupted w
-      interrupted_by true e = e ∙ sym (any_of_one (interrupts_at w) (queue w) m (interruption e) next.contained)
-      interrupted_by false e = e ∙ sym (list_any-none (interrupts_at w) (queue w) (λ i at. no_interruption e i at (place i at)))
+      -- no other order interrupts it
+      the_next : (i : Positioned) → Contains (queue w) i → interrupts_at w i ≡ true → Place i → i ≡ m
+      the_next i at h (inl l) =
+          absurd (both_ways (interrupts_at w i)
+          (not_executable (is_met w i) (is_executable w i) (list_all (is_executable w) (ahead_of w i) && nat_lt (units_before w i) w.incoming.rest) (executed_past i at l)) h)
+      the_next i at h (inr (inl e)) = e
+      the_next i at h (inr (inr behind)) = absurd (both_ways (interrupts_at w i) (behind_next i behind) h)
+
+      price_by : (b : Bool) → is_met w m ≡ b → (if is_met w m then Some (meet_price w m) else None) ≡ interruption w
+      price_by true e =
+          (λ k. if e k then Some (meet_price w m) else None)
+          ∙ sym (ap (option_map (meet_price w)) (find-only (interrupts_at w) (queue w) m (record { contains = next.contained; passes = interrupts_next e }) (λ i at h. the_next i at h (place i at))))
+      price_by false e =
+          (λ k. if e k then Some (meet_price w m) else None) ∙ sym (ap (option_map (meet_price w)) (find-none (interrupts_at w) (queue w) (λ i at. no_interruption e i at (place i at))))
 
       pub outside_ranges : Ended w number left now old made from room
-      outside_ranges = ended_from (λ i at. same_by i at (place i at)) (next_is_met ∙ interrupted_by (is_met w m) refl)
+      outside_ranges = ended_from (λ i at. same_by i at (place i at)) (price_now ∙ price_by (is_met w m) refl)
 
     ended_by : next_trade number (terms_of w) left now ≡ None → AllDone w p.done ⊎ ((m : Positioned) × IsNext w p.done m) → Ended w number left now old made from room
     ended_by e (inl all) = all_past all

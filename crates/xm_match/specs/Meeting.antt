@@ -50,7 +50,7 @@ trade_up_to number t units o = trade_between number made.Continuous (price_of_ki
 
 -- how an incoming order meets the best order of the other side
 abbrev pub next_of : Terms → Order → Next
-next_of t o = if is_kind_met t o.kind then (if is_inside t o.kind then Inside o else Outside) else Nothing
+next_of t o = if is_kind_met t o.kind then (if is_inside t o.kind then Inside o else Outside (price_of_kind t o.kind)) else Nothing
 
 abbrev pub next_of_any : Terms → Option Order → Next
 next_of_any t None = Nothing
@@ -68,9 +68,10 @@ meets_any orders incoming = meets_kind incoming (option_map (λ (o : Order). o.k
 abbrev pub next_met : Terms → ℕ → List Order → Next
 next_met t units orders = if units == 0 then Nothing else next_of_any t (best_of t orders)
 
-abbrev pub is_outside : Next → Bool
-is_outside Outside = true
-is_outside next = false
+-- the price at which an order is met outside a range
+abbrev pub price_outside : Next → Option ℕ
+price_outside (Outside price) = Some price
+price_outside next = None
 
 -- the orders and the trades after a sweep, together
 abbrev pub orders_and_trades : ℕ → rules.Sweep → ℕ

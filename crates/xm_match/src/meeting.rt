@@ -1,6 +1,6 @@
 //! What an incoming order meets next.
 ghost use Rattle.std.specs.Prelude.{◌≡◌, ◌≤◌};
-ghost use Rattle.xm_match.specs.Meeting.{is_outside, meets_any, next_met};
+ghost use Rattle.xm_match.specs.Meeting.{meets_any, next_met, price_outside};
 ghost use Rattle.xm_rules.specs.Crossing.{would_execute};
 ghost use Rattle.xm_ticks.specs.declared.ranges.TheConstants.{MAX_WIDTH};
 
@@ -8,6 +8,7 @@ use crate::terms::Terms;
 use std::alloc::Allocator;
 use xm_book::Book;
 use xm_rules::{Order, Phase};
+use xm_ticks::Price;
 
 /// What an incoming order meets next.
 #[derive(Clone, Copy)]
@@ -16,18 +17,18 @@ pub enum Next {
     Nothing,
     /// This order, at a price inside both ranges.
     Inside(Order),
-    /// An order at a price outside a range.
-    Outside,
+    /// An order at this price, which is outside a range.
+    Outside(Price),
 }
 
 impl Next {
-    /// Whether an order is met at a price outside a range.
-    pub fn is_outside(&self) -> bool
-        ensures { result ≡ is_outside self.now }
+    /// The price outside a range at which an order is met, where it is met so.
+    pub fn price_outside(&self) -> Option<Price>
+        ensures { result ≡ price_outside self.now }
     {
         match self {
-            Next::Outside => true,
-            _ => false,
+            Next::Outside(price) => Some(*price),
+            _ => None,
         }
     }
 }
@@ -69,7 +70,7 @@ pub fn next_met<A: Allocator + Copy>(book: &Book<A>, terms: &Terms, units: u32) 
         return Next::Nothing;
     }
     if !terms.is_inside(&best.kind) {
-        return Next::Outside;
+        return Next::Outside(terms.price_of_kind(best.kind));
     }
     Next::Inside(*best)
 }

@@ -1,7 +1,8 @@
 //! The sweep of continuous trading: an incoming order takes the orders of the other side, the best first.
 ghost use Rattle.std.specs.Prelude.{◌≡◌, ◌+◌, ◌++◌, ◌≤◌, length};
 ghost use Rattle.xm_match.specs.Meeting.{EachUsesUp, sweep_over, trade_up_to};
-ghost use Rattle.xm_rules.specs.Sweep.{filled, is_interrupted, orders_after_sweep, rest_after, sweep_trades};
+ghost use Rattle.xm_events.specs.Story.{interruption};
+ghost use Rattle.xm_rules.specs.Sweep.{filled, orders_after_sweep, rest_after, sweep_trades};
 ghost use Rattle.xm_ticks.specs.declared.ranges.TheConstants.{MAX_WIDTH};
 
 use crate::meeting::{Next, meets_any, next_met};
@@ -18,8 +19,8 @@ pub struct Swept {
     pub filled: u32,
     /// The units of the incoming order that are left.
     pub rest: u32,
-    /// Whether trading is interrupted: units are left, and the next order is met outside a range.
-    pub interrupted: bool,
+    /// The price that interrupts trading, if one does: units are left, and the next order is met at it, outside a range.
+    pub interruption: Option<Price>,
 }
 
 /// Executes an incoming order against the other side of a book, in order of priority, as long as the next order is met at a
@@ -44,7 +45,7 @@ pub fn sweep<A: Allocator + Copy, B: Allocator>(
     ensures used_up { EachUsesUp number (sweep_over book.old.orders incoming.now ref1 ref2 widths.now) }
     ensures filled { result.filled ≡ filled (sweep_over book.old.orders incoming.now ref1 ref2 widths.now) }
     ensures rest { result.rest ≡ rest_after (sweep_over book.old.orders incoming.now ref1 ref2 widths.now) }
-    ensures interrupted { result.interrupted ≡ is_interrupted (sweep_over book.old.orders incoming.now ref1 ref2 widths.now) }
+    ensures interruption { result.interruption ≡ interruption (sweep_over book.old.orders incoming.now ref1 ref2 widths.now) }
 {
     let _ = book.len(); // What every book keeps is known of one whose length is asked.
     if meets_any(book, incoming) {
@@ -53,7 +54,7 @@ pub fn sweep<A: Allocator + Copy, B: Allocator>(
     Swept {
         filled: 0,
         rest: incoming.rest,
-        interrupted: false,
+        interruption: None,
     }
 }
 
@@ -76,7 +77,7 @@ fn sweep_met<A: Allocator + Copy, B: Allocator>(
     ensures used_up { EachUsesUp number (sweep_over book.old.orders incoming.now ref1 ref2 widths.now) }
     ensures filled { result.filled ≡ filled (sweep_over book.old.orders incoming.now ref1 ref2 widths.now) }
     ensures rest { result.rest ≡ rest_after (sweep_over book.old.orders incoming.now ref1 ref2 widths.now) }
-    ensures interrupted { result.interrupted ≡ is_interrupted (sweep_over book.old.orders incoming.now ref1 ref2 widths.now) }
+    ensures interruption { result.interruption ≡ interruption (sweep_over book.old.orders incoming.now ref1 ref2 widths.now) }
 {
     let _ = book.len(); // What every book keeps is known of one whose length is asked.
     let terms = Terms::new(book, incoming, ref1, ref2, widths);
@@ -92,7 +93,7 @@ fn sweep_met<A: Allocator + Copy, B: Allocator>(
     Swept {
         filled: incoming.rest - rest,
         rest,
-        interrupted: next.is_outside(),
+        interruption: next.price_outside(),
     }
 }
 

@@ -2,6 +2,7 @@
 ghost use Rattle.std.specs.Prelude.{◌≡◌, [], IfOk, None};
 ghost use Rattle.xm_config.specs.Opening.{open_fault};
 ghost use Rattle.xm_desk.specs.declared.unsettled.Ready.TheVariants.{Nothing};
+ghost use Rattle.xm_events.specs.Seen.{nothing_seen};
 ghost use Rattle.xm_rules.specs.Opening.{opening};
 
 use crate::open_entries::OpenEntries;
@@ -22,7 +23,7 @@ impl<A: Allocator + Copy> Unsettled<A> {
     ) -> Result<Unsettled<A>, OutOfMemory>
         requires opens { open_fault settings ≡ None }
         requires entries { entries ≡ record { orders = (opening settings).orders; stops = (opening settings).stops } }
-        ensures { IfOk result (λ u. u ≡ record { state = opening settings; pending = []; ready = Nothing }) }
+        ensures { IfOk result (λ u. u ≡ record { state = opening settings; pending = []; ready = Nothing; seen = nothing_seen }) }
     {
         let OpenEntries { book, stops } = entries;
         let mut tape = Tape::new(alloc, settings.reference);
@@ -39,6 +40,7 @@ impl<A: Allocator + Copy> Unsettled<A> {
             tape,
             sweeps: 0,
             ready: Snapshot::of(&Ready::Nothing),
+            interruption: None,
         })
     }
 }

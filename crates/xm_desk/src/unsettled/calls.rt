@@ -4,6 +4,8 @@ ghost use Rattle.xm_auction.specs.Allotment.{uncrossing_of};
 ghost use Rattle.xm_desk.specs.Made.{Makes};
 ghost use Rattle.xm_desk.specs.Settled.{came};
 ghost use Rattle.xm_desk.specs.declared.unsettled.Ready.TheVariants.{Used, OneTrade};
+ghost use Rattle.xm_events.specs.Seen.{seen_after};
+ghost use Rattle.xm_events.specs.Story.{uncross_at_events};
 ghost use Rattle.xm_rules.specs.Auction.{auction_price};
 ghost use Rattle.xm_rules.specs.State.{ranges, ref1};
 ghost use Rattle.xm_rules.specs.Step.{day_ended, stage_after, traded, uncrossed_at};
@@ -35,6 +37,7 @@ impl<A: Allocator + Copy> Unsettled<A> {
         ensures uncrossed { self.new ≡ record self.old {
           state = uncrossed_at self.old.state auction stage (auction_price (Call auction stage) self.old.state.orders (ref1 self.old.state));
           ready = Used;
+          seen = seen_after self.old.seen (uncross_at_events self.old.state auction stage (auction_price (Call auction stage) self.old.state.orders (ref1 self.old.state)));
         } }
         ensures made { Makes self.old self.new }
     {
@@ -43,7 +46,10 @@ impl<A: Allocator + Copy> Unsettled<A> {
             None => self.go_on_in(auction.next_phase()),
             Some((price, volume)) => match self.stage_after(stage, price) {
                 None => self.trade(auction, stage, price, volume),
-                Some(next) => self.go_on_in(Phase::Call(auction, next)),
+                Some(next) => {
+                    self.interruption = Some(price);
+                    self.go_on_in(Phase::Call(auction, next));
+                }
             },
         }
     }
@@ -92,7 +98,8 @@ impl<A: Allocator + Copy> Unsettled<A> {
 
     /// The day ends: orders and stops that aren't valid beyond it are deleted.
     pub fn end_day(&mut self)
-        requires { self.old.pending ≡ [] }
+        requires settled { self.old.pending ≡ [] }
+        requires unseen { self.old.seen.triggered ≡ [] }
         ensures { self.new ≡ record self.old { state = day_ended self.old.state } }
     {
         let today = self.settings.today;
@@ -100,11 +107,13 @@ impl<A: Allocator + Copy> Unsettled<A> {
         self.stops.take_expired(today, &mut self.pending);
         self.phase = Phase::Ended;
         while self.delete_pending() {}
+        self.pending.forget();
     }
 
     /// The first pending stop is deleted, and its place in the book is given up. Answers `false` where none is pending.
     fn delete_pending(&mut self) -> bool
-        ensures deleted { self.new ≡ record self.old { pending = drop 1 self.old.pending } }
+        ensures deleted { self.new ≡ record self.old { pending = drop 1 self.old.pending; seen = self.new.seen } }
+        ensures interruption { self.new.seen.interruption ≡ self.old.seen.interruption }
         ensures none { result ≡ false → self.old.pending ≡ [] }
         ensures some { IsTrue result → length self.new.pending < length self.old.pending }
     {

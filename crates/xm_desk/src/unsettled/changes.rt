@@ -4,6 +4,8 @@ ghost use Rattle.xm_book.specs.Places.{place_of};
 ghost use Rattle.xm_desk.specs.Made.{Makes, uses};
 ghost use Rattle.xm_desk.specs.Settled.{came};
 ghost use Rattle.xm_desk.specs.declared.unsettled.Ready.TheVariants.{ForOrder, Used};
+ghost use Rattle.xm_events.specs.Seen.{seen_after};
+ghost use Rattle.xm_events.specs.Story.{come_events};
 ghost use Rattle.xm_rules.specs.Commands.{is_in_range};
 ghost use Rattle.xm_rules.specs.Orders.{is_named, removed_stop, with_rest, without_stops_of};
 ghost use Rattle.xm_rules.specs.Refusals.{has_stop};
@@ -36,6 +38,7 @@ impl<A: Allocator + Copy> Unsettled<A> {
         ensures replaced { self.new ≡ record self.old {
           state = come (cancelled self.old.state order.now.member order.now.reference) order.now;
           ready = Used;
+          seen = seen_after self.old.seen (come_events (cancelled self.old.state order.now.member order.now.reference) order.now);
         } }
         ensures made { Makes self.old self.new }
     {

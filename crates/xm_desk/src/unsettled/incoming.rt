@@ -1,9 +1,11 @@
 //! Orders that come in, and stops that are entered.
-ghost use Rattle.std.specs.Prelude.{◌≡◌, ◌==◌, ◌++◌, ◌∷◌, [], false, true, if◌then◌else◌, IsTrue};
+ghost use Rattle.std.specs.Prelude.{◌≡◌, ◌==◌, ◌++◌, ◌∷◌, [], false, true, if◌then◌else◌, IsTrue, is_some};
 ghost use Rattle.xm_book.specs.Places.{place_of};
 ghost use Rattle.xm_desk.specs.Incoming.{CanComeIn, CanJoin};
 ghost use Rattle.xm_desk.specs.Made.{Makes};
 ghost use Rattle.xm_desk.specs.declared.unsettled.Ready.TheVariants.{ForStop, ForOrder, Used};
+ghost use Rattle.xm_events.specs.Seen.{latest, seen_after};
+ghost use Rattle.xm_events.specs.Story.{come_events, come_under_events, sweep_events};
 ghost use Rattle.xm_rules.specs.Refusals.{has_stop};
 ghost use Rattle.xm_rules.specs.Settling.{come, is_continuous, joined, sweep_of, swept};
 ghost use Rattle.xm_rules.specs.Step.{come_under};
@@ -19,6 +21,7 @@ use std::snapshot::Snapshot;
 use xm_book::Place;
 use xm_match::fillable;
 use xm_rules::{Auction, CallStage, Condition, Order, Phase, Stop};
+use xm_ticks::Price;
 
 impl<A: Allocator + Copy> Unsettled<A> {
     /// An order comes in, on its condition.
@@ -26,7 +29,7 @@ impl<A: Allocator + Copy> Unsettled<A> {
     pub fn enter(&mut self, order: &Order, condition: Condition)
         requires can { CanComeIn self.old order.now }
         requires immediate { condition ≡ Ioc → is_continuous self.old.state.phase ≡ true }
-        ensures come { self.new ≡ record self.old { state = come_under condition self.old.state order.now; ready = Used } }
+        ensures come { self.new ≡ record self.old { state = come_under condition self.old.state order.now; ready = Used; seen = seen_after self.old.seen (come_under_events condition self.old.state order.now) } }
         ensures made { Makes self.old self.new }
     {
         match condition {
@@ -52,7 +55,7 @@ impl<A: Allocator + Copy> Unsettled<A> {
     #[inline(always)]
     pub fn come(&mut self, order: &Order)
         requires { CanComeIn self.old order.now }
-        ensures come { self.new ≡ record self.old { state = come self.old.state order.now; ready = Used } }
+        ensures come { self.new ≡ record self.old { state = come self.old.state order.now; ready = Used; seen = seen_after self.old.seen (come_events self.old.state order.now) } }
         ensures made { Makes self.old self.new }
     {
         if !(self.phase.is_continuous() && order.restriction.is_free()) {
@@ -68,7 +71,7 @@ impl<A: Allocator + Copy> Unsettled<A> {
     fn execute_or_kill(&mut self, order: &Order)
         requires can { CanComeIn self.old order.now }
         requires continuous { IsTrue (is_continuous self.old.state.phase) }
-        ensures come { self.new ≡ record self.old { state = come_under Ioc self.old.state order.now; ready = Used } }
+        ensures come { self.new ≡ record self.old { state = come_under Ioc self.old.state order.now; ready = Used; seen = seen_after self.old.seen (come_under_events Ioc self.old.state order.now) } }
         ensures made { Makes self.old self.new }
     {
         if self.execute(order) > 0 {
@@ -79,7 +82,7 @@ impl<A: Allocator + Copy> Unsettled<A> {
     /// A fill-or-kill order comes in where it can be executed whole, and else is deleted.
     fn fill_or_kill(&mut self, order: &Order)
         requires { CanComeIn self.old order.now }
-        ensures come { self.new ≡ record self.old { state = come_under Fok self.old.state order.now; ready = Used } }
+        ensures come { self.new ≡ record self.old { state = come_under Fok self.old.state order.now; ready = Used; seen = seen_after self.old.seen (come_under_events Fok self.old.state order.now) } }
         ensures made { Makes self.old self.new }
     {
         if self.is_fillable(order) {
@@ -106,6 +109,7 @@ impl<A: Allocator + Copy> Unsettled<A> {
         ensures swept { self.new ≡ record self.old {
           state = swept self.old.state order.now;
           ready = if rest_after (sweep_of self.old.state order.now) == 0 then Used else ForOrder (place_of order.now);
+          seen = seen_after self.old.seen (sweep_events self.old.state order.now);
         } }
         ensures rest { result ≡ rest_after (sweep_of self.old.state order.now) }
         ensures made { Makes self.old self.new }
@@ -115,7 +119,8 @@ impl<A: Allocator + Copy> Unsettled<A> {
         self.sweeps += 1;
         let widths = self.settings.widths;
         let swept = self.tape.sweep(&mut self.book, order, self.sweeps, &widths);
-        self.phase = phase_after(self.phase, swept.interrupted);
+        self.phase = phase_after(self.phase, swept.interruption);
+        self.interruption = latest(self.interruption, swept.interruption);
         if swept.rest == 0 {
             self.book.release(&Place::of(order));
             self.ready = Snapshot::of(&Ready::Used);
@@ -146,13 +151,22 @@ impl<A: Allocator + Copy> Unsettled<A> {
     }
 }
 
-/// The phase after a sweep: one that is interrupted ends continuous trading.
-fn phase_after(phase: Phase, interrupted: bool) -> Phase
-    ensures { result ≡ (if interrupted then Call Interruption Interrupted else phase) }
+/// The phase after a sweep: a price that interrupts it ends continuous trading.
+fn phase_after(phase: Phase, interruption: Option<Price>) -> Phase
+    ensures { result ≡ (if is_some interruption then Call Interruption Interrupted else phase) }
 {
-    if interrupted {
-        Phase::Call(Auction::Interruption, CallStage::Interrupted)
-    } else {
-        phase
+    match interruption {
+        Some(_) => Phase::Call(Auction::Interruption, CallStage::Interrupted),
+        None => phase,
+    }
+}
+
+/// The later of two prices, where there is one.
+fn latest(before: Option<Price>, price: Option<Price>) -> Option<Price>
+    ensures { result ≡ latest before price }
+{
+    match price {
+        Some(price) => Some(price),
+        None => before,
     }
 }

@@ -1,5 +1,5 @@
 //! A security between commands.
-ghost use Rattle.std.specs.Prelude.{◌≡◌, ◌+◌, ◌++◌, ◌<◌, ◌≤◌, [], All, None, Some, OnErr, OnOk, IfErr, IfOk, drop, length};
+ghost use Rattle.std.specs.Prelude.{◌≡◌, ◌==◌, ◌+◌, ◌++◌, ◌<◌, ◌≤◌, [], All, IsTrue, None, Some, OnErr, OnOk, IfErr, IfOk, drop, filter, find, length, option_copied};
 ghost use Rattle.xm_desk.specs.Accepted.{IsAccepted};
 ghost use Rattle.xm_desk.specs.Growth.{ready_for};
 ghost use Rattle.xm_desk.specs.Made.{AreSized, IsCounted, Makes};
@@ -8,12 +8,18 @@ ghost use Rattle.xm_desk.specs.Settled.{places_in};
 ghost use Rattle.xm_desk.specs.Shown.{level_in, market_units, units_left};
 ghost use Rattle.xm_desk.specs.declared.tape.TheConstants.{MAX_TRADES};
 ghost use Rattle.xm_desk.specs.declared.unsettled.Ready.TheVariants.{Nothing};
+ghost use Rattle.xm_events.specs.Seen.{nothing_seen, seen_of};
 ghost use Rattle.xm_rules.specs.Opening.{opening};
+ghost use Rattle.xm_rules.specs.Orders.{is_named, is_stop_named};
 ghost use Rattle.xm_rules.specs.Quote.{best_limit, indicative};
 ghost use Rattle.xm_rules.specs.Refusals.{refusal_of};
+ghost use Rattle.xm_rules.specs.Settings.{are_widths};
 ghost use Rattle.xm_rules.specs.State.{ref1, ref2};
+ghost use Rattle.xm_rules.specs.declared.orders.Order.{Order};
+ghost use Rattle.xm_rules.specs.declared.orders.Stop.{Stop};
 ghost use Rattle.xm_rules.specs.Step.{new_trades, step};
 ghost use Rattle.xm_rules.specs.Sums.{AreWithinLimits, IsBetweenMembers, total_money, total_quantity};
+ghost use Rattle.xm_rules.specs.declared.carried.TheConstants.{MAX_CARRIED};
 ghost use Rattle.xm_rules.specs.declared.settings.TheConstants.{PHASE_COMMANDS_MORE};
 ghost use Rattle.xm_ticks.specs.declared.numbers.TheConstants.{MAX_JOURNAL_LIMIT, MAX_PRICE};
 
@@ -27,7 +33,7 @@ use xm_auction::auction_price;
 use xm_memory::OutOfMemory;
 use xm_name_index::Storage;
 use xm_positions::Positions;
-use xm_rules::{Command, DeskSettings, Order, Phase, Refusal, Reply, Side, Stop, Trade};
+use xm_rules::{Command, DeskSettings, Order, Phase, Refusal, Reply, Side, Stop, Trade, Widths};
 use xm_ticks::Price;
 
 /// A security after the commands that it accepted. No stop is pending.
@@ -43,7 +49,7 @@ impl<A: Allocator + Copy> Model for Market<A> {
 
     ghost Value = { Settled };
 
-    ghost view = { λ m. record { state = m.inside.state; ready = m.inside.ready } };
+    ghost view = { λ m. record { state = m.inside.state; ready = m.inside.ready; seen = m.inside.seen } };
 
     ghost invariant = { λ m. record {
       pending : m.inside.pending ≡ [];
@@ -55,7 +61,7 @@ impl<A: Allocator + Copy> Market<A> {
     /// A security before the day, with what earlier days left. It fails where a growth is refused.
     pub fn open(storage: Storage<A>, settings: DeskSettings) -> Result<Market<A>, OutOfMemory>
         requires { open_fault settings ≡ None }
-        ensures { IfOk result (λ market. market ≡ record { state = opening settings; ready = Nothing }) }
+        ensures { IfOk result (λ market. market ≡ record { state = opening settings; ready = Nothing; seen = nothing_seen }) }
     {
         let entries = OpenEntries::of(storage, &settings)?;
         let inside = Unsettled::before_day(storage.alloc, settings, entries)?;
@@ -74,6 +80,20 @@ impl<A: Allocator + Copy> Market<A> {
         ensures { IfOk result (λ stops. stops.items ≡ self.now.state.stops) }
     {
         self.inside.stops.list()
+    }
+
+    /// A member's live orders in time order, or `OutOfMemory` where the growth of their list was refused.
+    pub fn orders_of(&self, member: u32) -> Result<Vec<Order, A>, OutOfMemory>
+        ensures { IfOk result (λ orders. orders.items ≡ filter (λ (o : Order). o.member == member) self.now.state.orders) }
+    {
+        self.inside.book.of_member(member)
+    }
+
+    /// A member's held stops in order of entry, or `OutOfMemory` where the growth of their list was refused.
+    pub fn stops_of(&self, member: u32) -> Result<Vec<Stop, A>, OutOfMemory>
+        ensures { IfOk result (λ stops. stops.items ≡ filter (λ (s : Stop). s.member == member) self.now.state.stops) }
+    {
+        self.inside.stops.of_member(member)
     }
 
     /// What a command will do, or why it is refused, memory aside.
@@ -110,7 +130,11 @@ impl<A: Allocator + Copy> Market<A> {
     pub fn step(&mut self, accepted: &Accepted)
         requires ready { self.old.ready ≡ ready_for accepted.now.action }
         requires accepted { IsAccepted self.old.state accepted.now }
-        ensures state { self.new ≡ record { state = step self.old.state accepted.now.command.value; ready = Nothing } }
+        ensures state { self.new ≡ record {
+          state = step self.old.state accepted.now.command.value;
+          ready = Nothing;
+          seen = seen_of self.old.state accepted.now.command.value;
+        } }
         ensures appended { self.new.state.trades ≡ self.old.state.trades ++ new_trades self.old.state self.new.state }
     {
         self.inside.step(accepted);
@@ -156,6 +180,14 @@ impl<A: Allocator + Copy> Market<A> {
         ensures { result.now ≡ self.now.state.settings }
     {
         &self.inside.settings
+    }
+
+    /// The widths of the price ranges.
+    pub fn widths(&self) -> Widths
+        ensures widths { result ≡ self.now.state.settings.widths }
+        ensures lawful { IsTrue (are_widths result) }
+    {
+        self.inside.widths()
     }
 
     /// The trades, the first one first.
@@ -217,6 +249,43 @@ impl<A: Allocator + Copy> Market<A> {
         }
     }
 
+    /// The live order of this name.
+    pub fn order(&self, member: u32, reference: u32) -> Option<&Order>
+        ensures { option_copied result ≡ find (is_named member reference) self.now.state.orders }
+    {
+        self.inside.book.find(member, reference)
+    }
+
+    /// The held stop of this name.
+    pub fn stop(&self, member: u32, reference: u32) -> Option<&Stop>
+        ensures { option_copied result ≡ find (is_stop_named member reference) self.now.state.stops }
+    {
+        self.inside.stops.find(member, reference)
+    }
+
+    /// The number of sweeps, and of calls that traded.
+    pub fn sweeps(&self) -> u64
+        ensures sweeps { result ≡ self.now.state.sweeps }
+        ensures few { result ≤ MAX_CARRIED + MAX_JOURNAL_LIMIT + PHASE_COMMANDS_MORE }
+    {
+        let _ = self.inside.settings.limit.get(); // The range of the limit is known where it is asked for.
+        self.inside.sweeps
+    }
+
+    /// The stops that came in as orders in the last command, or `OutOfMemory` where the growth of their list was refused.
+    pub fn triggered(&self) -> Result<Vec<Stop, A>, OutOfMemory>
+        ensures { IfOk result (λ stops. stops.items ≡ self.now.seen.triggered) }
+    {
+        self.inside.pending.gone()
+    }
+
+    /// The price that interrupted trading in the last command, or led a call to its next stage.
+    pub fn interruption(&self) -> Option<Price>
+        ensures { result ≡ self.now.seen.interruption }
+    {
+        self.inside.interruption
+    }
+
     /// How many commands it accepted.
     pub fn accepted(&self) -> u64
         ensures { result ≡ self.now.state.accepted }
@@ -254,14 +323,28 @@ impl<A: Allocator + Copy> Unsettled<A> {
         requires settled { self.old.pending ≡ [] }
         requires accepted { IsAccepted self.old.state accepted.now }
         requires counted { IsCounted self.old.state }
-        ensures stepped { self.new ≡ record self.old { state = step self.old.state accepted.now.command.value; ready = Nothing } }
+        ensures stepped { self.new ≡ record self.old {
+          state = step self.old.state accepted.now.command.value;
+          ready = Nothing;
+          seen = seen_of self.old.state accepted.now.command.value;
+        } }
         ensures counted { IsCounted self.new.state }
         ensures made { Makes self.old self.new }
     {
         let _ = self.settings.limit.get(); // The range of the limit is known where it is asked for.
+        self.forget();
         self.act(accepted);
         self.settle();
         self.count();
+    }
+
+    /// Forgets what was seen of the last command.
+    fn forget(&mut self)
+        requires { self.old.pending ≡ [] }
+        ensures { self.new ≡ record self.old { seen = nothing_seen } }
+    {
+        self.pending.forget();
+        self.interruption = None;
     }
 
     /// Counts a command, for which nothing is kept any more.

@@ -113,6 +113,21 @@ impl<A: Allocator + Copy> Day<A> {
         self.desk.stops()
     }
 
+    /// The live orders of a member in time order.
+    pub fn orders_of(&self, member: u32) -> Result<Vec<Order, A>, OutOfMemory> {
+        self.desk.orders_of(member)
+    }
+
+    /// The held stops of a member in order of entry.
+    pub fn stops_of(&self, member: u32) -> Result<Vec<Stop, A>, OutOfMemory> {
+        self.desk.stops_of(member)
+    }
+
+    /// The stops that the last command led to orders of, in the order in which these came in.
+    pub fn triggered(&self) -> Result<Vec<Stop, A>, OutOfMemory> {
+        self.desk.triggered()
+    }
+
     /// Compares the live orders and the held stops with what the tables have of them.
     pub fn has_left(&self, rt: &impl Abort, live: &[Live], held: &[Held]) {
         are_live(rt, &self.orders().expect(rt, "memory"), live);

@@ -51,6 +51,8 @@ enum Before {
     Stops(u32),
     /// The same, where the sell and the journal have their room.
     Room(u32),
+    /// So many stops that the sell has reached.
+    Reached(u32),
 }
 
 #[derive(Clone, Copy)]
@@ -69,6 +71,11 @@ enum Call {
     Next(usize),
     Orders,
     Stops,
+    /// `Desk::orders_of`, of the first member.
+    OrdersOf,
+    /// `Desk::stops_of`, of the second one.
+    StopsOf,
+    Triggered,
 }
 
 const STOP: Command = stop!(Sell, 1, 1, Kind::StopMarket(990), 1);
@@ -100,7 +107,7 @@ macro_rules! next {
 /// Where room was made ahead, commands ask for no more than their orders' places; where a sell and the journal have their room, a
 /// cascade of any length asks for nothing. A list first asks for room for its whole answer, and grows as it goes where it can't
 /// have that.
-const CALLS: [Counted<(Before, Call)>; 50] = [
+const CALLS: [Counted<(Before, Call)>; 53] = [
     ((Before::Commands(1), Call::OpenDesks(1)), 2, 0),
     ((Before::Commands(1), Call::OpenDesks(8)), 12, 0),
     ((Before::Commands(1), Call::Open), 1, 0),
@@ -145,6 +152,9 @@ const CALLS: [Counted<(Before, Call)>; 50] = [
     ((Before::Commands(17), Call::Orders), 1, 1),
     ((Before::Commands(11), Call::Orders), 1, 1),
     ((Before::Stops(8), Call::Stops), 2, 1),
+    ((Before::Commands(11), Call::OrdersOf), 2, 1),
+    ((Before::Stops(8), Call::StopsOf), 4, 1),
+    ((Before::Reached(8), Call::Triggered), 0, 1),
     ((Before::Stops(0), Call::Apply(STOP)), 28, 0),
     ((Before::Stops(1), Call::Apply(STOP_LIMIT)), 10, 0),
     ((Before::Stops(1), Call::Apply(BUY_STOP)), 12, 0),
@@ -238,6 +248,11 @@ fn standing<A: Allocator + Copy>(rt: &impl Abort, alloc: A, before: Before) -> D
             day.accept(rt, &GONE);
             day
         }
+        Before::Reached(stops) => {
+            let mut day = filled(rt, alloc, stops);
+            day.accept(rt, &[SELL]);
+            day
+        }
     }
 }
 
@@ -300,6 +315,18 @@ impl<A: Allocator + Copy, R: Abort + AllocGlobal> Tried<A, R> for Opened<A> {
             }
             Call::Stops => {
                 self.stops = self.day.stops()?;
+                Ok(())
+            }
+            Call::OrdersOf => {
+                self.orders = self.day.orders_of(0)?;
+                Ok(())
+            }
+            Call::StopsOf => {
+                self.stops = self.day.stops_of(1)?;
+                Ok(())
+            }
+            Call::Triggered => {
+                self.stops = self.day.triggered()?;
                 Ok(())
             }
         }

@@ -36,7 +36,7 @@ returns-clause-filled g c = let e = (at_once g c).filled in omega (arith, e)
 pub returns-clause-rest : goal.returns-clause-rest
 returns-clause-rest g c = (at_once g c).rest
 
-pub returns-clause-interrupted : goal.returns-clause-interrupted
-returns-clause-interrupted g c =
+pub returns-clause-interruption : goal.returns-clause-interruption
+returns-clause-interruption g c =
     let w = sweep_over c.args.book.now.orders c.args.incoming.now c.args.ref1 c.args.ref2 c.args.widths.now in
-    sym (not_interrupted w (none g c)) ∙ (at_once g c).interrupted
+    sym (not_interrupted w (none g c)) ∙ (at_once g c).interruption

@@ -4,7 +4,7 @@ use Rattle.xm_book.specs.TimeList.{TimeList}
 use Rattle.xm_book.specs.Trades.{TradeList}
 use Rattle.xm_slots.proofs.Tests.{same_some}
 use Rattle.xm_book.proofs.Naming.{contains_best}
-use Rattle.xm_match.specs.Meeting.{is_outside, next_met, sweep_over, terms_of, trade_up_to}
+use Rattle.xm_match.specs.Meeting.{next_met, price_outside, sweep_over, terms_of, trade_up_to}
 use Rattle.xm_match.specs.declared.meeting.Next.TheVariants.{Inside}
 use Rattle.xm_match.specs.declared.terms.Terms.{Terms}
 use Rattle.xm_match.proofs.Cuts.{IsSound}
@@ -114,7 +114,7 @@ loop-next-preserved g c =
     }
 
 -- where nothing further is met inside the ranges, the sweep has come to its end
-at_last : (g : given.Over) (c : goal.After-is_outside g)
+at_last : (g : given.Over) (c : goal.After-price_outside g)
     → Ended (sweep_over c.args.book.now.orders c.args.incoming.now c.args.ref1 c.args.ref2 c.args.widths.now) c.args.number c.loop-next.rest c.loop-next.book.orders c.args.trades.now.trades
     c.loop-next.trades.trades c.args.trades.now.room c.loop-next.trades.room
 at_last g c =
@@ -142,12 +142,12 @@ returns-clause-filled g c = (at_last g c).filled
 pub returns-clause-rest : goal.returns-clause-rest
 returns-clause-rest g c = (at_last g c).rest
 
-pub returns-clause-interrupted : goal.returns-clause-interrupted
-returns-clause-interrupted g c =
+pub returns-clause-interruption : goal.returns-clause-interruption
+returns-clause-interruption g c =
     let w = sweep_over c.args.book.now.orders c.args.incoming.now c.args.ref1 c.args.ref2 c.args.widths.now in
     let sound : IsSound w = record { own = c.len.ensures.book.names; rests = c.len.ensures.book.rests } in
     let l = c.loop-next in
-    c.is_outside.ensures
-    ∙ ap is_outside l.invariant.next
-    ∙ sym (at_end (terms_of w) l.rest l.book.orders (λ o met. c.in_default.not-Inside o (l.invariant.next ∙ met))).interrupted
-    ∙ (at_last g c).interrupted
+    c.price_outside.ensures
+    ∙ ap price_outside l.invariant.next
+    ∙ sym (at_end (terms_of w) l.rest l.book.orders (λ o met. c.in_default.not-Inside o (l.invariant.next ∙ met))).interruption
+    ∙ (at_last g c).interruption

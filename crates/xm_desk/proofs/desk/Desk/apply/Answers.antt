@@ -1,6 +1,8 @@
 use Rattle.std.proofs.Common.{◌≡◌, ◌≤◌, ◌∙◌, ℕ, All, drop, length, List, Some, None, [], ◌∷◌, ◌++◌, ap, sym, subst, rules, true}
 use Rattle.std.proofs.lemmas.List.Elements.{All-drop}
 use Rattle.xm_positions.specs.Positions.{Recorded}
+use Rattle.xm_events.proofs.Seeing.{last-seen-push}
+use Rattle.xm_events.specs.Seen.{last_seen, seen_of}
 use Rattle.xm_rules.proofs.Journals.{is_lawful-push, journal_of, replay-push, reply-parts}
 use Rattle.xm_rules.proofs.Kept.{step-settings}
 use Rattle.xm_rules.proofs.Memory.{refusal-not_memory}
@@ -42,6 +44,7 @@ invariant_of-self-2 g c =
     let more = j.commands ++ command ∷ [] in
     let t = c.step.new.self.state in
     let took : t ≡ step s command = search rules in
+    let saw : c.step.new.self.seen ≡ seen_of s command = search rules in
     let items : g.J.Journaling.commands c.add.new.self ≡ more = cc in
     let passed : refusal_of s command ≡ None = search rules in
     let same : t.settings ≡ s.settings = ap (λ (u : State). u.settings) took ∙ step-settings s command in
@@ -50,6 +53,7 @@ invariant_of-self-2 g c =
       replayed = took ∙ ap (λ (u : State). step u command) i.replayed ∙ sym (replay-push j command) ∙ ap replay journal;
       lawful = subst (λ (k : Journal). is_lawful k ≡ true) journal (is_lawful-push j command i.lawful (subst (λ (u : State). refusal_of u command ≡ None) i.replayed passed));
       ready = search rules;
+      seen = saw ∙ ap (λ (u : State). seen_of u command) i.replayed ∙ sym (last-seen-push j command) ∙ ap last_seen journal;
       positions = c.record_from-reply.ensures.recorded
           ∙ ap (λ (p : Recorded). recorded p.members (p.trades ++ drop (length c.trades-first_trade.result.now) t.trades)) i.positions
           ∙ ap (recorded s.settings.members) (whole g c)

@@ -2,6 +2,7 @@ use Rattle.std.proofs.Common.{◌≡◌, ◌∙◌, List, [], ap, ap₂, sym}
 use Rattle.xm_desk.specs.Settled.{Settled}
 use Rattle.xm_rules.proofs.Journals.{is_lawful-opening, journal_of, replay-opening}
 use Rattle.xm_rules.proofs.Opening.{opening-is, opening-settings}
+use Rattle.xm_events.specs.Seen.{last_seen}
 use Rattle.xm_rules.specs.State.{State}
 use Rattle.xm_rules.specs.Step.{is_lawful, replay}
 use Rattle.xm_rules.specs.declared.commands.Command.{Command}
@@ -28,5 +29,6 @@ invariant_of-result g c =
       replayed = ap (λ (m : Settled). m.state) fresh ∙ sym (replay-opening settings) ∙ ap replay (sym journal);
       lawful = ap is_lawful journal ∙ is_lawful-opening settings (opens settings (sym c.open_fault.ensures ∙ c.in_default.is)).1;
       ready = ap (λ (m : Settled). m.ready) fresh;
+      seen = ap (λ (m : Settled). m.seen) fresh ∙ ap last_seen (sym journal);
       positions = c.in_ok-positions.ensures ∙ ap₂ (λ (s : DeskSettings) (trades : List Trade). recorded s.members trades) (sym own) (sym untraded);
     }

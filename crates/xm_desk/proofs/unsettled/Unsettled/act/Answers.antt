@@ -60,7 +60,56 @@ returns-in-CancelAll-clause-made g c = makes-all_cancelled c.args.self.now c.can
 pub returns-in-EndDay-clause-made : goal.returns-in-EndDay-clause-made
 returns-in-EndDay-clause-made g c = makes-ended c.args.self.now c.end_day.new.self c.end_day.ensures
 
+pub returns-in-Enter-clause-acted : goal.returns-in-Enter-clause-acted
+returns-in-Enter-clause-acted g c =
+    let u = c.args.self.now in
+    let does = found u.state c.args.accepted.now _ c.requires.accepted c.in-Enter.is in
+    search (rules, does.same, does.told u.seen)
+
+pub returns-in-Hold-clause-acted : goal.returns-in-Hold-clause-acted
+returns-in-Hold-clause-acted g c =
+    let u = c.args.self.now in
+    let does = found u.state c.args.accepted.now _ c.requires.accepted c.in-Hold.is in
+    search (rules, does.same, does.told u.seen)
+
+pub returns-in-Reduce-clause-acted : goal.returns-in-Reduce-clause-acted
+returns-in-Reduce-clause-acted g c =
+    let u = c.args.self.now in
+    let does = found u.state c.args.accepted.now _ c.requires.accepted c.in-Reduce.is in
+    search (rules, does.same, does.told u.seen)
+
 pub returns-in-Replace-clause-acted : goal.returns-in-Replace-clause-acted
 returns-in-Replace-clause-acted g c =
     let u = c.args.self.now in
-    search (rules, (found u.state c.args.accepted.now _ c.requires.accepted c.in-Replace.is).same)
+    let does = found u.state c.args.accepted.now _ c.requires.accepted c.in-Replace.is in
+    search (rules, does.same, does.told u.seen)
+
+pub returns-in-Cancel-clause-acted : goal.returns-in-Cancel-clause-acted
+returns-in-Cancel-clause-acted g c =
+    let u = c.args.self.now in
+    let does = found u.state c.args.accepted.now _ c.requires.accepted c.in-Cancel.is in
+    search (rules, does.same, does.told u.seen)
+
+pub returns-in-CancelAll-clause-acted : goal.returns-in-CancelAll-clause-acted
+returns-in-CancelAll-clause-acted g c =
+    let u = c.args.self.now in
+    let does = found u.state c.args.accepted.now _ c.requires.accepted c.in-CancelAll.is in
+    search (rules, does.same, does.told u.seen)
+
+pub returns-in-StartCall-clause-acted : goal.returns-in-StartCall-clause-acted
+returns-in-StartCall-clause-acted g c =
+    let u = c.args.self.now in
+    let does = found u.state c.args.accepted.now _ c.requires.accepted c.in-StartCall.is in
+    search (rules, does.same, does.told u.seen)
+
+pub returns-in-EndCall-clause-acted : goal.returns-in-EndCall-clause-acted
+returns-in-EndCall-clause-acted g c =
+    let u = c.args.self.now in
+    let does = found u.state c.args.accepted.now _ c.requires.accepted c.in-EndCall.is in
+    search (rules, does.same, does.told u.seen)
+
+pub returns-in-EndDay-clause-acted : goal.returns-in-EndDay-clause-acted
+returns-in-EndDay-clause-acted g c =
+    let u = c.args.self.now in
+    let does = found u.state c.args.accepted.now _ c.requires.accepted c.in-EndDay.is in
+    search (rules, does.same, does.told u.seen)

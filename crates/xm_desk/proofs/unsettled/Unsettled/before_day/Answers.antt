@@ -1,4 +1,4 @@
-use Rattle.std.proofs.Common.{◌≡◌, ◌∙◌, ◌++◌, List, [], length, append-nil, subst, sym, ap, ap₂, arith}
+use Rattle.std.proofs.Common.{◌≡◌, ◌∙◌, ◌++◌, List, [], None, length, append-nil, subst, sym, ap, ap₂, arith}
 use Rattle.xm_book.specs.Places.{SamePlaces}
 use Rattle.xm_book.specs.declared.places.Place.{Place}
 use Rattle.xm_rules.proofs.Opening.{opening-is}
@@ -14,6 +14,7 @@ use Rattle.xm_desk.proofs.Opens.{opens-few}
 use Rattle.xm_desk.specs.Frame.{IsFramed, places_of_stops}
 use Rattle.xm_desk.specs.Settled.{Unsettled, came}
 use Rattle.xm_desk.specs.Tape.{TapeView}
+use Rattle.xm_events.specs.Seen.{Seen}
 use Rattle.xm_desk.specs.declared.unsettled.Ready.{Ready}
 use Rattle.xm_desk.specs.declared.unsettled.Ready.TheVariants.{Nothing}
 use Rattle.xm_desk.proofs.unsettled.Unsettled.before_day.Goals as goal
@@ -60,5 +61,8 @@ returns g c =
     ∙ ap (state (opening settings).orders (opening settings).stops) untraded
     ∙ ap (λ (t : State). state t.orders t.stops []) (opening-is settings)
     ∙ sym (opening-is settings) in
-    ap (λ (t : State). let u : Unsettled = record { state = t; pending = c.reserve-2.new.self.stops; ready = c.of.result.value } in u) opened
-    ∙ ap₂ (λ (pending : List Stop) (ready : Ready). let u : Unsettled = record { state = opening settings; pending = pending; ready = ready } in u) none c.of.ensures
+    let seen : List Stop → Seen = λ triggered. record { triggered = triggered; interruption = None } in
+    let unseen : c.reserve-2.new.self.gone ≡ [] = ap (λ (p : PendingStops). p.gone) c.in_ok-reserve-2.ensures.ok ∙ ap (λ (p : PendingStops). p.gone) c.new-pending.ensures in
+    ap (λ (t : State). let u : Unsettled = record { state = t; pending = c.reserve-2.new.self.stops; ready = c.of.result.value; seen = seen c.reserve-2.new.self.gone } in u) opened
+    ∙ ap₂ (λ (pending : List Stop) (ready : Ready). let u : Unsettled = record { state = opening settings; pending = pending; ready = ready; seen = seen c.reserve-2.new.self.gone } in u) none c.of.ensures
+    ∙ ap (λ (triggered : List Stop). let u : Unsettled = record { state = opening settings; pending = []; ready = Nothing; seen = seen triggered } in u) unseen

@@ -51,6 +51,7 @@ returns-else-is_none g c =
       state = record { settings = u.settings; accepted = u.accepted; phase = u.phase; orders = l.orders; stops = u.stops.stops; trades = u.tape.trades; sweeps = u.sweeps };
       pending = u.pending.stops;
       ready = u.ready.value;
+      seen = record { triggered = u.pending.gone; interruption = u.interruption };
     } in
     let found : is_some (find (is_named m r) v.state.orders) ≡ true = ap (λ (w : Unsettled). is_some (find (is_named m r) w.state.orders)) (sym c.self.view_is) ∙ ap is_some (sym c.remove.ensures.found) ∙ c.if-is_none.ensures in
     ap of_book c.remove.ensures.left ∙ ap leaves c.self.view_is

@@ -33,6 +33,7 @@ returns g c =
       state = record { settings = u.settings; accepted = u.accepted; phase = u.phase; orders = b.orders; stops = u.stops.stops; trades = u.tape.trades; sweeps = u.sweeps };
       pending = u.pending.stops;
       ready = u.ready.value;
+      seen = record { triggered = u.pending.gone; interruption = u.interruption };
     } in
     let cancels : Unsettled → Unsettled = λ w. record w { state = record w.state { orders = without_member m w.state.orders; stops = without_stops_of m w.state.stops } } in
     let done : c.cancel_any_stop.new.self ≡ with_stops (without_stops_of m l.state.stops) l = search rules in

@@ -1,5 +1,7 @@
-use Rattle.std.proofs.Common.{◌≡◌, ◌∙◌, ◌∷◌, sym, ap, subst, true}
+use Rattle.std.proofs.Common.{◌≡◌, ◌∙◌, ◌++◌, ◌∷◌, Option, drop, sym, ap, subst, true}
 use Rattle.std.specs.List.{list_any}
+use Rattle.std.specs.Option.{option_to_list}
+use Rattle.xm_rules.specs.declared.orders.Stop.{Stop}
 use Rattle.xm_book.specs.Places.{SamePlaces, place_of, same_place}
 use Rattle.xm_book.specs.TimeList.{TimeList}
 use Rattle.xm_book.specs.declared.places.Place.{Place}
@@ -22,12 +24,13 @@ invariant_of-self-2 g c =
     let u = c.self.inside in
     let is = c.of.ensures ∙ ap place_of c.order_of_stop.ensures in
     let rest = c.release.ensures.rest in
+    let left : Option Stop → PendingStops = λ stop. record u.pending { stops = drop 1 u.pending.stops; gone = u.pending.gone ++ option_to_list stop } in
     record {
       opening = c.self.invariant.opening;
       opens = c.self.invariant.opens;
       few = c.self.invariant.few;
       frame =
-          subst (λ (p : PendingStops). IsFramed (came u.settings u.accepted) c.release.new.self u.stops p u.tape.room u.ready.value) (sym c.pop.ensures.rest)
+          subst (λ (p : PendingStops). IsFramed (came u.settings u.accepted) c.release.new.self u.stops p u.tape.room u.ready.value) (sym (c.pop.ensures.rest ∙ ap left c.in-Some.is))
           (pending-leaves (came u.settings u.accepted) u.book u.stops u.pending u.tape.room c.in-Some.stop (sym c.pop.ensures.first ∙ c.in-Some.is) c.release.new.self u.ready.value c.self.invariant.frame
           (subst (λ (p : Place). SamePlaces u.book.reserved (p ∷ c.release.new.self.reserved)) is c.release.ensures.places) (sym (ap (λ (l : TimeList). l.orders) rest)) (sym (ap (λ (l : TimeList). l.adds) rest)));
     }

@@ -1,4 +1,4 @@
-use Rattle.std.proofs.Common.{◌≡◌, ◌∙◌, ◌<◌, ◌+◌, ◌++◌, ◌∷◌, true, List, length, sym, ap, subst, arith}
+use Rattle.std.proofs.Common.{◌==◌, if◌then◌else◌, ◌≡◌, ◌∙◌, ◌<◌, ◌+◌, ◌++◌, ◌∷◌, true, List, length, sym, ap, subst, arith}
 use Rattle.std.specs.List.{list_any}
 use Rattle.xm_book.specs.Places.{SamePlaces, same_place}
 use Rattle.xm_book.specs.TimeList.{TimeList}
@@ -9,7 +9,13 @@ use Rattle.xm_desk.specs.Frame.{IsFramed}
 use Rattle.xm_desk.specs.Settled.{Unsettled, possible_trades, trades_in, came}
 use Rattle.xm_desk.specs.Tape.{TapeView, swept_by}
 use Rattle.xm_desk.specs.declared.unsettled.Ready.{Ready}
-use Rattle.xm_desk.specs.declared.unsettled.Ready.TheVariants.{ForOrder}
+use Rattle.xm_desk.specs.declared.unsettled.Ready.TheVariants.{ForOrder, Used}
+use Rattle.xm_book.specs.Places.{place_of}
+use Rattle.xm_desk.proofs.Sweeping.{is_not_zero, is_zero, phase_by, ready_by, swept-from, swept-view}
+use Rattle.xm_events.specs.Seen.{latest, seen_after}
+use Rattle.xm_events.specs.Story.{sweep_events}
+use Rattle.xm_rules.specs.Settling.{sweep_of, swept}
+use Rattle.xm_rules.specs.declared.orders.Order.{Order}
 use Rattle.xm_rules.proofs.SweepSizes.{sweep_leaves_no_more}
 use Rattle.xm_rules.specs.Sweep.{Sweep, rest_after, sweep_trades}
 use Rattle.xm_desk.proofs.unsettled.Unsettled.execute.Goals as goal
@@ -72,3 +78,43 @@ returns-else-swept-eq0-clause-made g c =
       sized = sized-swept (u.sweeps + 1) w c.requires.can.joins.rest;
       fewer = omega (arith, orders, c.sweep-swept.ensures.used_up.units_left some, ap possible_trades c.self.view_is);
     }
+
+taken : Order → Unsettled → Unsettled
+taken o v = record v { state = swept v.state o; ready = if rest_after (sweep_of v.state o) == 0 then Used else ForOrder (place_of o); seen = seen_after v.seen (sweep_events v.state o) }
+
+pub returns-then-swept-eq0-clause-swept : goal.returns-then-swept-eq0-clause-swept
+unfolding taken
+returns-then-swept-eq0-clause-swept g c =
+    let o = c.args.order.now in
+    let sweep = c.sweep-swept.ensures in
+    let u = c.self.inside in
+    let before : Unsettled = record {
+      state = record { settings = u.settings; accepted = u.accepted; phase = u.phase; orders = u.book.orders; stops = u.stops.stops; trades = u.tape.trades; sweeps = u.sweeps };
+      pending = u.pending.stops;
+      ready = u.ready.value;
+      seen = record { triggered = u.pending.gone; interruption = u.interruption };
+    } in
+    let w = swept_by u.tape u.book.orders o u.settings.widths in
+    swept-view before o w (swept-from u.tape u.settings.reference u.book.orders o u.settings.widths c.self.invariant.opening) _ _ _ _ _ (c.phase_after-self-inside.ensures ∙ ap (phase_by c.self.inside.phase) sweep.interruption)
+    (sym (ap (λ (l : TimeList). l.orders) c.release.ensures.rest) ∙ ap (λ (l : TimeList). l.orders) sweep.orders) (ap (λ (t : TapeView). t.trades) sweep.trades)
+    (c.of-then-swept-eq0.ensures ∙ ap (ready_by o) (sym (is_zero (rest_after w) (sym sweep.rest ∙ c.if-swept-eq0.true))))
+    (c.latest-self-inside.ensures ∙ ap (latest c.self.inside.interruption) sweep.interruption)
+    ∙ ap (taken o) c.self.view_is
+
+pub returns-else-swept-eq0-clause-swept : goal.returns-else-swept-eq0-clause-swept
+unfolding taken
+returns-else-swept-eq0-clause-swept g c =
+    let o = c.args.order.now in
+    let sweep = c.sweep-swept.ensures in
+    let u = c.self.inside in
+    let before : Unsettled = record {
+      state = record { settings = u.settings; accepted = u.accepted; phase = u.phase; orders = u.book.orders; stops = u.stops.stops; trades = u.tape.trades; sweeps = u.sweeps };
+      pending = u.pending.stops;
+      ready = u.ready.value;
+      seen = record { triggered = u.pending.gone; interruption = u.interruption };
+    } in
+    let w = swept_by u.tape u.book.orders o u.settings.widths in
+    let ready = ap (λ (v : Unsettled). v.ready) c.self.view_is ∙ c.requires.can.joins.ready in
+    swept-view before o w (swept-from u.tape u.settings.reference u.book.orders o u.settings.widths c.self.invariant.opening) _ _ _ _ _ (c.phase_after-self-inside.ensures ∙ ap (phase_by c.self.inside.phase) sweep.interruption) (ap (λ (l : TimeList). l.orders) sweep.orders)
+    (ap (λ (t : TapeView). t.trades) sweep.trades) (ready ∙ ap (ready_by o) (sym (is_not_zero (rest_after w) (λ zero. c.if-swept-eq0.false (sweep.rest ∙ zero))))) (c.latest-self-inside.ensures ∙ ap (latest c.self.inside.interruption) sweep.interruption)
+    ∙ ap (taken o) c.self.view_is

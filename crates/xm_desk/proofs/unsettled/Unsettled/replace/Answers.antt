@@ -6,6 +6,8 @@ use Rattle.xm_desk.proofs.Making.{makes-both, makes-none}
 use Rattle.xm_desk.proofs.Shorter.{filter-shorter}
 use Rattle.xm_desk.specs.Settled.{Unsettled, possible_trades, came}
 use Rattle.xm_desk.specs.declared.unsettled.Ready.TheVariants.{Used}
+use Rattle.xm_events.specs.Seen.{seen_after}
+use Rattle.xm_events.specs.Story.{come_events}
 use Rattle.xm_rules.specs.Orders.{is_named}
 use Rattle.xm_rules.specs.Settling.{come}
 use Rattle.xm_rules.specs.State.{State}
@@ -36,6 +38,7 @@ come-requires g c =
       state = record { settings = u.settings; accepted = u.accepted; phase = u.phase; orders = orders; stops = u.stops.stops; trades = u.tape.trades; sweeps = u.sweeps };
       pending = u.pending.stops;
       ready = u.ready.value;
+      seen = record { triggered = u.pending.gone; interruption = u.interruption };
     } in
     let left = ap (λ (l : TimeList). view l.orders) c.remove.ensures.left ∙ ap (without o.member o.reference) c.self.view_is in
     can-come-again c.args.self.now (view c.remove.new.self.orders) o left c.requires.ready c.requires.rest c.requires.accepted c.requires.sweeps
@@ -48,9 +51,10 @@ returns-clause-replaced g c =
       state = record { settings = u.settings; accepted = u.accepted; phase = u.phase; orders = orders; stops = u.stops.stops; trades = u.tape.trades; sweeps = u.sweeps };
       pending = u.pending.stops;
       ready = u.ready.value;
+      seen = record { triggered = u.pending.gone; interruption = u.interruption };
     } in
     let left = ap (λ (l : TimeList). view l.orders) c.remove.ensures.left ∙ ap (without o.member o.reference) c.self.view_is in
-    let comes : State → Unsettled → Unsettled = λ s v. record v { state = come s o; ready = Used } in
+    let comes : State → Unsettled → Unsettled = λ s v. record v { state = come s o; ready = Used; seen = seen_after v.seen (come_events s o) } in
     c.come.ensures.come
     ∙ ap (λ (v : Unsettled). comes v.state v) left
     ∙ ap (λ (s : State). comes s c.args.self.now) (leaves-as-cancelled c.args.self.now.state o.member o.reference c.requires.name)
@@ -64,6 +68,7 @@ returns-clause-made g c =
       state = record { settings = u.settings; accepted = u.accepted; phase = u.phase; orders = orders; stops = u.stops.stops; trades = u.tape.trades; sweeps = u.sweeps };
       pending = u.pending.stops;
       ready = u.ready.value;
+      seen = record { triggered = u.pending.gone; interruption = u.interruption };
     } in
     let w = view c.remove.new.self.orders in
     let left = ap (λ (l : TimeList). view l.orders) c.remove.ensures.left ∙ ap (without o.member o.reference) c.self.view_is in

@@ -1,10 +1,12 @@
-use Rattle.std.proofs.Common.{◌≡◌, ◌∙◌, drop, rules, sym, ap, subst}
+use Rattle.std.proofs.Common.{◌≡◌, ◌∙◌, ◌++◌, ◌∷◌, [], drop, rules, sym, ap, subst}
 use Rattle.std.specs.List.{slice_get}
 use Rattle.xm_desk.proofs.Turning.{Ends, Turns, ends, next-can-come, turns}
 use Rattle.xm_desk.specs.Incoming.{CanComeIn}
 use Rattle.xm_desk.specs.Made.{Makes}
 use Rattle.xm_desk.specs.Settled.{Unsettled, place_of_stop, places_in}
 use Rattle.xm_desk.specs.declared.unsettled.Ready.TheVariants.{ForOrder, Used}
+use Rattle.xm_events.specs.Seen.{seen_after}
+use Rattle.xm_events.specs.Story.{come_events}
 use Rattle.xm_rules.specs.Settling.{come, order_of_stop}
 use Rattle.xm_rules.specs.declared.orders.Order.{Order}
 use Rattle.xm_desk.proofs.unsettled.Unsettled.settle_next.Given.{Over}
@@ -19,8 +21,8 @@ come-requires g c =
     let v = c.take_reached.new.self in
     let stop = c.in-Some.stop in
     let first = ap (λ (x : Unsettled). slice_get x.pending 0) (sym c.take_reached.ensures) ∙ sym c.next_pending.ensures.first ∙ c.in-Some.is in
-    let next : c.next_pending.new.self ≡ record v { pending = drop 1 v.pending; ready = ForOrder (place_of_stop stop) } = search rules in
-    let before = next ∙ ap (λ (x : Unsettled). let w : Unsettled = record x { pending = drop 1 x.pending; ready = ForOrder (place_of_stop stop) } in w) c.take_reached.ensures in
+    let next : c.next_pending.new.self ≡ record v { pending = drop 1 v.pending; ready = ForOrder (place_of_stop stop); seen = record v.seen { triggered = v.seen.triggered ++ stop ∷ [] } } = search rules in
+    let before = next ∙ ap (λ (x : Unsettled). let w : Unsettled = record x { pending = drop 1 x.pending; ready = ForOrder (place_of_stop stop); seen = record x.seen { triggered = x.seen.triggered ++ stop ∷ [] } } in w) c.take_reached.ensures in
     subst (λ (o : Order). CanComeIn c.next_pending.new.self o) (sym c.order_of_stop.ensures)
     (subst (λ (x : Unsettled). CanComeIn x (order_of_stop stop)) (sym before) (next-can-come u c.requires stop first))
 
@@ -46,12 +48,12 @@ turned g c =
     let v = c.take_reached.new.self in
     let stop = c.in-Some.stop in
     let first = ap (λ (x : Unsettled). slice_get x.pending 0) (sym c.take_reached.ensures) ∙ sym c.next_pending.ensures.first ∙ c.in-Some.is in
-    let next : c.next_pending.new.self ≡ record v { pending = drop 1 v.pending; ready = ForOrder (place_of_stop stop) } = search rules in
-    let before = next ∙ ap (λ (x : Unsettled). let w : Unsettled = record x { pending = drop 1 x.pending; ready = ForOrder (place_of_stop stop) } in w) c.take_reached.ensures in
+    let next : c.next_pending.new.self ≡ record v { pending = drop 1 v.pending; ready = ForOrder (place_of_stop stop); seen = record v.seen { triggered = v.seen.triggered ++ stop ∷ [] } } = search rules in
+    let before = next ∙ ap (λ (x : Unsettled). let w : Unsettled = record x { pending = drop 1 x.pending; ready = ForOrder (place_of_stop stop); seen = record x.seen { triggered = x.seen.triggered ++ stop ∷ [] } } in w) c.take_reached.ensures in
     let n = c.next_pending.new.self in
     let after =
-    c.come.ensures.come ∙ ap (λ (o : Order). let w : Unsettled = record n { state = come n.state o; ready = Used } in w) c.order_of_stop.ensures
-    ∙ ap (λ (x : Unsettled). let w : Unsettled = record x { state = come x.state (order_of_stop stop); ready = Used } in w) before in
+    c.come.ensures.come ∙ ap (λ (o : Order). let w : Unsettled = record n { state = come n.state o; ready = Used; seen = seen_after n.seen (come_events n.state o) } in w) c.order_of_stop.ensures
+    ∙ ap (λ (x : Unsettled). let w : Unsettled = record x { state = come x.state (order_of_stop stop); ready = Used; seen = seen_after x.seen (come_events x.state (order_of_stop stop)) } in w) before in
     turns u c.requires stop first c.come.new.self after (subst (λ (x : Unsettled). Makes x c.come.new.self) before c.come.ensures.made)
 
 pub returns-in-Some-clause-fewer : goal.returns-in-Some-clause-fewer
@@ -59,6 +61,9 @@ returns-in-Some-clause-fewer g c = λ e. (turned g c).fewer
 
 pub returns-in-Some-clause-same : goal.returns-in-Some-clause-same
 returns-in-Some-clause-same g c = λ e. (turned g c).same
+
+pub returns-in-Some-clause-told : goal.returns-in-Some-clause-told
+returns-in-Some-clause-told g c = λ e. (turned g c).told
 
 pub returns-in-Some-clause-standing : goal.returns-in-Some-clause-standing
 returns-in-Some-clause-standing g c = (turned g c).standing

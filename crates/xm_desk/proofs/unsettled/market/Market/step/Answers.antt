@@ -1,6 +1,7 @@
 use Rattle.std.proofs.Common.{◌∙◌, ◌++◌, ap, sym, List}
 use Rattle.xm_desk.proofs.Making.{new-made}
 use Rattle.xm_desk.specs.Settled.{Settled, Unsettled}
+use Rattle.xm_events.specs.Seen.{seen_of}
 use Rattle.xm_rules.specs.State.{State}
 use Rattle.xm_rules.specs.Step.{new_trades, step}
 use Rattle.xm_rules.specs.declared.orders.Trade.{Trade}
@@ -17,8 +18,8 @@ invariant_of-self g c =
 pub returns-clause-state : goal.returns-clause-state
 returns-clause-state g c =
     let before = ap (λ (m : Settled). m.state) c.self.view_is in
-    ap (λ (u : Unsettled). let m : Settled = record { state = u.state; ready = u.ready } in m) c.step.ensures.stepped
-    ∙ ap (λ (s : State). let m : Settled = record { state = step s c.args.accepted.now.command.value; ready = Nothing } in m) before
+    ap (λ (u : Unsettled). let m : Settled = record { state = u.state; ready = u.ready; seen = u.seen } in m) c.step.ensures.stepped
+    ∙ ap (λ (s : State). let m : Settled = record { state = step s c.args.accepted.now.command.value; ready = Nothing; seen = seen_of s c.args.accepted.now.command.value } in m) before
 
 pub returns-clause-appended : goal.returns-clause-appended
 returns-clause-appended g c =
