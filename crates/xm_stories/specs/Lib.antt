@@ -1,0 +1,4 @@
+pub mod Around
+pub mod OfDesks
+pub mod TakenUnits
+pub mod Telling
