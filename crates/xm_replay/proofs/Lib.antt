@@ -1,2 +1,3 @@
+mod OneRow
 pub mod Places
 mod Taking

@@ -1,14 +1,16 @@
 -- What desks have taken of the rows of an order file, and what they told of them.
-use Rattle.std.specs.Prelude.{◌≡◌, ℕ, ◌+◌, List, [], ◌++◌, length, sum_by, Option, None, Some, Result, Ok, Err}
+use Rattle.std.specs.Prelude.{◌≡◌, ℕ, ◌+◌, List, [], ◌++◌, length, option_map, slice_get, sum_by, Option, None, Some, Result, Ok, Err}
 use Rattle.std.specs.Bool.{OnFalse, OnTrue}
-use Rattle.xm_config.specs.Day.{Day, LacksMemoryAt, day, day_of, opening_day}
-use Rattle.xm_texts.specs.Feeds.{feed_of}
-use Rattle.xm_texts.specs.RowAnswers.{AgreeOn, answers_text, where_asked}
-use Rattle.xm_texts.specs.RowTrades.{trades_text}
+use Rattle.xm_config.specs.Day.{Day, LacksMemoryAt, after_row, day, day_of, opening_day}
+use Rattle.xm_texts.specs.Feeds.{feed_of, next_feed}
+use Rattle.xm_texts.specs.RowAnswers.{AgreeOn, answers_text, told_of, where_asked, with_text}
+use Rattle.xm_texts.specs.RowEvents.{events_text, told_events}
+use Rattle.xm_texts.specs.RowTrades.{told_trades, trades_text}
 use Rattle.xm_replay.specs.declared.desks.OpenDay.{OpenDay}
 use Rattle.xm_replay.specs.declared.faults.DayFault.{DayFault}
 use Rattle.xm_replay.specs.declared.faults.DayFault.TheVariants.{Open, OutOfMemory}
 use Rattle.xm_texts.specs.declared.asked.AskedTexts.{AskedTexts}
+use Rattle.xm_texts.specs.declared.told.Told.{Told}
 use Rattle.xm_texts.specs.Asked.{AsksNothing}
 use Rattle.xm_config.specs.declared.opening.OpenFault.{OpenFault}
 use Rattle.xm_config.specs.declared.opening.OpenFault.TheVariants as opening
@@ -40,7 +42,16 @@ pub record TookRows (asked : AskedTexts) (names : NameLists) (texts : ℕ → Li
   pub all : d.report.accepted + d.report.refused ≡ length rows
   pub answers_are : d.told.answers ≡ where_asked asked.answers (answers_text names config texts rows)
   pub trades_are : d.told.trades ≡ where_asked asked.trades (trades_text names config texts rows)
+  pub events_are : d.told.events ≡ where_asked asked.events (events_text names config rows)
   pub depth_is : d.told.depth ≡ where_asked asked.depth (feed_of names config rows)
+
+-- the desks of a day have taken one more row, and what is told of it has been added
+pub record TookRow (names : NameLists) (texts : ℕ → List ℕ) (before : Day) (row : Row) (told : Told) (after : Day) (more : Told) : Type 0 where
+  pub day_is : after ≡ after_row before row
+  pub answers_are : more.answers ≡ with_text (told_of names texts before row) told.answers
+  pub trades_are : more.trades ≡ with_text (told_trades names texts before row) told.trades
+  pub events_are : more.events ≡ with_text (told_events names before row) told.events
+  pub depth_is : more.depth ≡ option_map (next_feed names row (slice_get (after_row before row).states row.security)) told.depth
 
 -- the desks have taken these rows, unless the segment can't be opened or memory is wanting, where nothing is asked for at one
 -- of them

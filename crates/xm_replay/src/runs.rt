@@ -42,7 +42,7 @@ pub fn run_rows<R: Read>(
         };
         let mut rows = file.rows();
         let mut texts = file.texts(storage.alloc);
-        day = match take_file(storage.alloc, config, names, &mut texts, &mut rows, day) {
+        day = match take_file(storage, config, names, &mut texts, &mut rows, day) {
             Ok(day) => day,
             Err(fault) => return Err(files.fault(fault)),
         };
@@ -53,7 +53,7 @@ pub fn run_rows<R: Read>(
 /// Reads the rows of an order file, whose texts these are, and has the desks of a segment take them behind the rows that they took. A fault of
 /// the file comes before any other: where the segment can't be opened or memory is wanting, the rest is read all the same.
 fn take_file(
-    alloc: Global,
+    storage: Storage<Global>,
     config: &SegmentConfig,
     names: &SegmentNames,
     texts: &mut RecordTexts<'_>,
@@ -65,13 +65,13 @@ fn take_file(
     ensures counted { IfOk result (λ after. taken_so_far after ≤ taken_so_far day + MAX_ROWS) }
     ensures end { OnOk result (file.new.line ≡ file.old.line + length file.old.records) }
 {
-    let mut batch = Batch::new(alloc);
+    let mut batch = Batch::new(storage.alloc);
     'parts: loop {
-        let more = match file.read(alloc, &mut batch, BATCH, names, config) {
+        let more = match file.read(storage.alloc, &mut batch, BATCH, names, config) {
             Ok(more) => more,
             Err(fault) => return Err(fault),
         };
-        day = take_more(day, names, texts, batch.rows());
+        day = take_more(storage, day, names, texts, batch.rows());
         if !more {
             return Ok(day);
         }

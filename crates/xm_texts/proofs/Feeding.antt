@@ -1,10 +1,10 @@
 -- The levels that a day tells behind its rows.
-use Rattle.std.proofs.Common.{◌≡◌, ℕ, suc, zero, ◌+◌, ◌<◌, ◌≤◌, Bool, true, false, List, [], ◌∷◌, ◌++◌, append_assoc, length, map, set, slice_get, slice_set, get_or, take, Option, Some, None, Result, option_map, unwrap_or, refl, ap, ap₂, sym, subst, arith, ◌∙◌}
+use Rattle.std.proofs.Common.{◌≡◌, ℕ, suc, zero, ◌+◌, ◌<◌, ◌≤◌, Bool, true, false, List, [], ◌∷◌, ◌++◌, append_assoc, length, map, set, slice_get, slice_set, get_or, take, Option, Some, None, option_map, unwrap_or, refl, ap, ap₂, sym, subst, arith, ◌∙◌}
 use Rattle.std.proofs.lemmas.List.{append-nil, length-take-le, map-append, map-set, take_more}
 use Rattle.std.proofs.lemmas.Option.{slice_get-map, slice_get_past, slice_get_read}
 use Rattle.xm_config.proofs.Days.{after_rows-append}
-use Rattle.xm_texts.proofs.Tells.{state-behind, told_of_rows-append}
-use Rattle.xm_config.specs.Day.{Day as TheDay, after_row, after_rows, answered, counted, day, day_of, on_security, opening_day}
+use Rattle.xm_texts.proofs.Tells.{told_of_rows-append}
+use Rattle.xm_config.specs.Day.{Day as TheDay, after_row, after_rows, answered, day, on_security, opening_day}
 use Rattle.xm_texts.specs.Feeds.{Feed, feed_after, feed_of, feed_shows, next_feed}
 use Rattle.xm_texts.specs.MarketDepth.{change_lines, depth_header, depths_of, limit_line, limit_lines, market_depth, told_change, told_depth}
 use Rattle.xm_texts.specs.RowAnswers.{where_asked}
@@ -15,7 +15,6 @@ use Rattle.xm_rules.specs.State.{State}
 use Rattle.xm_rules.specs.Step.{Journal, replay, step}
 use Rattle.xm_rules.specs.declared.orders.Side.{Side}
 use Rattle.xm_rules.specs.declared.replies.Refusal.{Refusal}
-use Rattle.xm_rules.specs.declared.replies.Reply.{Reply}
 use Rattle.xm_config.specs.declared.config.SegmentConfig.{SegmentConfig}
 use Rattle.xm_config.specs.declared.rows.Row.{Row}
 
@@ -145,28 +144,22 @@ fed names d (row ∷ rows) f is =
     ∙ fed names (after_row d row) rows (record { text = f.text ++ told_depth names d row; shown = map market_depth (after_row d row).states }) refl
     ∙ ap (λ (text : List ℕ). record { text = text; shown = map market_depth (after_rows (after_row d row) rows).states }) (append_assoc f.text (told_depth names d row) (depths_of names (after_row d row) rows))
 
--- the feed of the rows so far, with one more, which desks took
-pub fed-more : (names : NameLists) (begun : TheDay) (old new : List Journal) (a r : ℕ) (answer : Result Reply Refusal) (rows : List Row) (i : ℕ) (row : Row) (first before after : Option Feed) → i < length rows
-    → day_of old a r ≡ after_rows begun (take i rows) → before ≡ option_map (feed_after names begun (take i rows)) first
-    → after ≡ option_map (next_feed names (get_or rows i row) (slice_get (map replay new) (get_or rows i row).security)) before → after_row (day_of old a r) (get_or rows i row) ≡ counted (day_of new a r) answer
+-- the feed of the rows so far, with one more
+pub fed-more : (names : NameLists) (begun d : TheDay) (rows : List Row) (i : ℕ) (row : Row) (first before after : Option Feed) → i < length rows → d ≡ after_rows begun (take i rows)
+    → before ≡ option_map (feed_after names begun (take i rows)) first → after ≡ option_map (next_feed names (get_or rows i row) (slice_get (after_row d (get_or rows i row)).states (get_or rows i row).security)) before
     → after ≡ option_map (feed_after names begun (take (i + 1) rows)) first
-fed-more names begun old new a r answer rows i row first before after within is so_far next took =
-    next ∙ ap (option_map (next_feed names next_row state)) so_far ∙ go first
+fed-more names begun d rows i row first before after within is so_far next =
+    next ∙ ap (λ (e : TheDay). option_map (next_feed names next_row (slice_get (after_row e next_row).states next_row.security)) before) is ∙ ap (option_map (next_feed names next_row state)) so_far ∙ go first
   where
     next_row : Row
     next_row = get_or rows i row
 
     state : Option State
-    state = slice_get (map replay new) next_row.security
-
-    stood : slice_get (after_row (after_rows begun (take i rows)) next_row).states next_row.security ≡ state
-    stood = ap (λ (d : TheDay). slice_get (after_row d next_row).states next_row.security) (sym is) ∙ state-behind old new a r next_row answer took
+    state = slice_get (after_row (after_rows begun (take i rows)) next_row).states next_row.security
 
     go : (o : Option Feed) → option_map (next_feed names next_row state) (option_map (feed_after names begun (take i rows)) o) ≡ option_map (feed_after names begun (take (i + 1) rows)) o
     go None = refl
-    go (Some f) =
-        ap (λ (s : Option State). Some (next_feed names next_row s (feed_after names begun (take i rows) f))) (sym stood)
-        ∙ ap Some (sym (feed_after-append names begun (take i rows) (next_row ∷ []) f) ∙ ap (λ (rs : List Row). feed_after names begun rs f) (sym (take_more rows i row within)))
+    go (Some f) = ap Some (sym (feed_after-append names begun (take i rows) (next_row ∷ []) f) ∙ ap (λ (rs : List Row). feed_after names begun rs f) (sym (take_more rows i row within)))
 
 pub fed-nothing : (names : NameLists) (begun : TheDay) (o : Option Feed) → o ≡ option_map (feed_after names begun []) o
 fed-nothing names begun None = refl

@@ -78,23 +78,22 @@ pub state-behind : (old new : List Journal) (a r : ℕ) (row : Row) (answer : Re
     → slice_get (after_row (day_of old a r) row).states row.security ≡ slice_get (map replay new) row.security
 state-behind old new a r row answer after = ap (λ (states : List State). slice_get states row.security) (ap (λ (d : TheDay). d.states) after ∙ counted-states (day_of new a r) answer)
 
--- what is told of the rows so far, and of one more, which desks took and answered so
-pub told-more : (tells : Row → List ℕ → Result Reply Refusal → Option State → List ℕ) (own texts : ℕ → List ℕ) (begun : TheDay) (old new : List Journal) (a r : ℕ) (answer : Result Reply Refusal) (rows : List Row) (i : ℕ) (row : Row) (first before after : Option (List ℕ))
-    → i < length rows → own ≡ texts → day_of old a r ≡ after_rows begun (take i rows) → answer ≡ row_answer (map replay old) (get_or rows i row) → after_row (day_of old a r) (get_or rows i row) ≡ counted (day_of new a r) answer
-    → before ≡ with_text (told_of_rows (told_behind tells texts) begun (take i rows)) first
-    → after ≡ with_text (tells (get_or rows i row) (own (get_or rows i row).line) answer (slice_get (map replay new) (get_or rows i row).security)) before
-    → after ≡ with_text (told_of_rows (told_behind tells texts) begun (take (i + 1) rows)) first
-told-more tells own texts begun old new a r answer rows i row first before after within same is answers took so_far step =
+-- what is told of a row that desks took and answered so
+pub told-row : (tells : Row → List ℕ → Result Reply Refusal → Option State → List ℕ) (texts : ℕ → List ℕ) (old new : List Journal) (a r : ℕ) (row : Row) (answer : Result Reply Refusal) → answer ≡ row_answer (map replay old) row
+    → after_row (day_of old a r) row ≡ counted (day_of new a r) answer → tells row (texts row.line) answer (slice_get (map replay new) row.security) ≡ told_behind tells texts (day_of old a r) row
+told-row tells texts old new a r row answer answers took =
+    ap (λ (x : Result Reply Refusal). tells row (texts row.line) x (slice_get (map replay new) row.security)) answers
+    ∙ sym (ap (tells row (texts row.line) (row_answer (map replay old) row)) (state-behind old new a r row answer took))
+
+-- what is told of the rows so far, and of one more
+pub told-more : (told : TheDay → Row → List ℕ) (begun d : TheDay) (rows : List Row) (i : ℕ) (row : Row) (first before after : Option (List ℕ)) → i < length rows → d ≡ after_rows begun (take i rows)
+    → before ≡ with_text (told_of_rows told begun (take i rows)) first → after ≡ with_text (told d (get_or rows i row)) before → after ≡ with_text (told_of_rows told begun (take (i + 1) rows)) first
+told-more told begun d rows i row first before after within is so_far step =
     let so = take i rows in
     let next = get_or rows i row in
-    let told = told_behind tells texts in
-    let line = tells next (texts next.line) answer (slice_get (map replay new) next.security) in
-    let behind : told (day_of old a r) next ≡ line =
-    ap (λ (x : Result Reply Refusal). tells next (texts next.line) x (slice_get (after_row (day_of old a r) next).states next.security)) (sym answers)
-    ∙ ap (tells next (texts next.line) answer) (state-behind old new a r next answer took) in
-    let one : told_of_rows told (after_rows begun so) (next ∷ []) ≡ line = append-nil (told (after_rows begun so) next) ∙ ap (λ (d : TheDay). told d next) (sym is) ∙ behind in
+    let line = told d next in
+    let one : told_of_rows told (after_rows begun so) (next ∷ []) ≡ line = append-nil (told (after_rows begun so) next) ∙ ap (λ (e : TheDay). told e next) (sym is) in
     step
-    ∙ ap (λ (by_number : ℕ → List ℕ). with_text (tells next (by_number next.line) answer (slice_get (map replay new) next.security)) before) same
     ∙ ap (with_text line) so_far
     ∙ with_text-append (told_of_rows told begun so) line first
     ∙ ap (λ (text : List ℕ). with_text text first) (ap (λ (text : List ℕ). told_of_rows told begun so ++ text) (sym one) ∙ sym (told_of_rows-append told begun so (next ∷ [])) ∙ ap (told_of_rows told begun) (sym (take_more rows i row within)))

@@ -161,7 +161,7 @@ impl Model for Depths {
 }
 
 impl Depths {
-    ghost use Rattle.std.specs.Prelude.{◌≡◌, ◌≢◌, [], map, option_map, slice_get, unwrap_or, None, true, IfOk, OnErr, OnOk};
+    ghost use Rattle.std.specs.Prelude.{◌≡◌, ◌≢◌, [], is_some, map, option_map, slice_get, unwrap_or, None, true, IfOk, OnErr, OnOk};
     ghost use Rattle.xm_texts.specs.Feeds.{next_feed};
     ghost use Rattle.xm_texts.specs.MarketDepth.{depth_header, market_depth};
     ghost use Rattle.xm_texts.specs.RowAnswers.{where_asked};
@@ -172,6 +172,13 @@ impl Depths {
         ensures { result ≡ None }
     {
         Depths { shown: None }
+    }
+
+    /// Whether they are asked for.
+    pub(crate) fn are_asked(&self) -> bool
+        ensures { result ≡ is_some self.now }
+    {
+        self.shown.is_some()
     }
 
     /// The feed before any row of these desks: the header, if it is asked for.

@@ -22,7 +22,7 @@ impl Model for Lines {
 }
 
 impl Lines {
-    ghost use Rattle.std.specs.Prelude.{◌≡◌, [], option_map, unwrap_or, None, true, IfOk, OnErr};
+    ghost use Rattle.std.specs.Prelude.{◌≡◌, [], is_some, option_map, unwrap_or, None, true, IfOk, OnErr};
     ghost use Rattle.xm_texts.specs.RowAnswers.{where_asked};
 
     /// None are asked for.
@@ -47,6 +47,14 @@ impl Lines {
         ensures { result ≡ option_map (λ told. told.items) text }
     {
         Lines { text }
+    }
+
+    /// Whether they are asked for.
+    #[inline(always)]
+    pub fn are_asked(&self) -> bool
+        ensures { result ≡ is_some self.now }
+    {
+        self.text.is_some()
     }
 
     /// Their text, which is empty where none was asked for.

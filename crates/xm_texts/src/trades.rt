@@ -152,7 +152,7 @@ pub fn push_trade<A: Allocator>(
 }
 
 /// A member and the reference that it gave its order.
-fn push_party<A: Allocator>(
+pub(crate) fn push_party<A: Allocator>(
     text: &mut Vec<u8, A>,
     names: &SegmentNames,
     member: u32,

@@ -9,7 +9,8 @@ use Rattle.xm_replay.proofs.Places.{set-there, within-length}
 use Rattle.xm_config.proofs.Days.{day-opened, on_accepted, on_refused, on_unknown, with_command}
 use Rattle.xm_texts.proofs.Feeding.{get-set, set-same}
 use Rattle.xm_config.specs.Day.{Day as TheDay, after_rows, day, day_of}
-use Rattle.xm_threads.specs.Lanes.{AreOpened, AreTaken, LaneView, TookOwnRows, fresh_lane, if_accepted, journal_after, lane_after, lane_row, lane_rows, own_row, own_rows}
+use Rattle.xm_threads.specs.Lanes.{AreOpened, AreTaken, LaneView, TookOwnRows, fresh_lane, lane_after, lane_row, lane_rows, own_row, own_rows}
+use Rattle.xm_desk.specs.Answered.{if_accepted, journal_after}
 use Rattle.xm_replay.specs.Taken.{commands_in}
 use Rattle.xm_replay.specs.declared.faults.DayFault.{DayFault}
 use Rattle.xm_replay.specs.declared.faults.DayFault.TheVariants.{OutOfMemory}

@@ -42,10 +42,12 @@ parts-more least xs ys [] s more are last (suc k) d inside = absurd (omega (arit
 parts-more least xs ys (o ∷ spans) s more are last zero d inside = let is = are 0 o (omega arith) in record { order = is.order; within = omega (arith, is.within, more) }
 parts-more least xs ys (o ∷ spans) s more are last (suc k) d inside = parts-more least xs ys spans s more (All-tail (IsPartOf least xs) o spans are) last k d (omega (arith, inside))
 
--- an answer, levels and trades are added one after another
-pub three-pushed : {A : Type 0} (xs one two three trades : List A) (answer levels : A) → one ≡ xs ++ answer ∷ [] → two ≡ one ++ levels ∷ [] → three ≡ two ++ trades → three ≡ xs ++ answer ∷ levels ∷ trades
-three-pushed xs one two three trades answer levels first second third =
-    third ∙ ap (λ ys. ys ++ trades) (second ∙ ap (λ ys. ys ++ levels ∷ []) first) ∙ append_assoc (xs ++ answer ∷ []) (levels ∷ []) trades ∙ append_assoc xs (answer ∷ []) (levels ∷ trades)
+-- an answer, levels, events and trades are added one after another
+pub four-pushed : {A : Type 0} (xs one two three four trades : List A) (answer levels events : A) → one ≡ xs ++ answer ∷ [] → two ≡ one ++ levels ∷ [] → three ≡ two ++ events ∷ [] → four ≡ three ++ trades
+    → four ≡ xs ++ answer ∷ levels ∷ events ∷ trades
+four-pushed xs one two three four trades answer levels events first second third fourth =
+    fourth ∙ ap (λ ys. ys ++ trades) (third ∙ ap (λ ys. ys ++ events ∷ []) (second ∙ ap (λ ys. ys ++ levels ∷ []) first)) ∙ append_assoc ((xs ++ answer ∷ []) ++ levels ∷ []) (events ∷ []) trades
+    ∙ append_assoc (xs ++ answer ∷ []) (levels ∷ []) (events ∷ trades) ∙ append_assoc xs (answer ∷ []) (levels ∷ events ∷ trades)
 
 -- a part that ends with one element more
 pub range-more : {A : Type 0} (xs : List A) (begin i : ℕ) (d : A) → begin ≤ i → i < length xs → slice_range xs begin (i + 1) ≡ slice_range xs begin i ++ get_or xs i d ∷ []
@@ -57,13 +59,18 @@ range-more xs begin i d order within =
     ∙ take_more (drop begin xs) (i - begin) d inside
     ∙ ap (λ x. slice_range xs begin i ++ x ∷ []) (get_or-drop begin xs (i - begin) d ∙ ap (λ (n : ℕ). get_or xs n d) at)
 
--- the lines of a row are its answer, its levels, and each of its trades
-pub row-lines : (lines : List (List ℕ)) (s : Span) → IsPartOf 2 lines s → row_of_lines (part_at lines s) ≡ record { answer = get_or lines s.begin []; trades = slice_range lines (s.begin + 2) s.end; levels = get_or lines (s.begin + 1) [] }
+-- the lines of a row are its answer, its levels, its events, and each of its trades
+pub row-lines : (lines : List (List ℕ)) (s : Span) → IsPartOf 3 lines s
+    → row_of_lines (part_at lines s) ≡ record { answer = get_or lines s.begin []; trades = slice_range lines (s.begin + 3) s.end; levels = get_or lines (s.begin + 1) []; events = get_or lines (s.begin + 2) [] }
 row-lines lines s is =
-    let left = s.end - (s.begin + 2) in
-    let long : s.end - s.begin ≡ suc (suc left) = omega (arith, is.order) in
+    let left = s.end - (s.begin + 3) in
+    let long : s.end - s.begin ≡ suc (suc (suc left)) = omega (arith, is.order) in
     let third : s.begin + 1 + 1 ≡ s.begin + 2 = omega arith in
+    let fourth : s.begin + 2 + 1 ≡ s.begin + 3 = omega arith in
     ap (λ (n : ℕ). row_of_lines (take n (drop s.begin lines))) long
-    ∙ ap (λ more. row_of_lines (take (suc (suc left)) more))
-    (drop_more lines s.begin [] (omega (arith, is.order, is.within)) ∙ ap (λ more. get_or lines s.begin [] ∷ more) (drop_more lines (s.begin + 1) [] (omega (arith, is.order, is.within))))
-    ∙ ap (λ (n : ℕ). record { answer = get_or lines s.begin []; trades = take left (drop n lines); levels = get_or lines (s.begin + 1) [] }) third
+    ∙ ap (λ more. row_of_lines (take (suc (suc (suc left))) more))
+    (drop_more lines s.begin [] (omega (arith, is.order, is.within))
+    ∙ ap (λ more. get_or lines s.begin [] ∷ more)
+    (drop_more lines (s.begin + 1) [] (omega (arith, is.order, is.within))
+    ∙ ap (λ more. get_or lines (s.begin + 1) [] ∷ more) (ap (λ (n : ℕ). drop n lines) third ∙ drop_more lines (s.begin + 2) [] (omega (arith, is.order, is.within)))))
+    ∙ ap (λ (n : ℕ). record { answer = get_or lines s.begin []; trades = take left (drop n lines); levels = get_or lines (s.begin + 1) []; events = get_or lines (s.begin + 2) [] }) fourth

@@ -1,5 +1,5 @@
 -- The texts that securities tell together, batch by batch.
-use Rattle.std.proofs.Common.{◌≡◌, ℕ, ◌+◌, ◌<◌, Bool, true, false, List, [], ◌∷◌, ◌++◌, append_assoc, fold, get_or, if◌then◌else◌, length, map, slice_get, take, Option, Some, None, Result, option_map, refl, ap, ap₂, sym, subst, arith, ◌∙◌}
+use Rattle.std.proofs.Common.{◌≡◌, ℕ, ◌+◌, ◌<◌, Bool, true, false, List, [], ◌∷◌, ◌++◌, ◌||◌, append_assoc, fold, get_or, if◌then◌else◌, length, map, slice_get, take, Option, Some, None, Result, option_map, refl, ap, ap₂, sym, subst, arith, ◌∙◌}
 use Rattle.std.proofs.lemmas.Bool.{OnTrue_at}
 use Rattle.std.proofs.lemmas.List.{append-nil, length-map, length-set}
 use Rattle.std.proofs.lemmas.List.Elements.{All-head, All-tail}
@@ -12,10 +12,12 @@ use Rattle.xm_texts.proofs.Tells.{agree-left, agree-right, agree-with_itself, to
 use Rattle.xm_config.specs.Day.{Day as TheDay, after_rows, answer_on, day, day_of, opening_day, told_of_rows}
 use Rattle.xm_texts.specs.Feeds.{feed_of}
 use Rattle.xm_threads.specs.KeptRows.{KeptRow, behind_first}
-use Rattle.xm_threads.specs.Lanes.{AreTaken, AreTakenSoFar, AreTold, HaveBegun, HaveBegunUnless, IsAdded, LaneView, LanesAndTexts, MergedView, TextsView, TookFile, TookMore, TookOwnRows, asks_any, fresh_lane, if_asked, journal_after, kept_row, lane_after, lane_rows, own_kept, own_row, own_rows, tells_any, texts_where, told_by_lane, told_row}
+use Rattle.xm_threads.specs.Lanes.{AreTaken, AreTakenSoFar, AreTold, HaveBegun, HaveBegunUnless, IsAdded, LaneView, LanesAndTexts, MergedView, TextsView, TookFile, TookMore, TookOwnRows, asks_any, fresh_lane, if_asked, kept_row, lane_after, lane_rows, own_kept, own_row, own_rows, tells_any, texts_where, told_by_lane, told_row}
+use Rattle.xm_desk.specs.Answered.{journal_after}
 use Rattle.xm_texts.specs.MarketDepth.{change_lines, depth_header, depth_text, market_depth, told_change, told_depth}
 use Rattle.xm_texts.specs.declared.depth.MarketDepth.{MarketDepth}
 use Rattle.xm_texts.specs.RowAnswers.{AgreeOn, answers_header, answers_text, told_of, where_asked}
+use Rattle.xm_texts.specs.RowEvents.{events_header, events_text, row_events, told_events}
 use Rattle.xm_texts.specs.RowTrades.{told_trades, trades_header, trades_text}
 use Rattle.xm_replay.specs.declared.faults.DayFault.{DayFault}
 use Rattle.xm_texts.specs.declared.asked.AskedTexts.{AskedTexts}
@@ -35,13 +37,29 @@ levels-kept : (asked : Bool) (names : NameLists) (row : Row) (j next : Journal) 
 levels-kept false names row j next before after was is = refl
 levels-kept true names row j next before after was is = ap₂ (change_lines names row (replay next).settings.tick) (OnTrue_at refl was) (OnTrue_at refl is)
 
+-- something is asked for where events are
+pub asks-events : (asked : AskedTexts) → asked.events ≡ true → asks_any asked ≡ true
+asks-events asked events = ap (λ (b : Bool). asked.answers || asked.trades || asked.depth || b) events ∙ by asked.answers asked.trades asked.depth
+  where
+    by : (answers trades depth : Bool) → (answers || trades || depth || true) ≡ true
+    by true trades depth = refl
+    by false true depth = refl
+    by false false true = refl
+    by false false false = refl
+
+-- what isn't asked for is kept as anything else
+pub kept-unasked : (asked : Bool) (told events : List ℕ) → asked ≡ false → if_asked asked told ≡ if_asked asked events
+kept-unasked asked told events none = ap (λ (b : Bool). if_asked b told) none ∙ ap (λ (b : Bool). if_asked b events) (sym none)
+
 -- what is kept of a row that a desk has taken and answered, between levels that were shown
-pub kept-own : (asked : AskedTexts) (names : NameLists) (row : Row) (j next : Journal) (answer : Result Reply Refusal) (before after : MarketDepth) → answer ≡ answer_on row (Some (replay j)) → next ≡ journal_after j row.command
-    → OnTrue asked.depth (before ≡ market_depth (replay j)) → OnTrue asked.depth (after ≡ market_depth (replay next))
-    → kept_row asked names row answer (replay next) (change_lines names row (replay next).settings.tick before after) ≡ own_kept asked names j row
-kept-own asked names row j next answer before after answers journal was is =
-    ap (λ (levels : List ℕ). record (kept_row asked names row answer (replay next) []) { levels = levels }) (levels-kept asked.depth names row j next before after was is)
-    ∙ ap₂ (λ (a : Result Reply Refusal) (n : Journal). kept_row asked names row a (replay n) (told_change names row (Some (replay j)) (Some (replay n)))) answers journal
+pub kept-own : (asked : AskedTexts) (names : NameLists) (row : Row) (j next : Journal) (answer : Result Reply Refusal) (before after : MarketDepth) (events : List ℕ) → answer ≡ answer_on row (Some (replay j))
+    → next ≡ journal_after j row.command → OnTrue asked.depth (before ≡ market_depth (replay j)) → OnTrue asked.depth (after ≡ market_depth (replay next))
+    → if_asked asked.events events ≡ if_asked asked.events (row_events names row (answer_on row (Some (replay j))) (Some (replay j)))
+    → kept_row asked names row answer (replay next) (change_lines names row (replay next).settings.tick before after) events ≡ own_kept asked names j row
+kept-own asked names row j next answer before after events answers journal was is told =
+    let lines = row_events names row (answer_on row (Some (replay j))) (Some (replay j)) in
+    ap₂ (λ (levels own : List ℕ). record (kept_row asked names row answer (replay next) [] []) { levels = levels; events = own }) (levels-kept asked.depth names row j next before after was is) told
+    ∙ ap₂ (λ (a : Result Reply Refusal) (n : Journal). kept_row asked names row a (replay n) (told_change names row (Some (replay j)) (Some (replay n))) lines) answers journal
 
 -- a security that has taken it
 pub lane-answered : (names : NameLists) (row : Row) (l : LaneView) (next : Journal) (kept : List KeptRow) → next ≡ journal_after l.journal row.command → kept ≡ l.kept ++ if_asked (asks_any l.asked) (own_kept l.asked names l.journal row ∷ [])
@@ -64,10 +82,10 @@ same-then a b c first next = record {
       (other.0 ∙ one.0, other.1 ∙ one.1);
 }
 
-same-row : (texts : ℕ → List ℕ) (row : Row) (s : LanesAndTexts) → AreSame s.lanes (told_row texts s row).lanes
-same-row texts row s = by (slice_get s.lanes row.security) refl
+same-row : (names : NameLists) (texts : ℕ → List ℕ) (row : Row) (s : LanesAndTexts) → AreSame s.lanes (told_row names texts s row).lanes
+same-row names texts row s = by (slice_get s.lanes row.security) refl
   where
-    by : (o : Option LaneView) → slice_get s.lanes row.security ≡ o → AreSame s.lanes (told_by_lane row (texts row.line) o s).lanes
+    by : (o : Option LaneView) → slice_get s.lanes row.security ≡ o → AreSame s.lanes (told_by_lane names row (texts row.line) o s).lanes
     by None none = record { long = refl; each = λ k d inside. (refl, refl) }
     by (Some l) at = record {
       long = length-set s.lanes row.security (record l { kept = behind_first l.kept });
@@ -77,33 +95,34 @@ same-row texts row s = by (slice_get s.lanes row.security) refl
           (ap (λ (v : LaneView). v.journal) popped ∙ is.0, ap (λ (v : LaneView). v.lacks_memory) popped ∙ is.1);
     }
 
-same-rows : (texts : ℕ → List ℕ) (rows : List Row) (s : LanesAndTexts) → AreSame s.lanes (fold (told_row texts) s rows).lanes
-same-rows texts [] s = record { long = refl; each = λ k d inside. (refl, refl) }
-same-rows texts (row ∷ rows) s = same-then s.lanes (told_row texts s row).lanes (fold (told_row texts) (told_row texts s row) rows).lanes (same-row texts row s) (same-rows texts rows (told_row texts s row))
+same-rows : (names : NameLists) (texts : ℕ → List ℕ) (rows : List Row) (s : LanesAndTexts) → AreSame s.lanes (fold (told_row names texts) s rows).lanes
+same-rows names texts [] s = record { long = refl; each = λ k d inside. (refl, refl) }
+same-rows names texts (row ∷ rows) s =
+    same-then s.lanes (told_row names texts s row).lanes (fold (told_row names texts) (told_row names texts s row) rows).lanes (same-row names texts row s) (same-rows names texts rows (told_row names texts s row))
 
-same-added : (own : ℕ → List ℕ) (rows : List Row) (old new : List LaneView) (before after : TextsView) → IsAdded own rows old before new after → AreSame old new
-same-added own rows old new before after is = subst (AreSame old) (sym (ap (λ (s : LanesAndTexts). s.lanes) is)) (go (tells_any before))
+same-added : (names : NameLists) (own : ℕ → List ℕ) (rows : List Row) (old new : List LaneView) (before after : TextsView) → IsAdded names own rows old before new after → AreSame old new
+same-added names own rows old new before after is = subst (AreSame old) (sym (ap (λ (s : LanesAndTexts). s.lanes) is)) (go (tells_any before))
   where
-    go : (b : Bool) → AreSame old (if b then fold (told_row own) (record { lanes = old; texts = before }) rows else record { lanes = old; texts = before }).lanes
-    go true = same-rows own rows (record { lanes = old; texts = before })
+    go : (b : Bool) → AreSame old (if b then fold (told_row names own) (record { lanes = old; texts = before }) rows else record { lanes = old; texts = before }).lanes
+    go true = same-rows names own rows (record { lanes = old; texts = before })
     go false = record { long = refl; each = λ k d inside. (refl, refl) }
 
 -- ---- texts that are the same for these records
 
-told-alike_row : (texts own : ℕ → List ℕ) (row : Row) (s : LanesAndTexts) → texts row.line ≡ own row.line → told_row own s row ≡ told_row texts s row
-told-alike_row texts own row s same = ap (λ (text : List ℕ). told_by_lane row text (slice_get s.lanes row.security) s) (sym same)
+told-alike_row : (names : NameLists) (texts own : ℕ → List ℕ) (row : Row) (s : LanesAndTexts) → texts row.line ≡ own row.line → told_row names own s row ≡ told_row names texts s row
+told-alike_row names texts own row s same = ap (λ (text : List ℕ). told_by_lane names row text (slice_get s.lanes row.security) s) (sym same)
 
-told-alike_rows : (texts own : ℕ → List ℕ) (rows : List Row) (s : LanesAndTexts) → AgreeOn texts own rows → fold (told_row own) s rows ≡ fold (told_row texts) s rows
-told-alike_rows texts own [] s agree = refl
-told-alike_rows texts own (row ∷ rows) s agree =
+told-alike_rows : (names : NameLists) (texts own : ℕ → List ℕ) (rows : List Row) (s : LanesAndTexts) → AgreeOn texts own rows → fold (told_row names own) s rows ≡ fold (told_row names texts) s rows
+told-alike_rows names texts own [] s agree = refl
+told-alike_rows names texts own (row ∷ rows) s agree =
     let first : texts row.line ≡ own row.line = All-head (λ (r : Row). texts r.line ≡ own r.line) row rows agree in
-    told-alike_rows texts own rows (told_row own s row) (All-tail (λ (r : Row). texts r.line ≡ own r.line) row rows agree)
-    ∙ ap (λ (t : LanesAndTexts). fold (told_row texts) t rows) (told-alike_row texts own row s first)
+    told-alike_rows names texts own rows (told_row names own s row) (All-tail (λ (r : Row). texts r.line ≡ own r.line) row rows agree)
+    ∙ ap (λ (t : LanesAndTexts). fold (told_row names texts) t rows) (told-alike_row names texts own row s first)
 
 -- texts that went on with these rows by their own texts did so by any that agree with these
-added-alike : (texts own : ℕ → List ℕ) (rows : List Row) (old new : List LaneView) (before after : TextsView) → AgreeOn texts own rows → IsAdded own rows old before new after → IsAdded texts rows old before new after
-added-alike texts own rows old new before after agree is =
-    is ∙ ap (λ (s : LanesAndTexts). if tells_any before then s else record { lanes = old; texts = before }) (told-alike_rows texts own rows (record { lanes = old; texts = before }) agree)
+added-alike : (names : NameLists) (texts own : ℕ → List ℕ) (rows : List Row) (old new : List LaneView) (before after : TextsView) → AgreeOn texts own rows → IsAdded names own rows old before new after → IsAdded names texts rows old before new after
+added-alike names texts own rows old new before after agree is =
+    is ∙ ap (λ (s : LanesAndTexts). if tells_any before then s else record { lanes = old; texts = before }) (told-alike_rows names texts own rows (record { lanes = old; texts = before }) agree)
 
 same-taken : (config : SegmentConfig) (rows : List Row) (mid new : List LaneView) → AreSame mid new → AreTaken config rows mid → AreTaken config rows new
 same-taken config rows mid new same has = record {
@@ -117,13 +136,13 @@ same-taken config rows mid new same has = record {
 -- ---- a row more
 
 -- texts that went on with some rows went on with one more
-pub told-one_more : (own at : ℕ → List ℕ) (rows : List Row) (i : ℕ) (row : Row) (begun old new : LanesAndTexts) → i < length rows → at ≡ own → old ≡ fold (told_row own) begun (take i rows) → new ≡ told_row at old (get_or rows i row)
-    → new ≡ fold (told_row own) begun (take (i + 1) rows)
-told-one_more own at rows i row begun old new within same so_far step =
+pub told-one_more : (names : NameLists) (own at : ℕ → List ℕ) (rows : List Row) (i : ℕ) (row : Row) (begun old new : LanesAndTexts) → i < length rows → at ≡ own → old ≡ fold (told_row names own) begun (take i rows) → new ≡ told_row names at old (get_or rows i row)
+    → new ≡ fold (told_row names own) begun (take (i + 1) rows)
+told-one_more names own at rows i row begun old new within same so_far step =
     step
-    ∙ ap (λ (by_number : ℕ → List ℕ). told_row by_number old (get_or rows i row)) same
-    ∙ ap (λ (s : LanesAndTexts). told_row own s (get_or rows i row)) so_far
-    ∙ sym (fold_more (told_row own) begun rows i row within)
+    ∙ ap (λ (by_number : ℕ → List ℕ). told_row names by_number old (get_or rows i row)) same
+    ∙ ap (λ (s : LanesAndTexts). told_row names own s (get_or rows i row)) so_far
+    ∙ sym (fold_more (told_row names own) begun rows i row within)
 
 -- ---- since the opening
 
@@ -136,15 +155,15 @@ text-more told header begun at taken rows is =
 
 -- rows more are taken and told
 pub took-more : (names : NameLists) (own : ℕ → List ℕ) (rows : List Row) (old mid new : List LaneView) (before after : MergedView) → length mid ≡ length old → TookOwnRows names 0 old rows mid
-    → (after.lacks_memory ≡ false → (before.lacks_memory ≡ false) × IsAdded own rows mid before.texts new after.texts) → TookMore names own rows old before new after
+    → (after.lacks_memory ≡ false → (before.lacks_memory ≡ false) × IsAdded names own rows mid before.texts new after.texts) → TookMore names own rows old before new after
 took-more names own rows old mid new before after kept took adds = record {
   since_opening = λ config earlier so had.
       let added = adds had in
-      same-taken config (earlier ++ rows) mid new (same-added own rows mid new before.texts after.texts added.1) (taken-more names config earlier rows old mid kept took (so added.0));
+      same-taken config (earlier ++ rows) mid new (same-added names own rows mid new before.texts after.texts added.1) (taken-more names config earlier rows old mid kept took (so added.0));
   told = λ asked texts config earlier agree each so had all.
       let added = adds had in
-      let is = added-alike texts own rows mid new before.texts after.texts agree added.1 in
-      let same = same-added texts rows mid new before.texts after.texts is in
+      let is = added-alike names texts own rows mid new before.texts after.texts agree added.1 in
+      let same = same-added names texts rows mid new before.texts after.texts is in
       let opened : List Journal = map (journal_of config) config.securities in
       let js = all_rows opened earlier in
       let long : length opened ≡ length old = length-map config.securities (journal_of config) ∙ sym each in
@@ -155,10 +174,10 @@ took-more names own rows old mid new before after kept took adds = record {
       let stood : (k : ℕ) (d : LaneView) → k < length old → get_or js k d.journal ≡ own_rows k (get_or opened k d.journal) earlier = λ k d inside. rows-at opened earlier k d.journal (omega (arith, long, inside)) in
       let counts = counts-of opened earlier 0 0 in
       let at : day_of js counts.accepted counts.refused ≡ after_rows (opening_day config) earlier = sym counts.is ∙ ap (λ (d : TheDay). after_rows d earlier) (day-opened config opened refl) in
-      let added_to : IsAdded texts rows mid (texts_where asked (answers_text names config texts earlier) (trades_text names config texts earlier) (depth_text names config earlier)) new after.texts =
-      subst (λ (t : TextsView). IsAdded texts rows mid t new after.texts) was.texts_are is in
+      let added_to : IsAdded names texts rows mid (texts_where asked (answers_text names config texts earlier) (trades_text names config texts earlier) (depth_text names config earlier) (events_text names config earlier)) new after.texts =
+      subst (λ (t : TextsView). IsAdded names texts rows mid t new after.texts) was.texts_are is in
       let told =
-      told-added asked names texts js counts.accepted counts.refused rows mid new (answers_text names config texts earlier) (trades_text names config texts earlier) (depth_text names config earlier) after.texts as_long
+      told-added asked names texts js counts.accepted counts.refused rows mid new (answers_text names config texts earlier) (trades_text names config texts earlier) (depth_text names config earlier) (events_text names config earlier) after.texts as_long
       (λ k d inside.
       let within : k < length old = omega (arith, kept, inside) in
       let same_index : 0 + k ≡ k = omega arith in
@@ -173,8 +192,9 @@ took-more names own rows old mid new before after kept took adds = record {
             ∙ ap (fresh_lane asked) (sym (fold-append (own_row k) (get_or opened k d.journal) earlier rows));
         texts_are =
             told.texts_are
-            ∙ texts-are asked _ _ _ _ _ _ (text-more (told_of names texts) answers_header (opening_day config) _ earlier rows at)
-            (text-more (told_trades names texts) trades_header (opening_day config) _ earlier rows at) (text-more (told_depth names) depth_header (opening_day config) _ earlier rows at);
+            ∙ texts-are asked _ _ _ _ _ _ _ _ (text-more (told_of names texts) answers_header (opening_day config) _ earlier rows at)
+            (text-more (told_trades names texts) trades_header (opening_day config) _ earlier rows at) (text-more (told_depth names) depth_header (opening_day config) _ earlier rows at)
+            (text-more (told_events names) events_header (opening_day config) _ earlier rows at);
       };
 }
 
@@ -206,10 +226,10 @@ took-alike names texts own rows old new before after same took = record {
 
 -- none are, where the segment was opened just now
 pub fresh-told : (asked : AskedTexts) (names : NameLists) (own : ℕ → List ℕ) (config : SegmentConfig) (lanes : List LaneView) (merged : MergedView) → lanes ≡ map (fresh_lane asked) (map (journal_of config) config.securities)
-    → (merged.lacks_memory ≡ false → merged.texts ≡ texts_where asked answers_header trades_header depth_header) → AreTold asked names own config [] lanes merged
+    → (merged.lacks_memory ≡ false → merged.texts ≡ texts_where asked answers_header trades_header depth_header events_header) → AreTold asked names own config [] lanes merged
 fresh-told asked names own config lanes merged fresh begun had all = record {
   lanes_are = λ k d inside. fresh-at asked (map (journal_of config) config.securities) lanes k d fresh inside;
-  texts_are = begun had ∙ texts-are asked _ _ _ _ _ _ (sym (append-nil answers_header)) (sym (append-nil trades_header)) (sym (append-nil depth_header));
+  texts_are = begun had ∙ texts-are asked _ _ _ _ _ _ _ _ (sym (append-nil answers_header)) (sym (append-nil trades_header)) (sym (append-nil depth_header)) (sym (append-nil events_header));
 }
 
 -- the feed of a day behind its rows

@@ -9,9 +9,11 @@ use Rattle.xm_replay.proofs.Places.{within-length}
 use Rattle.xm_texts.proofs.Tells.{with_text-asked}
 use Rattle.xm_config.specs.Day.{Day as TheDay, after_row, answer_on, day_of, told_behind, told_of_rows}
 use Rattle.xm_threads.specs.KeptRows.{KeptRow, behind_first}
-use Rattle.xm_threads.specs.Lanes.{LaneView, LanesAndTexts, TextsView, asks_any, fresh_lane, if_asked, journal_after, lane_after, lane_row, lane_rows, own_kept, own_row, own_rows, tells_any, texts_where, told_by_lane, told_row, with_first}
+use Rattle.xm_threads.specs.Lanes.{LaneView, LanesAndTexts, TextsView, asks_any, fresh_lane, if_asked, lane_after, lane_row, lane_rows, own_kept, own_row, own_rows, tells_any, texts_where, told_by_lane, told_row, with_first}
+use Rattle.xm_desk.specs.Answered.{journal_after}
 use Rattle.xm_texts.specs.MarketDepth.{depths_of, told_change, told_depth}
 use Rattle.xm_texts.specs.RowAnswers.{answer_line, answers_of, record_line, told_of, unknown_fields, where_asked, with_text}
+use Rattle.xm_texts.specs.RowEvents.{events_of, row_events, told_events}
 use Rattle.xm_texts.specs.RowTrades.{told_trades, trade_lines, trades_of}
 use Rattle.xm_texts.specs.declared.asked.AskedTexts.{AskedTexts}
 use Rattle.xm_files.specs.Names.{NameLists}
@@ -163,6 +165,9 @@ module _ (js : List Journal) (row : Row) (a r : ℕ) where
     unknown-depth : (names : NameLists) → [] ≡ told_depth names (day_of js a r) row
     unknown-depth names = sym (ap (λ (o : Option State). told_change names row o (slice_get (after_row (day_of js a r) row).states row.security)) (stands-before js row ∙ ap (option_map replay) none))
 
+    unknown-events : (names : NameLists) → row_events names row (Err UnknownSecurity) None ≡ told_events names (day_of js a r) row
+    unknown-events names = sym (ap (λ (o : Option State). row_events names row (answer_on row o) o) (stands-before js row ∙ ap (option_map replay) none))
+
   -- where it has this journal
   module _ (j : Journal) (at : slice_get js row.security ≡ Some j) where
     behind : slice_get (after_row (day_of js a r) row).states row.security ≡ Some (replay (journal_after j row.command))
@@ -181,58 +186,63 @@ module _ (js : List Journal) (row : Row) (a r : ℕ) where
     known-depth : (names : NameLists) → told_change names row (Some (replay j)) (Some (replay (journal_after j row.command))) ≡ told_depth names (day_of js a r) row
     known-depth names = sym (ap₂ (told_change names row) before behind)
 
+    known-events : (names : NameLists) → row_events names row (answer_on row (Some (replay j))) (Some (replay j)) ≡ told_events names (day_of js a r) row
+    known-events names = sym (ap (λ (o : Option State). row_events names row (answer_on row o) o) before)
+
 -- ---- texts that are asked for
 
 asked-part : {A : Type 0} (asked : Bool) (tells : List A → List ℕ) (told : List A) (begun : List ℕ) → with_text (tells (if_asked asked told)) (where_asked asked begun) ≡ where_asked asked (begun ++ tells told)
 asked-part true tells told begun = refl
 asked-part false tells told begun = refl
 
-abbrev pub made_texts : Option (List ℕ) → Option (List ℕ) → Option (List ℕ) → TextsView
-made_texts answers trades levels = record { answers = answers; trades = trades; levels = levels }
+abbrev pub made_texts : Option (List ℕ) → Option (List ℕ) → Option (List ℕ) → Option (List ℕ) → TextsView
+made_texts answers trades levels events = record { answers = answers; trades = trades; levels = levels; events = events }
 
-pub same-texts : (a b c d e f : Option (List ℕ)) → a ≡ b → c ≡ d → e ≡ f → made_texts a c e ≡ made_texts b d f
-same-texts a b c d e f answers trades levels = ap (λ (x : Option (List ℕ)). made_texts x c e) answers ∙ ap₂ (made_texts b) trades levels
+pub same-texts : (a b c d e f g h : Option (List ℕ)) → a ≡ b → c ≡ d → e ≡ f → g ≡ h → made_texts a c e g ≡ made_texts b d f h
+same-texts a b c d e f g h answers trades levels events = λ i. made_texts (answers i) (trades i) (levels i) (events i)
 
-pub texts-are : (asked : AskedTexts) (a b c d e f : List ℕ) → a ≡ b → c ≡ d → e ≡ f → texts_where asked a c e ≡ texts_where asked b d f
-texts-are asked a b c d e f answers trades levels =
-    same-texts _ _ _ _ _ _ (ap (where_asked asked.answers) answers) (ap (where_asked asked.trades) trades) (ap (where_asked asked.depth) levels)
+pub texts-are : (asked : AskedTexts) (a b c d e f g h : List ℕ) → a ≡ b → c ≡ d → e ≡ f → g ≡ h → texts_where asked a c e g ≡ texts_where asked b d f h
+texts-are asked a b c d e f g h answers trades levels events = λ i. texts_where asked (answers i) (trades i) (levels i) (events i)
 
-pub tells-asked : (asked : AskedTexts) (answers trades levels : List ℕ) → tells_any (texts_where asked answers trades levels) ≡ asks_any asked
-tells-asked asked answers trades levels = go asked.answers asked.trades asked.depth
+pub tells-asked : (asked : AskedTexts) (answers trades levels events : List ℕ) → tells_any (texts_where asked answers trades levels events) ≡ asks_any asked
+tells-asked asked answers trades levels events = go asked.answers asked.trades asked.depth asked.events
   where
-    go : (b c d : Bool) → tells_any (made_texts (where_asked b answers) (where_asked c trades) (where_asked d levels)) ≡ (b || c || d)
-    go true c d = refl
-    go false true d = refl
-    go false false true = refl
-    go false false false = refl
+    go : (b c d e : Bool) → tells_any (made_texts (where_asked b answers) (where_asked c trades) (where_asked d levels) (where_asked e events)) ≡ (b || c || d || e)
+    go true c d e = refl
+    go false true d e = refl
+    go false false true e = refl
+    go false false false true = refl
+    go false false false false = refl
 
 -- nothing is told where nothing is asked for
-pub texts-unasked : (asked : AskedTexts) (a b c d e f : List ℕ) → asks_any asked ≡ false → texts_where asked a c e ≡ texts_where asked b d f
-texts-unasked asked a b c d e f none = go asked.answers asked.trades asked.depth none
+pub texts-unasked : (asked : AskedTexts) (a b c d e f g h : List ℕ) → asks_any asked ≡ false → texts_where asked a c e g ≡ texts_where asked b d f h
+texts-unasked asked a b c d e f g h none = go asked.answers asked.trades asked.depth asked.events none
   where
-    go : (x y z : Bool) → (x || y || z) ≡ false → made_texts (where_asked x a) (where_asked y c) (where_asked z e) ≡ made_texts (where_asked x b) (where_asked y d) (where_asked z f)
-    go true y z none = absurd (cc)
-    go false true z none = absurd (cc)
-    go false false true none = absurd (cc)
-    go false false false none = refl
+    go : (x y z w : Bool) → (x || y || z || w) ≡ false
+        → made_texts (where_asked x a) (where_asked y c) (where_asked z e) (where_asked w g) ≡ made_texts (where_asked x b) (where_asked y d) (where_asked z f) (where_asked w h)
+    go true y z w none = absurd (cc)
+    go false true z w none = absurd (cc)
+    go false false true w none = absurd (cc)
+    go false false false true none = absurd (cc)
+    go false false false false none = refl
 
 -- ---- the rows of a batch
 
 module _ (asked : AskedTexts) (names : NameLists) (texts : ℕ → List ℕ) (asks : asks_any asked ≡ true) where
   -- a row was told: the texts went on with it, and the securities keep what they keep of the others
-  record ToldOne (js : List Journal) (a r : ℕ) (row : Row) (rows : List Row) (lanes : List LaneView) (answers trades levels : List ℕ) : Type 0 where
+  record ToldOne (js : List Journal) (a r : ℕ) (row : Row) (rows : List Row) (lanes : List LaneView) (answers trades levels events : List ℕ) : Type 0 where
     pub left : List LaneView
-    pub is : told_row texts (record { lanes = lanes; texts = texts_where asked answers trades levels }) row
+    pub is : told_row names texts (record { lanes = lanes; texts = texts_where asked answers trades levels events }) row
         ≡ record {
           lanes = left;
-          texts = texts_where asked (answers ++ told_of names texts (day_of js a r) row) (trades ++ told_trades names texts (day_of js a r) row) (levels ++ told_depth names (day_of js a r) row);
+          texts = texts_where asked (answers ++ told_of names texts (day_of js a r) row) (trades ++ told_trades names texts (day_of js a r) row) (levels ++ told_depth names (day_of js a r) row) (events ++ told_events names (day_of js a r) row);
         }
     pub long : length left ≡ length lanes
     pub keep : (k : ℕ) (d : LaneView) → k < length lanes → get_or left k d ≡ keeps asked names k (own_row k (get_or js k d.journal) row) rows
 
-  told-one : (js : List Journal) (a r : ℕ) (row : Row) (rows : List Row) (lanes : List LaneView) (answers trades levels : List ℕ) → length js ≡ length lanes
-      → ((k : ℕ) (d : LaneView) → k < length lanes → get_or lanes k d ≡ keeps asked names k (get_or js k d.journal) (row ∷ rows)) → ToldOne js a r row rows lanes answers trades levels
-  told-one js a r row rows lanes answers trades levels all has = by (slice_get js row.security) refl
+  told-one : (js : List Journal) (a r : ℕ) (row : Row) (rows : List Row) (lanes : List LaneView) (answers trades levels events : List ℕ) → length js ≡ length lanes
+      → ((k : ℕ) (d : LaneView) → k < length lanes → get_or lanes k d ≡ keeps asked names k (get_or js k d.journal) (row ∷ rows)) → ToldOne js a r row rows lanes answers trades levels events
+  told-one js a r row rows lanes answers trades levels events all has = by (slice_get js row.security) refl
     where
       s : ℕ
       s = row.security
@@ -241,19 +251,20 @@ module _ (asked : AskedTexts) (names : NameLists) (texts : ℕ → List ℕ) (as
       text = texts row.line
 
       before : LanesAndTexts
-      before = record { lanes = lanes; texts = texts_where asked answers trades levels }
+      before = record { lanes = lanes; texts = texts_where asked answers trades levels events }
 
-      by : (o : Option Journal) → slice_get js s ≡ o → ToldOne js a r row rows lanes answers trades levels
+      by : (o : Option Journal) → slice_get js s ≡ o → ToldOne js a r row rows lanes answers trades levels events
       by None none =
           let past : length lanes ≤ s = omega (arith, all, past-end js s none) in
           record {
             left = lanes;
             is =
-                ap (λ (o : Option LaneView). told_by_lane row text o before) (slice_get_past lanes s past)
+                ap (λ (o : Option LaneView). told_by_lane names row text o before) (slice_get_past lanes s past)
                 ∙ ap (λ (t : TextsView). record { lanes = lanes; texts = t })
-                (same-texts _ _ _ _ _ _ (with_text-asked asked.answers answers (record_line row text (unknown_fields (Err UnknownSecurity)))) (with_text-asked asked.trades trades []) (with_text-asked asked.depth levels [])
-                ∙ texts-are asked _ _ _ _ _ _ (ap (λ more. answers ++ more) (unknown-by js row a r none (answer_line names) texts)) (ap (λ more. trades ++ more) (unknown-by js row a r none (trade_lines names) texts))
-                (ap (λ more. levels ++ more) (unknown-depth js row a r none names)));
+                (same-texts _ _ _ _ _ _ _ _ (with_text-asked asked.answers answers (record_line row text (unknown_fields (Err UnknownSecurity)))) (with_text-asked asked.trades trades []) (with_text-asked asked.depth levels [])
+                (with_text-asked asked.events events (row_events names row (Err UnknownSecurity) None))
+                ∙ texts-are asked _ _ _ _ _ _ _ _ (ap (λ more. answers ++ more) (unknown-by js row a r none (answer_line names) texts)) (ap (λ more. trades ++ more) (unknown-by js row a r none (trade_lines names) texts))
+                (ap (λ more. levels ++ more) (unknown-depth js row a r none names)) (ap (λ more. events ++ more) (unknown-events js row a r none names)));
             long = refl;
             keep = λ k d inside. none-popped lanes row past k d inside ∙ ap (popped k row) (has k d inside) ∙ keeps-less asked names k (get_or js k d.journal) row rows asks;
           }
@@ -266,12 +277,13 @@ module _ (asked : AskedTexts) (names : NameLists) (texts : ℕ → List ℕ) (as
           record {
             left = left;
             is =
-                ap (λ (o : Option LaneView). told_by_lane row text o before) stands
+                ap (λ (o : Option LaneView). told_by_lane names row text o before) stands
                 ∙ ap (λ (t : TextsView). record { lanes = left; texts = t })
-                (ap (λ (kept : List KeptRow). with_first row text kept (texts_where asked answers trades levels)) (keeps-first asked names j row rows asks)
-                ∙ same-texts _ _ _ _ _ _ (asked-part asked.answers (record_line row text) _ answers) (asked-part asked.trades (flat_map (record_line row text)) _ trades) (asked-part asked.depth (λ more. more) _ levels)
-                ∙ texts-are asked _ _ _ _ _ _ (ap (λ more. answers ++ more) (known-by js row a r j at (answer_line names) texts)) (ap (λ more. trades ++ more) (known-by js row a r j at (trade_lines names) texts))
-                (ap (λ more. levels ++ more) (known-depth js row a r j at names)));
+                (ap (λ (kept : List KeptRow). with_first row text kept (texts_where asked answers trades levels events)) (keeps-first asked names j row rows asks)
+                ∙ same-texts _ _ _ _ _ _ _ _ (asked-part asked.answers (record_line row text) _ answers) (asked-part asked.trades (flat_map (record_line row text)) _ trades) (asked-part asked.depth (λ more. more) _ levels)
+                (asked-part asked.events (λ more. more) _ events)
+                ∙ texts-are asked _ _ _ _ _ _ _ _ (ap (λ more. answers ++ more) (known-by js row a r j at (answer_line names) texts)) (ap (λ more. trades ++ more) (known-by js row a r j at (trade_lines names) texts))
+                (ap (λ more. levels ++ more) (known-depth js row a r j at names)) (ap (λ more. events ++ more) (known-events js row a r j at names)));
             long = length-set lanes s (record l { kept = behind_first l.kept });
             keep = λ k d within. set-popped lanes row l stands k d within ∙ ap (popped k row) (has k d within) ∙ keeps-less asked names k (get_or js k d.journal) row rows asks;
           }
@@ -281,54 +293,54 @@ goes-on : (told : TheDay → Row → List ℕ) (d e : TheDay) (row : Row) (rows 
 goes-on told d e row rows before is = append_assoc before (told d row) (told_of_rows told e rows) ∙ ap (λ (x : TheDay). before ++ (told d row ++ told_of_rows told x rows)) (sym is)
 
 -- securities whose journals were these before rows have told them
-pub record HaveTold (asked : AskedTexts) (names : NameLists) (texts : ℕ → List ℕ) (js : List Journal) (a r : ℕ) (rows : List Row) (answers trades levels : List ℕ) (s : LanesAndTexts) : Type 0 where
+pub record HaveTold (asked : AskedTexts) (names : NameLists) (texts : ℕ → List ℕ) (js : List Journal) (a r : ℕ) (rows : List Row) (answers trades levels events : List ℕ) (s : LanesAndTexts) : Type 0 where
   pub lanes_are : (k : ℕ) (d : LaneView) → k < length js → get_or s.lanes k d ≡ fresh_lane asked (own_rows k (get_or js k d.journal) rows)
-  pub texts_are : s.texts ≡ texts_where asked (answers ++ answers_of names texts (day_of js a r) rows) (trades ++ trades_of names texts (day_of js a r) rows) (levels ++ depths_of names (day_of js a r) rows)
+  pub texts_are : s.texts ≡ texts_where asked (answers ++ answers_of names texts (day_of js a r) rows) (trades ++ trades_of names texts (day_of js a r) rows) (levels ++ depths_of names (day_of js a r) rows) (events ++ events_of names (day_of js a r) rows)
 
-have-told : (asked : AskedTexts) (names : NameLists) (texts : ℕ → List ℕ) → asks_any asked ≡ true → (js : List Journal) (a r : ℕ) (rows : List Row) (lanes : List LaneView) (answers trades levels : List ℕ) → length js ≡ length lanes
+have-told : (asked : AskedTexts) (names : NameLists) (texts : ℕ → List ℕ) → asks_any asked ≡ true → (js : List Journal) (a r : ℕ) (rows : List Row) (lanes : List LaneView) (answers trades levels events : List ℕ) → length js ≡ length lanes
     → ((k : ℕ) (d : LaneView) → k < length lanes → get_or lanes k d ≡ keeps asked names k (get_or js k d.journal) rows)
-    → HaveTold asked names texts js a r rows answers trades levels (fold (told_row texts) (record { lanes = lanes; texts = texts_where asked answers trades levels }) rows)
-have-told asked names texts asks js a r [] lanes answers trades levels all has = record {
+    → HaveTold asked names texts js a r rows answers trades levels events (fold (told_row names texts) (record { lanes = lanes; texts = texts_where asked answers trades levels events }) rows)
+have-told asked names texts asks js a r [] lanes answers trades levels events all has = record {
   lanes_are = λ k d inside. has k d (omega (arith, all, inside));
-  texts_are = texts-are asked _ _ _ _ _ _ (sym (append-nil answers)) (sym (append-nil trades)) (sym (append-nil levels));
+  texts_are = texts-are asked _ _ _ _ _ _ _ _ (sym (append-nil answers)) (sym (append-nil trades)) (sym (append-nil levels)) (sym (append-nil events));
 }
-have-told asked names texts asks js a r (row ∷ rows) lanes answers trades levels all has =
+have-told asked names texts asks js a r (row ∷ rows) lanes answers trades levels events all has =
     let day = day_of js a r in
-    let one = told-one asked names texts asks js a r row rows lanes answers trades levels all has in
+    let one = told-one asked names texts asks js a r row rows lanes answers trades levels events all has in
     let next = one-row js row a r in
     let long = length-row js row (slice_get js row.security) refl in
     let rest =
-    have-told asked names texts asks (all_row js row) next.accepted next.refused rows one.left (answers ++ told_of names texts day row) (trades ++ told_trades names texts day row) (levels ++ told_depth names day row)
+    have-told asked names texts asks (all_row js row) next.accepted next.refused rows one.left (answers ++ told_of names texts day row) (trades ++ told_trades names texts day row) (levels ++ told_depth names day row) (events ++ told_events names day row)
     (long ∙ all ∙ sym one.long)
     (λ k d inside. one.keep k d (omega (arith, one.long, inside)) ∙ ap (λ (j : Journal). keeps asked names k j rows) (sym (row-at js row k d.journal (omega (arith, all, one.long, inside))))) in
     record {
       lanes_are = λ k d inside.
-          ap (λ (s : LanesAndTexts). get_or (fold (told_row texts) s rows).lanes k d) one.is
+          ap (λ (s : LanesAndTexts). get_or (fold (told_row names texts) s rows).lanes k d) one.is
           ∙ rest.lanes_are k d (omega (arith, long, inside))
           ∙ ap (λ (j : Journal). fresh_lane asked (own_rows k j rows)) (row-at js row k d.journal inside);
       texts_are =
-          ap (λ (s : LanesAndTexts). (fold (told_row texts) s rows).texts) one.is
+          ap (λ (s : LanesAndTexts). (fold (told_row names texts) s rows).texts) one.is
           ∙ rest.texts_are
-          ∙ texts-are asked _ _ _ _ _ _ (goes-on (told_of names texts) day _ row rows answers next.is) (goes-on (told_trades names texts) day _ row rows trades next.is) (goes-on (told_depth names) day _ row rows levels next.is);
+          ∙ texts-are asked _ _ _ _ _ _ _ _ (goes-on (told_of names texts) day _ row rows answers next.is) (goes-on (told_trades names texts) day _ row rows trades next.is) (goes-on (told_depth names) day _ row rows levels next.is) (goes-on (told_events names) day _ row rows events next.is);
     }
 
 -- where nothing is asked for, there was nothing to tell
-pub told-added : (asked : AskedTexts) (names : NameLists) (texts : ℕ → List ℕ) (js : List Journal) (a r : ℕ) (rows : List Row) (old new : List LaneView) (answers trades levels : List ℕ) (after : TextsView) → length js ≡ length old
+pub told-added : (asked : AskedTexts) (names : NameLists) (texts : ℕ → List ℕ) (js : List Journal) (a r : ℕ) (rows : List Row) (old new : List LaneView) (answers trades levels events : List ℕ) (after : TextsView) → length js ≡ length old
     → ((k : ℕ) (d : LaneView) → k < length old → get_or old k d ≡ keeps asked names k (get_or js k d.journal) rows)
     → record { lanes = new; texts = after }
-    ≡ (if tells_any (texts_where asked answers trades levels) then fold (told_row texts) (record { lanes = old; texts = texts_where asked answers trades levels }) rows else record { lanes = old; texts = texts_where asked answers trades levels })
-    → HaveTold asked names texts js a r rows answers trades levels (record { lanes = new; texts = after })
-told-added asked names texts js a r rows old new answers trades levels after all has is = by (asks_any asked) refl
+    ≡ (if tells_any (texts_where asked answers trades levels events) then fold (told_row names texts) (record { lanes = old; texts = texts_where asked answers trades levels events }) rows else record { lanes = old; texts = texts_where asked answers trades levels events })
+    → HaveTold asked names texts js a r rows answers trades levels events (record { lanes = new; texts = after })
+told-added asked names texts js a r rows old new answers trades levels events after all has is = by (asks_any asked) refl
   where
     before : LanesAndTexts
-    before = record { lanes = old; texts = texts_where asked answers trades levels }
+    before = record { lanes = old; texts = texts_where asked answers trades levels events }
 
-    either : (b : Bool) → asks_any asked ≡ b → record { lanes = new; texts = after } ≡ (if b then fold (told_row texts) before rows else before)
-    either b asks = is ∙ ap (λ (c : Bool). if c then fold (told_row texts) before rows else before) (tells-asked asked answers trades levels ∙ asks)
+    either : (b : Bool) → asks_any asked ≡ b → record { lanes = new; texts = after } ≡ (if b then fold (told_row names texts) before rows else before)
+    either b asks = is ∙ ap (λ (c : Bool). if c then fold (told_row names texts) before rows else before) (tells-asked asked answers trades levels events ∙ asks)
 
-    by : (b : Bool) → asks_any asked ≡ b → HaveTold asked names texts js a r rows answers trades levels (record { lanes = new; texts = after })
+    by : (b : Bool) → asks_any asked ≡ b → HaveTold asked names texts js a r rows answers trades levels events (record { lanes = new; texts = after })
     by true asks =
-        let told = have-told asked names texts asks js a r rows old answers trades levels all has in
+        let told = have-told asked names texts asks js a r rows old answers trades levels events all has in
         record {
           lanes_are = λ k d inside. ap (λ (s : LanesAndTexts). get_or s.lanes k d) (either true asks) ∙ told.lanes_are k d inside;
           texts_are = ap (λ (s : LanesAndTexts). s.texts) (either true asks) ∙ told.texts_are;
@@ -338,5 +350,5 @@ told-added asked names texts js a r rows old new answers trades levels after all
           ap (λ (s : LanesAndTexts). get_or s.lanes k d) (either false none)
           ∙ has k d (omega (arith, all, inside))
           ∙ ap (λ kept. record { asked = asked; journal = own_rows k (get_or js k d.journal) rows; kept = kept; lacks_memory = false }) (kepts-none asked names k (get_or js k d.journal) rows none);
-      texts_are = ap (λ (s : LanesAndTexts). s.texts) (either false none) ∙ texts-unasked asked _ _ _ _ _ _ none;
+      texts_are = ap (λ (s : LanesAndTexts). s.texts) (either false none) ∙ texts-unasked asked _ _ _ _ _ _ _ _ none;
     }

@@ -4,9 +4,11 @@ use Rattle.std.specs.Bool.{OnTrue}
 use Rattle.std.specs.List.{flat_map}
 use Rattle.xm_replay.specs.Taken.{IsOpenFault}
 use Rattle.xm_config.specs.Day.{answer_on}
+use Rattle.xm_desk.specs.Answered.{journal_after}
 use Rattle.xm_threads.specs.KeptRows.{KeptRow, behind_first}
 use Rattle.xm_texts.specs.MarketDepth.{depth_header, depth_text, told_change}
 use Rattle.xm_texts.specs.RowAnswers.{AgreeOn, answers_header, answers_text, record_line, security_fields, unknown_fields, where_asked, with_text}
+use Rattle.xm_texts.specs.RowEvents.{events_header, events_text, row_events}
 use Rattle.xm_texts.specs.RowTrades.{row_trades, trades_header, trades_text}
 use Rattle.xm_replay.specs.declared.faults.DayFault.{DayFault}
 use Rattle.xm_replay.specs.declared.faults.DayFault.TheVariants.{Open, OutOfMemory}
@@ -17,10 +19,8 @@ use Rattle.xm_files.specs.Names.{NameLists}
 use Rattle.xm_files.specs.Orders.{max_lines}
 use Rattle.xm_files.specs.declared.file_faults.FileCause.TheVariants.{OutOfMemory as NoMemory}
 use Rattle.xm_files.specs.declared.file_faults.FileFault.{FileFault}
-use Rattle.xm_rules.specs.Refusals.{refusal_of}
 use Rattle.xm_rules.specs.State.{State}
 use Rattle.xm_rules.specs.Step.{Journal, replay}
-use Rattle.xm_rules.specs.declared.commands.Command.{Command}
 use Rattle.xm_rules.specs.declared.replies.Refusal.{Refusal}
 use Rattle.xm_rules.specs.declared.replies.Refusal.TheVariants.{UnknownSecurity}
 use Rattle.xm_rules.specs.declared.replies.Reply.{Reply}
@@ -40,14 +40,6 @@ pub record LaneView : Type 0 where
 abbrev pub fresh_lane : AskedTexts → Journal → LaneView
 fresh_lane asked j = record { asked = asked; journal = j; kept = []; lacks_memory = false }
 
-abbrev pub if_accepted : Option Refusal → Journal → Command → Journal
-if_accepted None j command = record j { commands = j.commands ++ command ∷ [] }
-if_accepted (Some refusal) j command = j
-
--- a journal behind a command that its desk answered: it stands there, unless it was refused
-abbrev pub journal_after : Journal → Command → Journal
-journal_after j command = if_accepted (refusal_of (replay j) command) j command
-
 -- the journal of the security with this index behind a row of the segment
 abbrev pub own_row : ℕ → Journal → Row → Journal
 own_row k j row = if row.security == k then journal_after j row.command else j
@@ -56,24 +48,26 @@ abbrev pub own_rows : ℕ → Journal → List Row → Journal
 own_rows k j rows = fold (own_row k) j rows
 
 abbrev pub asks_any : AskedTexts → Bool
-asks_any asked = asked.answers || asked.trades || asked.depth
+asks_any asked = asked.answers || asked.trades || asked.depth || asked.events
 
 -- what isn't asked for is empty
 abbrev pub if_asked : {A : Type 0} → Bool → List A → List A
 if_asked asked told = if asked then told else []
 
--- what is kept of a row that was answered so, by the state of its security behind it and the lines of its levels
-abbrev pub kept_row : AskedTexts → NameLists → Row → Result Reply Refusal → State → List ℕ → KeptRow
-kept_row asked names row answer state levels = record {
+-- what is kept of a row that was answered so, by the state of its security behind it, and the lines of its levels and of its events
+abbrev pub kept_row : AskedTexts → NameLists → Row → Result Reply Refusal → State → List ℕ → List ℕ → KeptRow
+kept_row asked names row answer state levels events = record {
   answer = if_asked asked.answers (security_fields names row answer (Some state));
   trades = if_asked asked.trades (row_trades names row answer (Some state));
   levels = if_asked asked.depth levels;
+  events = if_asked asked.events events;
 }
 
 -- what a security keeps of a row of its own
 abbrev pub own_kept : AskedTexts → NameLists → Journal → Row → KeptRow
 own_kept asked names j row =
     kept_row asked names row (answer_on row (Some (replay j))) (replay (journal_after j row.command)) (told_change names row (Some (replay j)) (Some (replay (journal_after j row.command))))
+    (row_events names row (answer_on row (Some (replay j))) (Some (replay j)))
 
 -- a security behind a row of its own; it keeps none where nothing is asked for
 abbrev pub lane_after : NameLists → LaneView → Row → LaneView
@@ -107,12 +101,18 @@ pub record TextsView : Type 0 where
   pub answers : Option (List ℕ)
   pub trades : Option (List ℕ)
   pub levels : Option (List ℕ)
+  pub events : Option (List ℕ)
 
-abbrev pub texts_where : AskedTexts → List ℕ → List ℕ → List ℕ → TextsView
-texts_where asked answers trades levels = record { answers = where_asked asked.answers answers; trades = where_asked asked.trades trades; levels = where_asked asked.depth levels }
+abbrev pub texts_where : AskedTexts → List ℕ → List ℕ → List ℕ → List ℕ → TextsView
+texts_where asked answers trades levels events = record {
+  answers = where_asked asked.answers answers;
+  trades = where_asked asked.trades trades;
+  levels = where_asked asked.depth levels;
+  events = where_asked asked.events events;
+}
 
 abbrev pub tells_any : TextsView → Bool
-tells_any t = is_some t.answers || is_some t.trades || is_some t.levels
+tells_any t = is_some t.answers || is_some t.trades || is_some t.levels || is_some t.events
 
 -- they go on with what is kept of a row, whose record has this free text
 abbrev pub with_kept : Row → List ℕ → KeptRow → TextsView → TextsView
@@ -120,6 +120,7 @@ with_kept row text kept t = record {
   answers = with_text (record_line row text kept.answer) t.answers;
   trades = with_text (flat_map (record_line row text) kept.trades) t.trades;
   levels = with_text kept.levels t.levels;
+  events = with_text kept.events t.events;
 }
 
 -- and with the first row that is kept, where there is one
@@ -127,9 +128,9 @@ abbrev pub with_first : Row → List ℕ → List KeptRow → TextsView → Text
 with_first row text [] t = t
 with_first row text (kept ∷ more) t = with_kept row text kept t
 
--- what is told of a row of an unknown security: its answer alone
-abbrev pub unknown_row : KeptRow
-unknown_row = record { answer = unknown_fields (Err UnknownSecurity); trades = []; levels = [] }
+-- what is told of a row of an unknown security: its answer, and that it was refused
+abbrev pub unknown_row : NameLists → Row → KeptRow
+unknown_row names row = record { answer = unknown_fields (Err UnknownSecurity); trades = []; levels = []; events = row_events names row (Err UnknownSecurity) None }
 
 -- the securities of a segment, and the texts of their rows so far
 pub record LanesAndTexts : Type 0 where
@@ -137,18 +138,18 @@ pub record LanesAndTexts : Type 0 where
   pub texts : TextsView
 
 -- they go on with a row of this security, if it is known: it tells what it keeps next
-abbrev pub told_by_lane : Row → List ℕ → Option LaneView → LanesAndTexts → LanesAndTexts
-told_by_lane row text None s = record s { texts = with_kept row text unknown_row s.texts }
-told_by_lane row text (Some l) s = record { lanes = slice_set s.lanes row.security (record l { kept = behind_first l.kept }); texts = with_first row text l.kept s.texts }
+abbrev pub told_by_lane : NameLists → Row → List ℕ → Option LaneView → LanesAndTexts → LanesAndTexts
+told_by_lane names row text None s = record s { texts = with_kept row text (unknown_row names row) s.texts }
+told_by_lane names row text (Some l) s = record { lanes = slice_set s.lanes row.security (record l { kept = behind_first l.kept }); texts = with_first row text l.kept s.texts }
 
 -- and with a row, where records have these texts by their numbers
-abbrev pub told_row : (ℕ → List ℕ) → LanesAndTexts → Row → LanesAndTexts
-told_row texts s row = told_by_lane row (texts row.line) (slice_get s.lanes row.security) s
+abbrev pub told_row : NameLists → (ℕ → List ℕ) → LanesAndTexts → Row → LanesAndTexts
+told_row names texts s row = told_by_lane names row (texts row.line) (slice_get s.lanes row.security) s
 
 -- texts go on with what securities keep of these rows, one after another, where records have these texts of their own by their numbers; nothing happens where no text is asked for
-abbrev pub IsAdded : (ℕ → List ℕ) → List Row → List LaneView → TextsView → List LaneView → TextsView → Type 0
-IsAdded own rows old before new after =
-    record { lanes = new; texts = after } ≡ if tells_any before then fold (told_row own) (record { lanes = old; texts = before }) rows else record { lanes = old; texts = before }
+abbrev pub IsAdded : NameLists → (ℕ → List ℕ) → List Row → List LaneView → TextsView → List LaneView → TextsView → Type 0
+IsAdded names own rows old before new after =
+    record { lanes = new; texts = after } ≡ if tells_any before then fold (told_row names own) (record { lanes = old; texts = before }) rows else record { lanes = old; texts = before }
 
 -- the texts, and whether memory was wanting for them
 pub record MergedView : Type 0 where
@@ -158,7 +159,7 @@ pub record MergedView : Type 0 where
 -- securities have told all of these rows, whose records have these texts by their numbers
 pub record ToldRows (asked : AskedTexts) (names : NameLists) (texts : ℕ → List ℕ) (config : SegmentConfig) (rows : List Row) (lanes : List LaneView) (told : TextsView) : Type 0 where
   pub lanes_are : (k : ℕ) (d : LaneView) → k < length lanes → slice_index_or lanes k d ≡ fresh_lane asked (own_rows k (slice_index_or (map (journal_of config) config.securities) k d.journal) rows)
-  pub texts_are : told ≡ texts_where asked (answers_text names config texts rows) (trades_text names config texts rows) (depth_text names config rows)
+  pub texts_are : told ≡ texts_where asked (answers_text names config texts rows) (trades_text names config texts rows) (depth_text names config rows) (events_text names config rows)
 
 -- the same, unless memory was wanting
 abbrev pub AreTold : AskedTexts → NameLists → (ℕ → List ℕ) → SegmentConfig → List Row → List LaneView → MergedView → Type 0
@@ -199,7 +200,7 @@ AreOpened lanes_in asked config (Err fault) = IsUnopened config fault
 pub record HaveBegun (asked : AskedTexts) (config : SegmentConfig) (lanes : List LaneView) (merged : MergedView) : Type 0 where
   pub sound : segment_fault config ≡ None
   pub lanes_are : lanes ≡ map (fresh_lane asked) (map (journal_of config) config.securities)
-  pub texts_are : merged.lacks_memory ≡ false → merged.texts ≡ texts_where asked answers_header trades_header depth_header
+  pub texts_are : merged.lacks_memory ≡ false → merged.texts ≡ texts_where asked answers_header trades_header depth_header events_header
 
 -- the same, unless a fault kept them from being opened
 abbrev pub HaveBegunUnless : Option DayFault → AskedTexts → SegmentConfig → List LaneView → MergedView → Type 0

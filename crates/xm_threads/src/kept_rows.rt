@@ -21,7 +21,7 @@ use xm_texts::{AskedTexts, MarketDepth, push_change, push_known, push_trade, tra
 #[derive(Drop)]
 pub(crate) struct KeptRows {
     lines: KeptLines,
-    // The lines of each row: its answer, its levels, and each of its trades.
+    // The lines of each row: its answer, its levels, its events, and each of its trades.
     rows: Vec<Span>,
     // How many rows were told.
     told: usize,
@@ -39,7 +39,7 @@ impl Model for KeptRows {
     ghost view = { λ k. map (λ (s : Span). row_of_lines (part_at k.lines s)) (drop k.told k.rows.items) };
 
     ghost invariant = { λ k. record {
-      parts : All (IsPartOf 2 k.lines) k.rows.items;
+      parts : All (IsPartOf 3 k.lines) k.rows.items;
       told : k.told ≤ length k.rows.items;
     } };
 }
@@ -64,8 +64,8 @@ impl KeptRows {
         }
     }
 
-    /// Keeps what is asked for of a row that a desk has taken and answered so, between these levels. It stands by itself, since a day without
-    /// texts doesn't call it.
+    /// Keeps what is asked for of a row that a desk has taken and answered so, between these levels and with these events. It stands by
+    /// itself, since a day without texts doesn't call it.
     #[inline(never)]
     pub(crate) fn push(
         &mut self,
@@ -76,14 +76,16 @@ impl KeptRows {
         answer: &Result<Reply, Refusal>,
         before: &MarketDepth,
         after: &MarketDepth,
+        events: &[u8],
     ) -> Result<(), OutOfMemory>
-        ensures { OnOk result (self.new ≡ self.old ++ kept_row asked names.now row.now answer.now (replay desk.now) (change_lines names.now row.now (replay desk.now).settings.tick before.now after.now) ∷ []) }
+        ensures { OnOk result (self.new ≡ self.old ++ kept_row asked names.now row.now answer.now (replay desk.now) (change_lines names.now row.now (replay desk.now).settings.tick before.now after.now) events.now ∷ []) }
     {
         let begin = self.lines.len();
         let lines = &mut self.lines;
         let line = &mut self.line;
         keep_answer(lines, line, asked.answers, names, desk, row, answer)?;
         keep_levels(lines, line, asked.depth, names, desk, row, before, after)?;
+        keep_events(lines, asked.events, events)?;
         keep_trades(lines, line, asked.trades, names, desk, row, answer)?;
         let end = self.lines.len();
         self.rows.push(Span { begin, end })?;
@@ -107,7 +109,8 @@ impl KeptRows {
         let place = self.rows[self.told];
         told.add_answer(texts, row, self.lines.line(place.begin))?;
         told.add_levels(self.lines.line(place.begin + 1))?;
-        told.add_trades(texts, row, &self.lines, place.begin + 2, place.end)?;
+        told.add_events(self.lines.line(place.begin + 2))?;
+        told.add_trades(texts, row, &self.lines, place.begin + 3, place.end)?;
         self.told += 1;
         if self.told == self.rows.len() {
             self.clear();
@@ -166,6 +169,14 @@ fn keep_levels(
     line.clear();
     push_change(line, names, row, desk.settings().tick, before, after)?;
     lines.push(line.as_slice())
+}
+
+/// Adds the lines of events as one, or nothing as a line where they aren't asked for.
+fn keep_events(lines: &mut KeptLines, asked: bool, events: &[u8]) -> Result<(), OutOfMemory>
+    ensures kept { OnOk result (lines.new ≡ lines.old ++ if_asked asked events.now ∷ []) }
+    ensures more { length lines.old ≤ length lines.new }
+{
+    lines.push(if asked { events } else { &[] })
 }
 
 /// Adds the fields of each trade of a row that a desk answered so, where they are asked for.

@@ -1,10 +1,10 @@
 //! Securities that take the rows of their segment apart, each its own.
-ghost use Rattle.std.specs.Prelude.{◌≡◌, ◌<◌, ◌+◌, ◌^◌, ℕ, List, All, None, IfOk, OnErr, OnOk, Some, false, length, map, slice_index_or};
+ghost use Rattle.std.specs.Prelude.{◌≡◌, ◌<◌, ◌+◌, ◌^◌, ℕ, List, [], All, IfOk, OnOk, false, length, map, slice_index_or};
 ghost use Rattle.std.specs.Bool.{OnTrue};
 ghost use Rattle.xm_replay.specs.Taken.{RowsTaken, commands_in};
-ghost use Rattle.xm_config.specs.Day.{answer_on};
-ghost use Rattle.xm_threads.specs.Lanes.{AreOpened, AreTold, AreTakenSoFar, HaveBegunUnless, LaneView, TookMore, TookOwnRows, TookSoMany, asks_any, fresh_lane, journal_after, lane_row};
+ghost use Rattle.xm_threads.specs.Lanes.{AreOpened, AreTold, AreTakenSoFar, HaveBegunUnless, LaneView, TookMore, TookOwnRows, TookSoMany, asks_any, fresh_lane, lane_row};
 ghost use Rattle.xm_texts.specs.MarketDepth.{market_depth};
+ghost use Rattle.xm_texts.specs.RowAnswers.{where_asked};
 ghost use Rattle.xm_texts.specs.declared.asked.AskedTexts.{AskedTexts};
 ghost use Rattle.xm_files.specs.Names.{NameLists};
 ghost use Rattle.xm_files.specs.RecordTexts.{texts_in};
@@ -24,17 +24,19 @@ use xm_desk::{Desk, open_desks};
 use xm_files::{Batch, RecordTexts, SegmentNames};
 use xm_memory::OutOfMemory;
 use xm_name_index::Storage;
-use xm_replay::{DayFault, DayReport, OpenDay, by_rule};
-use xm_rules::{Refusal, Reply};
-use xm_texts::{AskedTexts, MarketDepth};
+use xm_replay::{DayFault, DayReport, OpenDay};
+use xm_texts::{AskedTexts, MarketDepth, take_told};
 
 /// The desk of a security, what is asked for of its rows, what it keeps of those that aren't told yet, and the want of memory that it met.
 /// From then on it takes no row.
 #[derive(Drop)]
 pub(crate) struct DeskLane {
     asked: AskedTexts,
+    storage: Storage<Global>,
     desk: Desk<Global>,
     kept: KeptRows,
+    // The lines of the events of the row that was taken last, where they are asked for.
+    events: Vec<u8>,
     // The levels that were shown last, where they are asked for.
     shown: MarketDepth,
     wanting: Option<OutOfMemory>,
@@ -57,18 +59,20 @@ impl Model for DeskLane {
 impl DeskLane {
     ghost use Rattle.std.specs.Prelude.{◌≡◌, IfOk, OnErr, OnOk, false, true};
     ghost use Rattle.xm_threads.specs.KeptRows.{behind_first};
-    ghost use Rattle.xm_threads.specs.Lanes.{fresh_lane, lane_after, with_first};
+    ghost use Rattle.xm_threads.specs.Lanes.{asks_any, fresh_lane, lane_after, with_first};
     ghost use Rattle.xm_files.specs.RecordTexts.{texts_in};
 
     /// A desk that takes rows, of which these texts are told.
-    fn of(alloc: Global, desk: Desk<Global>, asked: AskedTexts) -> DeskLane
+    fn of(storage: Storage<Global>, desk: Desk<Global>, asked: AskedTexts) -> DeskLane
         ensures { result ≡ fresh_lane asked desk }
     {
         let shown = MarketDepth::of(&desk);
         DeskLane {
             asked,
+            storage,
             desk,
-            kept: KeptRows::new(alloc),
+            kept: KeptRows::new(storage.alloc),
+            events: Vec::new(storage.alloc),
             shown,
             wanting: None,
         }
@@ -89,12 +93,50 @@ impl DeskLane {
     fn answer(&mut self, names: &SegmentNames, row: &Row) -> Result<(), OutOfMemory>
         ensures { OnOk result (self.new ≡ lane_after names.now self.old row.now) }
     {
-        let answer = answered(&mut self.desk, row)?;
-        if !asks_any(self.asked) {
-            return Ok(());
+        if asks_any(self.asked) {
+            return self.answer_and_keep(names, row);
         }
+        let _ = self.desk.answer(&row.command)?;
+        Ok(())
+    }
+
+    /// Does the same where a text is asked for.
+    #[inline(always)]
+    fn answer_and_keep(&mut self, names: &SegmentNames, row: &Row) -> Result<(), OutOfMemory>
+        requires { asks_any self.old.asked ≡ true }
+        ensures { OnOk result (self.new ≡ lane_after names.now self.old row.now) }
+    {
+        if self.asked.events {
+            return self.answer_with_events(names, row);
+        }
+        let answer = self.desk.answer(&row.command)?;
         let before = self.shown;
         show(&mut self.shown, self.asked.depth, &self.desk);
+        let shown = &self.shown;
+        self.kept.push(
+            self.asked,
+            names,
+            &self.desk,
+            row,
+            &answer,
+            &before,
+            shown,
+            &[],
+        )
+    }
+
+    /// Does the same where events are asked for. It stands by itself, so that no other text pays for them.
+    #[inline(never)]
+    fn answer_with_events(&mut self, names: &SegmentNames, row: &Row) -> Result<(), OutOfMemory>
+        requires { self.old.asked.events ≡ true }
+        ensures { OnOk result (self.new ≡ lane_after names.now self.old row.now) }
+    {
+        self.events.clear();
+        let desk = &mut self.desk;
+        let answer = take_told(&mut self.events, self.storage, names, desk, row);
+        let before = self.shown;
+        show(&mut self.shown, self.asked.depth, &self.desk);
+        let answer = answer?;
         self.kept.push(
             self.asked,
             names,
@@ -103,6 +145,7 @@ impl DeskLane {
             &answer,
             &before,
             &self.shown,
+            self.events.as_slice(),
         )
     }
 
@@ -139,20 +182,7 @@ impl DeskLane {
 fn asks_any(asked: AskedTexts) -> bool
     ensures { result ≡ asks_any asked }
 {
-    asked.answers || asked.trades || asked.depth
-}
-
-/// Has a desk answer a row. `OutOfMemory` changes nothing.
-#[inline(always)]
-fn answered(desk: &mut Desk<Global>, row: &Row) -> Result<Result<Reply, Refusal>, OutOfMemory>
-    ensures answer { IfOk result (λ answer. answer ≡ answer_on row.now (Some (replay desk.old))) }
-    ensures after { OnOk result (desk.new ≡ journal_after desk.old row.now.command) }
-    ensures kept { OnErr result (desk.new ≡ desk.old) }
-{
-    match desk.apply(&row.command) {
-        Ok(reply) => Ok(Ok(reply)),
-        Err(refusal) => Ok(Err(by_rule(refusal)?)),
-    }
+    asked.answers || asked.trades || asked.depth || asked.events
 }
 
 /// Shows the levels of a desk as they stand, if they are asked for.
@@ -205,21 +235,21 @@ fn open_lanes(
     ensures { AreOpened (λ lanes. lanes.items) asked config.now result }
 {
     let desks = open_desks(storage, config)?;
-    let lanes = lanes_of(storage.alloc, desks, asked)?;
+    let lanes = lanes_of(storage, desks, asked)?;
     Ok(lanes)
 }
 
 /// Each desk for its rows.
 fn lanes_of(
-    alloc: Global,
+    storage: Storage<Global>,
     desks: Vec<Desk<Global>>,
     asked: AskedTexts,
 ) -> Result<Vec<DeskLane>, OutOfMemory>
     ensures { IfOk result (λ lanes. lanes.items ≡ map (fresh_lane asked) desks.items) }
 {
-    let mut lanes = Vec::with_capacity(alloc, desks.len())?;
+    let mut lanes = Vec::with_capacity(storage.alloc, desks.len())?;
     for desk in desks {
-        lanes.push(DeskLane::of(alloc, desk, asked))?;
+        lanes.push(DeskLane::of(storage, desk, asked))?;
     }
     Ok(lanes)
 }
@@ -240,7 +270,7 @@ pub(crate) fn take_apart<T: Threads + Sync>(
 {
     let rows = batch.rows();
     take_parts(rt, size, names, rows, lanes);
-    merged.add(texts, rows, lanes);
+    merged.add(names, texts, rows, lanes);
 }
 
 /// Has the securities of a segment take their rows, so many of them in a thread.

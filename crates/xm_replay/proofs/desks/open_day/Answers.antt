@@ -5,6 +5,7 @@ use Rattle.xm_replay.proofs.Taking.{if_memory}
 use Rattle.xm_texts.proofs.Feeding.{feed-begun}
 use Rattle.xm_config.specs.Day.{Day}
 use Rattle.xm_texts.specs.RowAnswers.{answers_header, where_asked}
+use Rattle.xm_texts.specs.RowEvents.{events_header}
 use Rattle.xm_texts.specs.RowTrades.{trades_header}
 use Rattle.xm_rules.specs.Step.{replay}
 use Rattle.xm_config.specs.Opening.{journal_of}
@@ -21,6 +22,7 @@ returns c = λ names texts.
       all = refl;
       answers_are = c.in_ok-told.ensures.answers ∙ ap (where_asked c.args.asked.answers) (sym (append-nil answers_header));
       trades_are = c.in_ok-told.ensures.trades ∙ ap (where_asked c.args.asked.trades) (sym (append-nil trades_header));
+      events_are = c.in_ok-told.ensures.events ∙ ap (where_asked c.args.asked.events) (sym (append-nil events_header));
       depth_is = c.in_ok-told.ensures.depth ∙ ap (where_asked c.args.asked.depth) (feed-begun names config _ (ap (map replay) c.as_slice.ensures.value ∙ ap (λ (d : Day). d.states) (day-opened config c.in_ok-desks.desks.items opened)));
     }
 

@@ -9,6 +9,7 @@ use Rattle.xm_replay.specs.Taken.{HasTaken}
 use Rattle.xm_config.specs.Day.{Day, LacksMemoryAt, after_rows, day_of, opening_day}
 use Rattle.xm_texts.specs.Feeds.{feed_of}
 use Rattle.xm_texts.specs.RowAnswers.{answer_line, answers_header, answers_text, told_of, where_asked, with_text}
+use Rattle.xm_texts.specs.RowEvents.{events_header, events_text, told_events}
 use Rattle.xm_texts.specs.RowTrades.{told_trades, trade_lines, trades_header, trades_text}
 use Rattle.xm_files.specs.RecordTexts.{texts_in}
 use Rattle.xm_replay.proofs.desks.take_more.Goals as goal
@@ -38,6 +39,7 @@ returns-clause-taken c = λ config asked texts taken agree has.
       all = omega (arith, both, counted, count);
       answers_are = told-joined asked.answers (told_of names texts) answers_header config taken rows _ _ _ before.answers_are day (c.in_ok-report.ensures.answers ∙ ap (λ (text : List ℕ). with_text text old.told.answers) (told-alike (answer_line names) texts own _ rows agree));
       trades_are = told-joined asked.trades (told_trades names texts) trades_header config taken rows _ _ _ before.trades_are day (c.in_ok-report.ensures.trades ∙ ap (λ (text : List ℕ). with_text text old.told.trades) (told-alike (trade_lines names) texts own _ rows agree));
+      events_are = told-joined asked.events (told_events names) events_header config taken rows _ _ _ before.events_are day c.in_ok-report.ensures.events;
       depth_is = feed-joined asked.depth names config taken rows _ _ _ before.depth_is day c.in_ok-report.ensures.depth;
     }
 
@@ -53,5 +55,6 @@ returns-in_err-report-clause-taken c = λ config asked texts taken agree has.
     (λ unasked. lacks-later (opening_day config) taken rows (subst Lacks day (c.in_err-report.ensures.memory (record {
       answers = before.answers_are ∙ ap (λ (b : Bool). where_asked b (answers_text names config texts taken)) unasked.answers;
       trades = before.trades_are ∙ ap (λ (b : Bool). where_asked b (trades_text names config texts taken)) unasked.trades;
+      events = before.events_are ∙ ap (λ (b : Bool). where_asked b (events_text names config taken)) unasked.events;
       depth = before.depth_is ∙ ap (λ (b : Bool). where_asked b (feed_of names config taken)) unasked.depth;
     }))))

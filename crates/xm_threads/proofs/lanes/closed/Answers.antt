@@ -45,6 +45,7 @@ returns c = λ asked names texts rows counted so_far tells.
       all = omega (arith, accepted, left, few, counted);
       answers_are = c.in_ok-told.ensures.answers ∙ ap (λ (t : TextsView). t.answers) told.texts_are;
       trades_are = c.in_ok-told.ensures.trades ∙ ap (λ (t : TextsView). t.trades) told.texts_are;
+      events_are = c.in_ok-told.ensures.events ∙ ap (λ (t : TextsView). t.events) told.texts_are;
       depth_is = c.in_ok-told.ensures.depth
           ∙ feed-behind asked.depth names c.args.config.now rows (map replay c.as_slice.result.now) c.args.merged.texts.levels (ap (λ (t : TextsView). t.levels) told.texts_are)
           (ap (map replay) (c.as_slice.ensures.value ∙ is) ∙ ap (λ (d : Day). d.states) apart);

@@ -11,7 +11,7 @@ loop-row-preserved c =
     let old = c.loop-row.invariant in
     record {
       told =
-          told-one_more (texts_in c.args.texts.now) (texts_in c.loop-row.texts) rows i _ (record { lanes = c.args.lanes.now; texts = c.args.told.now }) (record { lanes = c.loop-row.lanes; texts = c.loop-row.told })
+          told-one_more c.args.names.now (texts_in c.args.texts.now) (texts_in c.loop-row.texts) rows i _ (record { lanes = c.args.lanes.now; texts = c.args.told.now }) (record { lanes = c.loop-row.lanes; texts = c.loop-row.told })
           (record { lanes = c.tell_row.new.lanes; texts = c.tell_row.new.told }) within old.texts old.told c.in_ok-tell_row.ensures.added;
       texts = c.tell_row.ensures.texts ∙ old.texts;
     }

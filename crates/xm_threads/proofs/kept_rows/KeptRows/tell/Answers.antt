@@ -20,14 +20,18 @@ returns-clause-told c =
     let texts = c.args.told.now in
     let within : told < length rows = omega arith in
     let at : get_or rows told place ≡ place = search rules in
-    let part = subst (IsPartOf 2 lines) at (c.self.invariant.parts told place within) in
+    let part = subst (IsPartOf 3 lines) at (c.self.invariant.parts told place within) in
     let seen = (λ (s : Span). row_of_lines (part_at lines s)) in
     let first : c.args.self.now ≡ seen place ∷ map seen (drop (told + 1) rows) = sym c.self.view_is ∙ ap (map seen) (drop_more rows told place within ∙ ap (λ (s : Span). s ∷ drop (told + 1) rows) at) in
+    let trades = slice_range lines (place.begin + 3) place.end in
     c.in_ok-add_trades.ensures.added
-    ∙ ap (λ (by_number : ℕ → List ℕ). record c.add_levels.new.self { trades = with_text (flat_map (record_line row (by_number row.line)) (slice_range lines (place.begin + 2) place.end)) c.add_levels.new.self.trades }) c.add_answer.ensures.texts
-    ∙ ap (λ (t : TextsView). record t { trades = with_text (flat_map (record_line row text) (slice_range lines (place.begin + 2) place.end)) t.trades })
+    ∙ ap (λ (by_number : ℕ → List ℕ). record c.add_events.new.self { trades = with_text (flat_map (record_line row (by_number row.line)) trades) c.add_events.new.self.trades }) c.add_answer.ensures.texts
+    ∙ ap (λ (t : TextsView). record t { trades = with_text (flat_map (record_line row text) trades) t.trades })
+    (c.in_ok-add_events.ensures
+    ∙ ap₂ (λ (t : TextsView) (events : List ℕ). record t { events = with_text events t.events })
     (c.in_ok-add_levels.ensures
     ∙ ap₂ (λ (t : TextsView) (levels : List ℕ). record t { levels = with_text levels t.levels })
     (c.in_ok-add_answer.ensures.added ∙ ap (λ (answer : List ℕ). record texts { answers = with_text (record_line row text answer) texts.answers }) c.line.ensures)
     c.line-2.ensures)
+    c.line-3.ensures)
     ∙ sym (ap (λ (kept : List KeptRow). with_first row text kept texts) first ∙ ap (λ (kept : KeptRow). with_kept row text kept texts) (row-lines lines place part))
