@@ -24,7 +24,7 @@ WORKED_DAYS = ("cascade", "opening_call", "small_day", "whole_day")
 AGAIN = "_in_version_2"
 IN_TWO_FILES = "_in_two_files"
 # What a case may have beside its orders, and what it must.
-BESIDE = (".answers.csv", ".trades.csv", ".depth.csv")
+BESIDE = (".answers.csv", ".trades.csv", ".events.csv", ".depth.csv")
 ENDINGS = (".orders.csv", ".segment.toml", ".in.csv", ".statement", *BESIDE, ".out.csv", ".fault")
 # An order file behind the first one, by its number.
 LATER = re.compile(r"\.orders\.([2-9]|[1-9][0-9]+)\.csv$")
@@ -33,6 +33,7 @@ GIVEN = {
     "statement": ".statement",
     "answers": ".answers.csv",
     "trades": ".trades.csv",
+    "events": ".events.csv",
     "depth": ".depth.csv",
     "carry": ".out.csv",
     "fault": ".fault",
@@ -79,7 +80,7 @@ def has_result(given):
         return given <= {".in.csv", ".fault"}
     if ".in.csv" in given:
         return given - set(BESIDE) == {".in.csv", ".statement", ".out.csv"}
-    return given - {".trades.csv", ".depth.csv"} == {".statement", ".answers.csv"}
+    return given - {".trades.csv", ".events.csv", ".depth.csv"} == {".statement", ".answers.csv"}
 
 
 def faults_of_files(found, strays):

@@ -19,7 +19,7 @@ check() {
 copy=$room/copy
 data=$copy/crates/xetra_cases/data
 # What the stand-in gives for an order file: the files NAME.statement and NAME.answers.csv, or NAME.fault. Its levels are a name, as
-# are its trades. What it leaves of a day that opens with a carry file is that file, and the name of each order file.
+# are its trades and its events. What it leaves of a day that opens with a carry file is that file, and the name of each order file.
 gives=$room/gives
 mkdir -p "$data" "$gives" "$copy/dev" "$copy/dist" "$room/rooms"
 cp -- "$here/dev/cases" "$copy/dev"
@@ -52,7 +52,8 @@ echo "\$segment" >"$room/segment"
 [ ! -e "$gives/\$name.fault" ] || { true >"\$2"; cat "$gives/\$name.fault" >&2; exit 1; }
 cat "$gives/\$name.answers.csv" >"\$2"
 echo "trades of \$name" >"\$4"
-echo "\$name" >"\$6"
+echo "events of \$name" >"\$6"
+echo "\$name" >"\$8"
 cat "$gives/\$name.statement"
 END
 chmod +x "$copy/xetra-day" "$copy/dist/xetra-day"

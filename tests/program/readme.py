@@ -119,9 +119,9 @@ def refused_calls():
     for name in ("a.toml", "in.csv", "b.csv"):
         for out in names_of(name):
             yield f"carry a.toml in.csv b.csv {out}"
-            yield from (f"carry a.toml in.csv b.csv made.csv {option} {out}" for option in ("--answers", "--trades", "--depth"))
+            yield from (f"carry a.toml in.csv b.csv made.csv {option} {out}" for option in ("--answers", "--trades", "--events", "--depth"))
     for name in ("a.toml", "b.csv"):
-        yield from (f"run a.toml b.csv --threads 2 {option} {name}.link" for option in ("--answers", "--trades", "--depth"))
+        yield from (f"run a.toml b.csv --threads 2 {option} {name}.link" for option in ("--answers", "--trades", "--events", "--depth"))
     yield "run a.toml b.csv --answers stated.csv > stated.csv"
     yield "run a.toml b.csv --depth stated.csv >> stated.csv"
     yield "run a.toml b.csv --answers made.csv >&-"
@@ -153,7 +153,7 @@ def faults_of_refused_calls(copy):
 
 def faults_of_texts(copy):
     """Each text goes to its own file, which has nothing of what was there before."""
-    texts = ("answers", "trades", "depth")
+    texts = ("answers", "trades", "events", "depth")
     for text in texts:
         (copy / f"{text}.made.csv").write_text("what was there before\n" * 10_000)
     line = "./xetra-day run examples/segment.toml examples/cascade.orders.csv " + " ".join(f"--{text} {text}.made.csv" for text in texts)

@@ -1,6 +1,6 @@
 #!/usr/bin/env python3
 """A day in several order files gives what its rows give in one file. Days are drawn, the same in each run, and cut anywhere into 1 to 20
-files, on one thread and on three: statement and carry file are the same, and so are answers, trades and levels but for the number of
+files, on one thread and on three: statement and carry file are the same, and so are answers, trades, events and levels but for the number of
 the record, which counts on over all files. So do workers whose members have securities of their own; a fault names its file; each file
 has its own limits; and a day has at most 256 files. Prints what is wrong, and ends with status 1 where something is. With the path of a
 program it tries that one."""
@@ -23,7 +23,7 @@ MOST_BYTES = 16_777_216
 MOST_ROWS = 1_000_000
 HEADER = "command,member,reference,security,side,kind,limit,trigger,quantity,validity,restriction,condition"
 CARRY_HEADER = "security,member,reference,side,kind,limit,trigger,quantity,validity,restriction"
-TEXTS = ("answers", "trades", "depth")
+TEXTS = ("answers", "trades", "events", "depth")
 SIDES = ("buy", "sell")
 VALIDITIES = (*[""] * 6, "day", "gtc", "20260104", "20260105", "20260106")
 RESTRICTIONS = (*[""] * 12, "free", "opening", "auctions", "closing")

@@ -24,6 +24,7 @@ type OrderFiles<F> = Vec<Input<F>>;
 const ALL_TEXTS: AskedTexts = AskedTexts {
     answers: true,
     trades: true,
+    events: true,
     depth: true,
 };
 
@@ -154,6 +155,7 @@ fn made_files<R: AllocGlobal>(rt: &R) -> TextFiles<Vec<u8>> {
     TextFiles {
         answers: Output::Made(Vec::new(rt.alloc())),
         trades: Output::Made(Vec::new(rt.alloc())),
+        events: Output::Made(Vec::new(rt.alloc())),
         depth: Output::Made(Vec::new(rt.alloc())),
         carry: Output::Made(Vec::new(rt.alloc())),
     }
@@ -214,7 +216,8 @@ fn open_segment<R: Files>(rt: &R, own: &str) -> Input<R::File> {
     }
 }
 
-/// Whether the statement of a case is the one that is stored, and so are its trades and its levels, where they are.
+/// Whether the statement of a case is the one that is stored, and so are its trades, its events and its levels,
+/// where they are.
 fn are_as_stored<R: AllocGlobal + Files + Print>(
     rt: &R,
     name: &str,
@@ -225,7 +228,8 @@ fn are_as_stored<R: AllocGlobal + Files + Print>(
     let statements = differences::is_stored(rt, name, "statement", statement)?;
     let trades = differences::is_stored_if_any(rt, name, "trades.csv", text_of(&files.trades))?;
     let levels = differences::is_stored_if_any(rt, name, "depth.csv", text_of(&files.depth))?;
-    Ok(faultless && statements && trades && levels)
+    let events = differences::is_stored_if_any(rt, name, "events.csv", text_of(&files.events))?;
+    Ok(faultless && statements && trades && events && levels)
 }
 
 /// Whether the fault of a case is the one that is stored, and nothing else is.

@@ -12,6 +12,7 @@ use Rattle.xm_files.specs.Names.{NameLists}
 use Rattle.xm_config.specs.Day.{Day, day_of}
 use Rattle.xm_texts.specs.Feeds.{Feed, feed_of}
 use Rattle.xm_texts.specs.RowAnswers.{answers_text, where_asked}
+use Rattle.xm_texts.specs.RowEvents.{events_text}
 use Rattle.xm_texts.specs.RowTrades.{trades_text}
 use Rattle.xm_replay.specs.Taken.{IsOpenFault, RowsTaken}
 use Rattle.xm_replay.specs.declared.desks.OpenDay.{OpenDay}
@@ -37,6 +38,7 @@ pub record Took (days : SegmentConfig → List Row → Day → Type 0) (asked : 
   is_of_rows : days config rows (taken_day d)
   answers_are : d.told.answers ≡ where_asked asked.answers (answers_text names config texts rows)
   trades_are : d.told.trades ≡ where_asked asked.trades (trades_text names config texts rows)
+  events_are : d.told.events ≡ where_asked asked.events (events_text names config rows)
   depth_is : d.told.depth ≡ where_asked asked.depth (feed_of names config rows)
 
 abbrev pub Takes : (SegmentConfig → List Row → Day → Type 0) → AskedTexts → NameLists → (ℕ → List ℕ) → SegmentConfig → List Row → Result OpenDay DayFault → Type 0
@@ -48,7 +50,7 @@ Takes days asked names texts config rows (Err fault) = ⊥
 pub in-order : (asked : AskedTexts) (config : SegmentConfig) (names : NameLists) (orders : List (Option (List ℕ))) (taken : Result OpenDay DayFault) → OrdersRun (RowsTaken asked names) config names orders taken
     → OrdersRun (Takes InFileOrder asked names) config names orders taken
 in-order asked config names orders (Ok d) run =
-    (run.0, run.1, run.2, run.3, record { sound = run.4.sound; each = run.4.each; is_of_rows = run.4.day_is; answers_are = run.4.answers_are; trades_are = run.4.trades_are; depth_is = run.4.depth_is })
+    (run.0, run.1, run.2, run.3, record { sound = run.4.sound; each = run.4.each; is_of_rows = run.4.day_is; answers_are = run.4.answers_are; trades_are = run.4.trades_are; events_are = run.4.events_are; depth_is = run.4.depth_is })
 in-order asked config names orders (Err (Segment fault)) run = run
 in-order asked config names orders (Err (Carry fault)) run = run
 in-order asked config names orders (Err (Orders fault)) run = run
@@ -59,7 +61,7 @@ in-order asked config names orders (Err WriteFailed) run = run
 pub shared : (workers : ℕ) (config : SegmentConfig) (names : NameLists) (orders : List (Option (List ℕ))) (taken : Result OpenDay DayFault) → OrdersRun (SharesRows workers) config names orders taken
     → OrdersRun (Takes (IsShared workers) nothing_asked names) config names orders taken
 shared workers config names orders (Ok d) run =
-    (run.0, run.1, run.2, run.3, record { sound = run.4.0.0; each = run.4.0.1; is_of_rows = run.4.0.2; answers_are = run.4.1.answers; trades_are = run.4.1.trades; depth_is = run.4.1.depth })
+    (run.0, run.1, run.2, run.3, record { sound = run.4.0.0; each = run.4.0.1; is_of_rows = run.4.0.2; answers_are = run.4.1.answers; trades_are = run.4.1.trades; events_are = run.4.1.events; depth_is = run.4.1.depth })
 shared workers config names orders (Err (Segment fault)) run = run
 shared workers config names orders (Err (Carry fault)) run = run
 shared workers config names orders (Err (Orders fault)) run = run
@@ -101,6 +103,7 @@ stated days asked config names orders (Ok d) (Ok t) run s =
         statement_is = s.statement_is ∙ ap (statement_of names) (sym same);
         answers_are = ap (λ told. told.answers) s.told_is ∙ run.4.answers_are;
         trades_are = ap (λ told. told.trades) s.told_is ∙ run.4.trades_are;
+        events_are = ap (λ told. told.events) s.told_is ∙ run.4.events_are;
         depth_is = ap (λ told. told.depth) s.told_is ∙ run.4.depth_is;
       },
     )
@@ -142,6 +145,7 @@ texted days asked handing config names orders (Ok t) (Ok texts) run s = (
     statement_is = s.statement_is ∙ run.4.statement_is;
     answers_are = s.answers_are ∙ ap (λ (o : Option (List ℕ)). unwrap_or o []) run.4.answers_are ∙ text-where asked.answers _;
     trades_are = s.trades_are ∙ ap (λ (o : Option (List ℕ)). unwrap_or o []) run.4.trades_are ∙ text-where asked.trades _;
+    events_are = s.events_are ∙ ap (λ (o : Option (List ℕ)). unwrap_or o []) run.4.events_are ∙ text-where asked.events _;
     depth_is = s.depth_is ∙ ap (λ (o : Option Feed). unwrap_or (option_map (λ (f : Feed). f.text) o) []) run.4.depth_is ∙ levels-where asked.depth (feed_of names config run.2);
     carry_is = s.carry_is;
     accepted = ap (λ (r : DayReport). r.accepted) s.report_is;

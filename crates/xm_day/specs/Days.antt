@@ -14,6 +14,7 @@ use Rattle.xm_config.specs.Day.{Day, day_of}
 use Rattle.xm_texts.specs.Feeds.{Feed, feed_of}
 use Rattle.xm_texts.specs.MarketDepth.{depth_text}
 use Rattle.xm_texts.specs.RowAnswers.{answers_text, where_asked}
+use Rattle.xm_texts.specs.RowEvents.{events_text}
 use Rattle.xm_texts.specs.RowTrades.{trades_text}
 use Rattle.xm_replay.specs.Taken.{DesksEnd, IsOpenFault}
 use Rattle.xm_texts.specs.Asked.{TellsNothing}
@@ -70,6 +71,7 @@ pub record HasTakenRows (days : SegmentConfig → List Row → Day → Type 0) (
   pub statement_is : t.statement ≡ statement_of names (taken_day t.day)
   pub answers_are : t.day.told.answers ≡ where_asked asked.answers (answers_text names config texts rows)
   pub trades_are : t.day.told.trades ≡ where_asked asked.trades (trades_text names config texts rows)
+  pub events_are : t.day.told.events ≡ where_asked asked.events (events_text names config rows)
   pub depth_is : t.day.told.depth ≡ where_asked asked.depth (feed_of names config rows)
 
 -- the same, unless the segment can't be opened or memory is wanting
@@ -85,7 +87,7 @@ TakesFile days asked config names orders result = OrdersRun (TakesRows days aske
 
 -- the statement alone is asked for
 abbrev pub nothing_asked : AskedTexts
-nothing_asked = record { answers = false; trades = false; depth = false }
+nothing_asked = record { answers = false; trades = false; events = false; depth = false }
 
 -- the rows that workers share are taken so, and nothing is told of them
 abbrev pub SharesRows : ℕ → (ℕ → List ℕ) → SegmentConfig → List Row → Result OpenDay DayFault → Type 0
@@ -130,6 +132,7 @@ pub record HasTexts (days : SegmentConfig → List Row → Day → Type 0) (aske
   pub statement_is : t.statement ≡ statement_of names day
   pub answers_are : t.answers.items ≡ text_where asked.answers (answers_text names config texts rows)
   pub trades_are : t.trades.items ≡ text_where asked.trades (trades_text names config texts rows)
+  pub events_are : t.events.items ≡ text_where asked.events (events_text names config rows)
   pub depth_is : t.depth.items ≡ text_where asked.depth (depth_text names config rows)
   pub carry_is : t.carry.items ≡ text_where (hands_on handing) (carry_text_of names day)
   pub accepted : t.report.accepted ≡ day.accepted
@@ -140,6 +143,7 @@ pub record AreTextsOf (names : NameLists) (handing : HandsOn) (t : TakenDay) (te
   pub statement_is : texts.statement ≡ t.statement
   pub answers_are : texts.answers.items ≡ unwrap_or t.day.told.answers []
   pub trades_are : texts.trades.items ≡ unwrap_or t.day.told.trades []
+  pub events_are : texts.events.items ≡ unwrap_or t.day.told.events []
   pub depth_is : texts.depth.items ≡ unwrap_or (option_map (λ (f : Feed). f.text) t.day.told.depth) []
   pub carry_is : texts.carry.items ≡ text_where (hands_on handing) (carry_text names (map replay t.day.desks.items))
   pub report_is : texts.report ≡ t.day.report

@@ -1,5 +1,6 @@
 //! The day of a segment as a value: its files are opened, its rows are taken in one of three ways, and its texts are made: its
-//! statement, beside it the answers to its rows, its trades and the levels behind its rows, and what it leaves to the next day.
+//! statement, beside it the answers to its rows, its trades, the events of its orders and the levels behind its rows, and what it
+//! leaves to the next day.
 //!
 //! `opening` reads the segment file and the carry file. `taking` has the three ways, and makes the statement, in the pieces of
 //! `statement_text`; for each way `order_files` has the order files read and their rows taken. `value` makes all texts. `calls` has days

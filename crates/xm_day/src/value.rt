@@ -29,6 +29,8 @@ pub struct DayTexts {
     pub answers: Vec<u8>,
     /// Its trades, each with the row that set it off.
     pub trades: Vec<u8>,
+    /// The events of its orders.
+    pub events: Vec<u8>,
     /// The levels behind its rows.
     pub depth: Vec<u8>,
     /// The carry file of the next day.
@@ -59,6 +61,7 @@ pub fn day_texts(
         statement,
         answers: told.answers.into_text(alloc),
         trades: told.trades.into_text(alloc),
+        events: told.events.into_text(alloc),
         depth: told.depth.into_text(alloc),
         carry,
         report,

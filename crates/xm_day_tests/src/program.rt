@@ -172,6 +172,7 @@ fn run_day(
     let mut files: TextFiles<File> = TextFiles {
         answers: Output::Unasked,
         trades: Output::Unasked,
+        events: Output::Unasked,
         depth: Output::Unasked,
         carry: Output::Unasked,
     };
@@ -184,6 +185,7 @@ fn run_day(
 const ALL: AskedTexts = AskedTexts {
     answers: true,
     trades: true,
+    events: true,
     depth: true,
 };
 
@@ -228,8 +230,9 @@ fn kept_files(alloc: Global, fails: Option<u32>) -> TextFiles<Kept> {
     TextFiles {
         answers: make_kept(alloc, fails == Some(0)),
         trades: make_kept(alloc, fails == Some(1)),
-        depth: make_kept(alloc, fails == Some(2)),
-        carry: make_kept(alloc, fails == Some(3)),
+        events: make_kept(alloc, fails == Some(2)),
+        depth: make_kept(alloc, fails == Some(3)),
+        carry: make_kept(alloc, fails == Some(4)),
     }
 }
 
@@ -330,11 +333,13 @@ fn one_text_of_a_day(rt: HostRuntime) {
     let asked = AskedTexts {
         answers: false,
         trades: false,
+        events: false,
         depth: true,
     };
     let mut files = TextFiles {
         answers: Output::Unasked,
         trades: Output::Unasked,
+        events: Output::Unasked,
         depth: make_kept(rt.alloc(), false),
         carry: make_kept(rt.alloc(), false),
     };
@@ -355,11 +360,14 @@ fn texts_go_out_one_behind_the_other(rt: HostRuntime) {
     assert!(rt; !has_text(&files.trades) && !has_text(&files.depth));
     let mut files = kept_files(rt.alloc(), Some(1));
     assert!(rt; tell_day(&rt, &mut out, ALL, &mut files) == failed);
-    assert!(rt; has_text(&files.answers) && !has_text(&files.depth));
+    assert!(rt; has_text(&files.answers) && !has_text(&files.events));
     let mut files = kept_files(rt.alloc(), Some(2));
     assert!(rt; tell_day(&rt, &mut out, ALL, &mut files) == failed);
-    assert!(rt; has_text(&files.trades) && !has_text(&files.carry));
+    assert!(rt; has_text(&files.trades) && !has_text(&files.depth));
     let mut files = kept_files(rt.alloc(), Some(3));
+    assert!(rt; tell_day(&rt, &mut out, ALL, &mut files) == failed);
+    assert!(rt; has_text(&files.events) && !has_text(&files.carry));
+    let mut files = kept_files(rt.alloc(), Some(4));
     assert!(rt; tell_day(&rt, &mut out, ALL, &mut files) == failed);
     assert!(rt; has_text(&files.depth));
 }

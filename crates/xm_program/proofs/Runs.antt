@@ -132,11 +132,13 @@ path_row id path = paths_row id (path ∷ [])
 record IsDayShape (shape : Shape) : Type 0 where
   answers : IsOption shape (codes "--answers") (file_option (codes "answers"))
   trades : IsOption shape (codes "--trades") (file_option (codes "trades"))
+  events : IsOption shape (codes "--events") (file_option (codes "events"))
   depth : IsOption shape (codes "--depth") (file_option (codes "depth"))
   workers : IsOption shape (codes "--workers") workers_option
   threads : IsOption shape (codes "--threads") threads_option
   no_answers : default_of shape (codes "answers") ≡ None
   no_trades : default_of shape (codes "trades") ≡ None
+  no_events : default_of shape (codes "events") ≡ None
   no_depth : default_of shape (codes "depth") ≡ None
   no_threads : default_of shape (codes "threads") ≡ None
   no_out : default_of shape (codes "out") ≡ None
@@ -152,6 +154,7 @@ record HasPaths (name : Text) (shape : Shape) (words : List Text) (d : AskedDay)
   stands : Stands shape at gathered
   answers : at (codes "answers") ≡ None
   trades : at (codes "trades") ≡ None
+  events : at (codes "events") ≡ None
   depth : at (codes "depth") ≡ None
   workers : at (codes "workers") ≡ None
   threads : at (codes "threads") ≡ None
@@ -174,13 +177,14 @@ plain-count id defaults (Some number) h text e =
 
 abbrev options : AskedDay → Option ℕ → Option ℕ → List Text
 options d w n =
-    option_words (codes "--answers") d.answers ++ (option_words (codes "--trades") d.trades ++ (option_words (codes "--depth") d.depth
-    ++ (option_words (codes "--workers") (option_map decimal w) ++ option_words (codes "--threads") (option_map decimal n))))
+    option_words (codes "--answers") d.answers ++ (option_words (codes "--trades") d.trades ++ (option_words (codes "--events") d.events ++ (option_words (codes "--depth") d.depth
+    ++ (option_words (codes "--workers") (option_map decimal w) ++ option_words (codes "--threads") (option_map decimal n)))))
 
 -- a day can be written, with paths and numbers that are taken as they stand
 record IsFine (d : AskedDay) (w n : Option ℕ) : Type 0 where
   answers : is_plain_path d.answers ≡ true
   trades : is_plain_path d.trades ≡ true
+  events : is_plain_path d.events ≡ true
   depth : is_plain_path d.depth ≡ true
   workers : IfSome w IsCount
   threads : IfSome n IsCount
@@ -189,7 +193,7 @@ record IsFine (d : AskedDay) (w n : Option ℕ) : Type 0 where
   files : order_files d.orders ≡ Some d.orders
 
 -- no row that is named otherwise
-unnamed : (o : Option Row) → or_else (or_else (or_else (or_else (or_else (or_else o None) None) None) None) None) None ≡ o
+unnamed : (o : Option Row) → or_else (or_else (or_else (or_else (or_else (or_else (or_else o None) None) None) None) None) None) None ≡ o
 unnamed (Some r) = refl
 unnamed None = refl
 
@@ -197,16 +201,17 @@ module _ (name : Text) (shape : Shape) (command : IsSubcommand name shape) (is :
   abbrev at_end : Text → Option Row
   at_end =
       with_row threads_option (option_map decimal n) (with_row workers_option (option_map decimal w) (with_row (file_option (codes "depth")) d.depth
-      (with_row (file_option (codes "trades")) d.trades (with_row (file_option (codes "answers")) d.answers of.at))))
+      (with_row (file_option (codes "events")) d.events (with_row (file_option (codes "trades")) d.trades (with_row (file_option (codes "answers")) d.answers of.at)))))
 
   steps : Steps shape of.position of.gathered (options d w n) at_end
   steps =
       let a = step of.position d.answers of.stands is.answers of.answers (plain-file (codes "answers") d.answers fine.answers) in
       let t = step of.position d.trades a.stands is.trades (rw of.trades refl) (plain-file (codes "trades") d.trades fine.trades) in
-      let l = step of.position d.depth t.stands is.depth (rw of.depth refl) (plain-file (codes "depth") d.depth fine.depth) in
+      let v = step of.position d.events t.stands is.events (rw of.events refl) (plain-file (codes "events") d.events fine.events) in
+      let l = step of.position d.depth v.stands is.depth (rw of.depth refl) (plain-file (codes "depth") d.depth fine.depth) in
       let m = step of.position (option_map decimal w) l.stands is.workers (rw of.workers refl) (plain-count (codes "workers") (codes "1" ∷ []) w fine.workers) in
       let o = step of.position (option_map decimal n) m.stands is.threads (rw of.threads refl) (plain-count (codes "threads") [] n fine.threads) in
-      and-then a (and-then t (and-then l (and-then m o)))
+      and-then a (and-then t (and-then v (and-then l (and-then m o))))
 
   abbrev values : List Row
   values = finished shape.rules (walked_over of.position steps.end).held
@@ -227,6 +232,10 @@ module _ (name : Text) (shape : Shape) (command : IsSubcommand name shape) (is :
   trades-read : (o : Option Text) → d.trades ≡ o → first_of (codes "trades") values ≡ o
   trades-read None e = rw (value-at (codes "trades"), of.trades, is.no_trades, e) refl
   trades-read (Some path) e = rw (value-at (codes "trades"), of.trades, is.no_trades, e) refl
+
+  events-read : (o : Option Text) → d.events ≡ o → first_of (codes "events") values ≡ o
+  events-read None e = rw (value-at (codes "events"), of.events, is.no_events, e) refl
+  events-read (Some path) e = rw (value-at (codes "events"), of.events, is.no_events, e) refl
 
   depth-read : (o : Option Text) → d.depth ≡ o → first_of (codes "depth") values ≡ o
   depth-read None e = rw (value-at (codes "depth"), of.depth, is.no_depth, e) refl
@@ -255,6 +264,7 @@ module _ (name : Text) (shape : Shape) (command : IsSubcommand name shape) (is :
         fine.concurrency,
         answers-read d.answers refl,
         trades-read d.trades refl,
+        events-read d.events refl,
         depth-read d.depth refl,
         fine.can,
       ) refl
@@ -283,11 +293,13 @@ run-shape : IsDayShape run_shape
 run-shape = record {
   answers = option-of run_shape (codes "--answers") (codes "answers") (file_option (codes "answers")) refl refl refl refl refl refl refl refl;
   trades = option-of run_shape (codes "--trades") (codes "trades") (file_option (codes "trades")) refl refl refl refl refl refl refl refl;
+  events = option-of run_shape (codes "--events") (codes "events") (file_option (codes "events")) refl refl refl refl refl refl refl refl;
   depth = option-of run_shape (codes "--depth") (codes "depth") (file_option (codes "depth")) refl refl refl refl refl refl refl refl;
   workers = option-of run_shape (codes "--workers") (codes "workers") workers_option refl refl refl refl refl refl refl refl;
   threads = option-of run_shape (codes "--threads") (codes "threads") threads_option refl refl refl refl refl refl refl refl;
   no_answers = refl;
   no_trades = refl;
+  no_events = refl;
   no_depth = refl;
   no_threads = refl;
   no_out = refl;
@@ -303,11 +315,13 @@ carry-shape : IsDayShape carry_shape
 carry-shape = record {
   answers = option-of carry_shape (codes "--answers") (codes "answers") (file_option (codes "answers")) refl refl refl refl refl refl refl refl;
   trades = option-of carry_shape (codes "--trades") (codes "trades") (file_option (codes "trades")) refl refl refl refl refl refl refl refl;
+  events = option-of carry_shape (codes "--events") (codes "events") (file_option (codes "events")) refl refl refl refl refl refl refl refl;
   depth = option-of carry_shape (codes "--depth") (codes "depth") (file_option (codes "depth")) refl refl refl refl refl refl refl refl;
   workers = option-of carry_shape (codes "--workers") (codes "workers") workers_option refl refl refl refl refl refl refl refl;
   threads = option-of carry_shape (codes "--threads") (codes "threads") threads_option refl refl refl refl refl refl refl refl;
   no_answers = refl;
   no_trades = refl;
+  no_events = refl;
   no_depth = refl;
   no_threads = refl;
   no_out = refl;
@@ -371,6 +385,7 @@ run-paths d o rest e f p q few = record {
   stands = run-stands d.segment o rest few;
   answers = refl;
   trades = refl;
+  events = refl;
   depth = refl;
   workers = refl;
   threads = refl;
@@ -423,6 +438,7 @@ out-paths d c o rest e f p q r u few =
       stands = kept.stands;
       answers = refl;
       trades = refl;
+      events = refl;
       depth = refl;
       workers = refl;
       threads = refl;
@@ -444,6 +460,7 @@ last-paths d c o e f p q r u = record {
   stands = carry-stands d.segment c.0 o (c.1 ∷ []) (omega arith);
   answers = refl;
   trades = refl;
+  events = refl;
   depth = refl;
   workers = refl;
   threads = refl;
@@ -511,7 +528,8 @@ taken words (day d) asks =
     let orders = plain-orders d.orders (outputs d) from.1 in
     let answers = both _ _ orders.1 in
     let trades = both _ _ answers.1 in
-    let depth = both _ _ trades.1 in
+    let events = both _ _ trades.1 in
+    let depth = both _ _ events.1 in
     let to = both _ _ depth.1 in
     taken-so words d d.carrying d.orders (record {
       asks = asks;
@@ -527,6 +545,7 @@ taken words (day d) asks =
       fine = record {
         answers = answers.0;
         trades = trades.0;
+        events = events.0;
         depth = depth.0;
         workers = asks.are_counts.0;
         threads = asks.are_counts.1;

@@ -82,12 +82,13 @@ pub record Held : Type 0 where
   pub old : Option (List ℕ)
   pub new : Option (List ℕ)
 
--- what holds the texts of a day: the output of its statement, and the files of its answers, of its trades, of its levels, and of what
--- it leaves
+-- what holds the texts of a day: the output of its statement, and the files of its answers, of its trades, of its events, of its
+-- levels, and of what it leaves
 pub record DayOutputs : Type 0 where
   pub statement : Held
   pub answers : Held
   pub trades : Held
+  pub events : Held
   pub depth : Held
   pub carry : Held
 
@@ -97,14 +98,15 @@ sending held text = record { old = held.old; new = held.new; text = text }
 -- the texts of a day, in the order in which they go out
 abbrev pub sendings : DayOutputs → DayTexts → List Sending
 sendings out t =
-    sending out.statement t.statement ∷ sending out.answers t.answers.items ∷ sending out.trades t.trades.items ∷ sending out.depth t.depth.items
-    ∷ sending out.carry t.carry.items ∷ []
+    sending out.statement t.statement ∷ sending out.answers t.answers.items ∷ sending out.trades t.trades.items ∷ sending out.events t.events.items
+    ∷ sending out.depth t.depth.items ∷ sending out.carry t.carry.items ∷ []
 
 -- nothing went out
 pub record AreUntouched (out : DayOutputs) : Type 0 where
   pub statement : out.statement.new ≡ out.statement.old
   pub answers : out.answers.new ≡ out.answers.old
   pub trades : out.trades.new ≡ out.trades.old
+  pub events : out.events.new ≡ out.events.old
   pub depth : out.depth.new ≡ out.depth.old
   pub carry : out.carry.new ≡ out.carry.old
 
@@ -134,8 +136,8 @@ EndsUnread result = (result ≡ Err WriteFailed) ⊎ (result ≡ Err (OutOfMemor
 -- list of the order files
 abbrev pub FilesEnd : Concurrency → AskedTexts → Bool → ℕ → Option (List ℕ) → Option (List ℕ) → Result (Unit {0}) DayFault → Type 0
 FilesEnd concurrency asked goes_on count old new result =
-    ((files : DayFiles) × (is_some files.carried ≡ goes_on) × (length files.orders ≡ count) × (answers trades depth carry : Held) × DayCallEnds concurrency asked (handing goes_on) files
-    (record { statement = record { old = old; new = new }; answers = answers; trades = trades; depth = depth; carry = carry }) result)
+    ((files : DayFiles) × (is_some files.carried ≡ goes_on) × (length files.orders ≡ count) × (answers trades events depth carry : Held) × DayCallEnds concurrency asked (handing goes_on) files
+    (record { statement = record { old = old; new = new }; answers = answers; trades = trades; events = events; depth = depth; carry = carry }) result)
     ⊎ (EndsUnread result × (new ≡ old))
 
 -- the line of a segment goes out, or its fault is told

@@ -21,6 +21,7 @@ module _ {F : Type 0} where
     statement = statement;
     answers = held_in file_holds old.answers new.answers;
     trades = held_in file_holds old.trades new.trades;
+    events = held_in file_holds old.events new.events;
     depth = held_in file_holds old.depth new.depth;
     carry = held_in file_holds old.carry new.carry;
   }
@@ -34,5 +35,6 @@ module _ {F : Type 0} where
   pub record AreMade {E : Type 0} (Makes : List ℕ → Result F E → Type 0) (day : AskedDay) (files : TextFiles F) : Type 0 where
     pub answers : IsMade Makes day.answers files.answers
     pub trades : IsMade Makes day.trades files.trades
+    pub events : IsMade Makes day.events files.events
     pub depth : IsMade Makes day.depth files.depth
     pub carry : IsMade Makes (option_map (λ c. c.1) day.carrying) files.carry

@@ -60,15 +60,16 @@ count_rule id = record (new_rule id) {
 abbrev pub workers_rule : Rule
 workers_rule = record (count_rule (codes "workers")) { defaults = codes "1" ∷ [] }
 
--- `--answers FILE`, `--trades FILE`, `--depth FILE` or `--out OUT`, which may be left out
+-- `--answers FILE`, `--trades FILE`, `--events FILE`, `--depth FILE` or `--out OUT`, which may be left out
 abbrev pub file_rule : Text → Rule
 file_rule id = record (new_rule id) { long = Some id; action = Some Set; value_names = 1 }
 
--- how the rows of a day are taken, and the texts beside its statement: `--workers N --threads N --answers FILE --trades FILE --depth FILE`
+-- how the rows of a day are taken, and the texts beside its statement: `--workers N --threads N --answers FILE --trades FILE
+-- --events FILE --depth FILE`
 abbrev pub with_options : App → App
 with_options app =
-    with_rule (with_rule (with_rule (with_rule (with_rule app workers_rule) (count_rule (codes "threads")))
-    (file_rule (codes "answers"))) (file_rule (codes "trades"))) (file_rule (codes "depth"))
+    with_rule (with_rule (with_rule (with_rule (with_rule (with_rule app workers_rule) (count_rule (codes "threads")))
+    (file_rule (codes "answers"))) (file_rule (codes "trades"))) (file_rule (codes "events"))) (file_rule (codes "depth"))
 
 -- `run SEGMENT ORDERS...`, with these options
 abbrev pub run_app : App
@@ -106,6 +107,7 @@ pub record AskedDay : Type 0 where
   -- the texts beside its statement, as far as they are asked for
   pub answers : Option Text
   pub trades : Option Text
+  pub events : Option Text
   pub depth : Option Text
 
 -- a day, or the check of a segment file
@@ -149,7 +151,7 @@ are_apart (path ∷ paths) = is_file path && (not (list_any (is_one_path path) p
 
 -- the files that a day is written to beside standard output, in the order in which they are
 abbrev pub outputs : AskedDay → List (Option Text)
-outputs d = d.answers ∷ d.trades ∷ d.depth ∷ option_map (λ c. c.1) d.carrying ∷ []
+outputs d = d.answers ∷ d.trades ∷ d.events ∷ d.depth ∷ option_map (λ c. c.1) d.carrying ∷ []
 
 -- the files that it is read from
 abbrev pub inputs : AskedDay → List (Option Text)
@@ -157,12 +159,12 @@ inputs d = Some d.segment ∷ option_map (λ c. c.0) d.carrying ∷ map Some d.o
 
 -- the texts beside its statement that are asked for
 abbrev pub asked_texts : AskedDay → AskedTexts
-asked_texts d = record { answers = is_some d.answers; trades = is_some d.trades; depth = is_some d.depth }
+asked_texts d = record { answers = is_some d.answers; trades = is_some d.trades; events = is_some d.events; depth = is_some d.depth }
 
 -- these are told of rows in the order of the file
 abbrev pub can_tell : Concurrency → AskedTexts → Bool
 can_tell (Threads threads) asked = true
-can_tell (Workers workers) asked = not (asked.answers || (asked.trades || asked.depth))
+can_tell (Workers workers) asked = not (asked.answers || (asked.trades || (asked.events || asked.depth)))
 
 -- the day can be written
 abbrev pub can_write : AskedDay → Bool
@@ -185,6 +187,7 @@ day_in carrying paths rows =
       concurrency = concurrency;
       answers = first_of (codes "answers") rows;
       trades = first_of (codes "trades") rows;
+      events = first_of (codes "events") rows;
       depth = first_of (codes "depth") rows;
     })) (concurrency_in rows)) (order_files paths)) (first_of (codes "SEGMENT") rows)
 
@@ -247,8 +250,8 @@ ArePaths words segment orders (Some c) =
     (words ≡ codes "carry" ∷ segment ∷ c.0 ∷ (orders ++ codes "--out" ∷ c.1 ∷ []))
     ⊎ ((length orders ≡ 1) × (words ≡ codes "carry" ∷ segment ∷ c.0 ∷ (orders ++ c.1 ∷ [])))
 
--- the words are the program's name, a subcommand with its paths, and then, as far as they are asked for, `--answers`, `--trades` and
--- `--depth`, each with a path, and `--workers` and `--threads`, each with a number; the day can be written, and its order files are
+-- the words are the program's name, a subcommand with its paths, and then, as far as they are asked for, `--answers`, `--trades`,
+-- `--events` and `--depth`, each with a path, and `--workers` and `--threads`, each with a number; the day can be written, and its order files are
 -- not too many
 pub record AsksDay (words : List Text) (d : AskedDay) : Type 0 where
   pub program : Text
@@ -257,8 +260,8 @@ pub record AsksDay (words : List Text) (d : AskedDay) : Type 0 where
   pub paths : List Text
   pub paths_are : ArePaths paths d.segment d.orders d.carrying
   pub words_are : words ≡ program ∷ (paths
-      ++ (option_words (codes "--answers") d.answers ++ (option_words (codes "--trades") d.trades ++ (option_words (codes "--depth") d.depth
-      ++ (option_words (codes "--workers") (option_map decimal workers) ++ option_words (codes "--threads") (option_map decimal threads))))))
+      ++ (option_words (codes "--answers") d.answers ++ (option_words (codes "--trades") d.trades ++ (option_words (codes "--events") d.events ++ (option_words (codes "--depth") d.depth
+      ++ (option_words (codes "--workers") (option_map decimal workers) ++ option_words (codes "--threads") (option_map decimal threads)))))))
   pub are_plain : list_all is_plain_path (inputs d ++ outputs d) ≡ true
   pub are_so_many : (1 ≤ length d.orders) × (length d.orders ≤ max_order_files)
   pub are_counts : IfSome workers IsCount × IfSome threads IsCount
@@ -290,6 +293,7 @@ named_day d = record {
   concurrency = d.concurrency;
   answers = option_map (λ s. s.now) d.texts.answers;
   trades = option_map (λ s. s.now) d.texts.trades;
+  events = option_map (λ s. s.now) d.texts.events;
   depth = option_map (λ s. s.now) d.texts.depth;
 }
 

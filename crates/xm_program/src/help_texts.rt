@@ -101,7 +101,7 @@ pub(crate) const CARRY_USAGE: &str =
        xetra-day carry [OPTIONS] <SEGMENT> <IN> <ORDERS> <OUT>";
 
 pub(crate) const CANNOT_TELL: &str =
-    "--answers, --trades and --depth go with one worker, and with a file each: standard output has the statement";
+    "--answers, --trades, --events and --depth go with one worker, and with a file each: standard output has the statement";
 
 pub(crate) const CANNOT_SHARE: &str =
     "--threads goes with one worker: each of several takes its rows on a thread of its own";
@@ -135,6 +135,18 @@ A line a trade, in the order of the rows: record,security,sweep,kind,price,quant
 buy_reference,seller,sell_reference,text. The file is made before any file is read, and written
 behind the statement and the answers. docs/FORMATS.md tells of each field. It goes with one worker.";
 
+pub(crate) const EVENTS_SHORT: &str =
+    "Writes what the owners of orders are told, a line each, to this file (CSV)";
+
+pub(crate) const EVENTS_HELP: &str =
+    "Writes what the owners of orders are told, a line each, to this file (CSV)
+
+In the order in which it happens: record,security,event,member,reference,side,price,quantity,rest,
+cause. The event is accepted, refused, changed, filled, triggered, cancelled, deleted, interrupted or
+phase, and a trade is told to both sides. The file is made before any file is read, and written
+behind the statement, the answers and the trades. docs/FORMATS.md tells of each field. It goes with
+one worker.";
+
 pub(crate) const DEPTH_SHORT: &str =
     "Writes the best levels of both sides, behind each row that changed them, to this file (CSV)";
 
@@ -143,7 +155,8 @@ pub(crate) const DEPTH_HELP: &str =
 
 Five limits of each side with the units that rest at them, and the units of market orders, as far as
 they are active in the phase. The file is made before any file is read, and written behind the
-statement, the answers and the trades. docs/FORMATS.md tells of each field. It goes with one worker.";
+statement, the answers, the trades and the events. docs/FORMATS.md tells of each field. It goes with
+one worker.";
 
 pub(crate) const WORKERS_SHORT: &str = "How many workers take the rows of members, side by side";
 

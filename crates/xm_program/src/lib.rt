@@ -1,9 +1,9 @@
 //! What the program `xetra-day` does with its command line: it runs a day of its files, also one that opens with
 //! what earlier days left, checks a segment file, or prints its help.
 //!
-//! `requests` reads the command line, whose help stands in `help_texts`, and `program` does that. `concurrency` says whether threads or workers take the rows, and a
-//! `count` how many. `outputs` makes the files of the texts, by what lies at their `places`; `inputs` opens those that are read.
-//! `fault_lines` has the line that tells a fault; `complaints` is standard error, as a writer.
+//! `requests` reads the command line, whose help stands in `help_texts`, and `program` does that. `concurrency` says whether threads or
+//! workers take the rows, and a `count` how many. `outputs` makes the files of the texts, by what lies at their `places`; `inputs` opens
+//! those that are read. `fault_lines` has the line that tells a fault; `complaints` is standard error, as a writer.
 #![tactic(auto)]
 
 mod complaints;

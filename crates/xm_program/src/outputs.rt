@@ -55,6 +55,7 @@ const STATEMENT_PATH: &str = "/proc/self/fd/1";
 pub struct TextFiles<F> {
     pub answers: Output<F>,
     pub trades: Output<F>,
+    pub events: Output<F>,
     pub depth: Output<F>,
     pub carry: Output<F>,
 }
@@ -75,15 +76,17 @@ pub(crate) fn make_files<
 {
     let paths = request.outputs();
     check_free(lies, &paths, &request.inputs())?;
-    let [answers, trades, depth, carry] = paths;
+    let [answers, trades, events, depth, carry] = paths;
     let answers_file = make_file(lies, makes, answers, &[])?;
     let trades_file = make_file(lies, makes, trades, &[answers])?;
-    let depth_file = make_file(lies, makes, depth, &[trades, answers])?;
+    let events_file = make_file(lies, makes, events, &[trades, answers])?;
+    let depth_file = make_file(lies, makes, depth, &[events, trades, answers])?;
     Ok(TextFiles {
         answers: answers_file,
         trades: trades_file,
+        events: events_file,
         depth: depth_file,
-        carry: make_file(lies, makes, carry, &[depth, trades, answers])?,
+        carry: make_file(lies, makes, carry, &[depth, events, trades, answers])?,
     })
 }
 

@@ -204,8 +204,9 @@ fn read_command_line<R: Env + AllocGlobal>(rt: &R) -> Result<Vec<String>, Failur
     }
 }
 
-/// Makes the day of a segment file and its order files, whose rows are taken so, and sends out its texts, one after the other: its statement, and the answers
-/// to its rows, their trades and the levels behind them, as far as they are asked for, each to its file.
+/// Makes the day of a segment file and its order files, whose rows are taken so, and sends out its texts, one after the other: its
+/// statement, and the answers to its rows, their trades, the events of their orders and the levels behind them, as far as they are
+/// asked for, each to its file.
 ///
 /// The faults are those of the day, in their order. `WriteFailed` tells that a text didn't go out whole. Nothing
 /// of those behind it did.
@@ -337,6 +338,7 @@ fn send_texts<W: Write, F: Write>(
     send_statement(&texts.statement, out)?;
     send(&mut files.answers, &texts.answers)?;
     send(&mut files.trades, &texts.trades)?;
+    send(&mut files.events, &texts.events)?;
     send(&mut files.depth, &texts.depth)?;
     send(&mut files.carry, &texts.carry)?;
     Ok(())

@@ -11,9 +11,9 @@ use crate::count::Count;
 use crate::help_texts::{
     ANSWERS_HELP, ANSWERS_SHORT, CANNOT_KEEP, CANNOT_SHARE, CANNOT_TELL, CARRIED_HELP, CARRY_HELP,
     CARRY_SHORT, CARRY_USAGE, CHECK_HELP, CHECK_SHORT, DAY_HELP, DAY_SHORT, DEPTH_HELP,
-    DEPTH_SHORT, KEEP_HELP, KEEP_SHORT, KEPT_BY_OUT, KEPT_NOWHERE, ORDERS_AND_OUT_HELP,
-    ORDERS_HELP, RUN_HELP, RUN_SHORT, SEGMENT_HELP, STATUS_HELP, THREADS_HELP, THREADS_SHORT,
-    TOO_MANY_FILES, TRADES_HELP, TRADES_SHORT, WORKERS_HELP, WORKERS_SHORT,
+    DEPTH_SHORT, EVENTS_HELP, EVENTS_SHORT, KEEP_HELP, KEEP_SHORT, KEPT_BY_OUT, KEPT_NOWHERE,
+    ORDERS_AND_OUT_HELP, ORDERS_HELP, RUN_HELP, RUN_SHORT, SEGMENT_HELP, STATUS_HELP, THREADS_HELP,
+    THREADS_SHORT, TOO_MANY_FILES, TRADES_HELP, TRADES_SHORT, WORKERS_HELP, WORKERS_SHORT,
 };
 use arrayvec::ArrayVec;
 use clap::error::ErrorKind;
@@ -65,6 +65,8 @@ const ANSWERS: &str = "answers";
 
 const TRADES: &str = "trades";
 
+const EVENTS: &str = "events";
+
 const DEPTH: &str = "depth";
 
 /// By this word a file is standard output, where the statement goes.
@@ -107,25 +109,28 @@ pub struct TextPaths<'a> {
     pub answers: Option<&'a str>,
     /// Of their trades.
     pub trades: Option<&'a str>,
+    /// Of the events of their orders.
+    pub events: Option<&'a str>,
     /// Of the levels behind them.
     pub depth: Option<&'a str>,
 }
 
 impl<'a> DayRequest<'a> {
     /// The files that the day is written to beside standard output, in the order in which they are.
-    pub(crate) fn outputs(&self) -> [Option<&'a str>; 4]
+    pub(crate) fn outputs(&self) -> [Option<&'a str>; 5]
         ensures { map (option_map (λ s. s.now)) result ≡ outputs (named_day self.now) }
     {
         let TextPaths {
             answers,
             trades,
+            events,
             depth,
         } = self.texts;
         let carry = match self.carrying {
             Some(Carrying { to, .. }) => Some(to),
             None => None,
         };
-        [answers, trades, depth, carry]
+        [answers, trades, events, depth, carry]
     }
 
     /// The files that the day is read from.
@@ -152,6 +157,7 @@ impl<'a> DayRequest<'a> {
         AskedTexts {
             answers: self.texts.answers.is_some(),
             trades: self.texts.trades.is_some(),
+            events: self.texts.events.is_some(),
             depth: self.texts.depth.is_some(),
         }
     }
@@ -163,7 +169,9 @@ impl<'a> DayRequest<'a> {
         let asked = self.asked();
         let can_tell = match self.concurrency {
             Concurrency::Threads(_) => true,
-            Concurrency::Workers(_) => !(asked.answers || asked.trades || asked.depth),
+            Concurrency::Workers(_) => {
+                !(asked.answers || asked.trades || asked.events || asked.depth)
+            }
         };
         can_tell && are_apart(&self.outputs())
     }
@@ -373,6 +381,7 @@ fn day_in<'a>(
         texts: TextPaths {
             answers: text_in(values, ANSWERS),
             trades: text_in(values, TRADES),
+            events: text_in(values, EVENTS),
             depth: text_in(values, DEPTH),
         },
     };
@@ -585,6 +594,7 @@ fn with_options<'a>(alloc: Global, command: Command<'a>) -> Result<Command<'a>, 
         .arg(count(alloc, THREADS, THREADS_SHORT, THREADS_HELP))?
         .arg(file(alloc, ANSWERS, FILE, ANSWERS_SHORT, ANSWERS_HELP))?
         .arg(file(alloc, TRADES, FILE, TRADES_SHORT, TRADES_HELP))?
+        .arg(file(alloc, EVENTS, FILE, EVENTS_SHORT, EVENTS_HELP))?
         .arg(file(alloc, DEPTH, FILE, DEPTH_SHORT, DEPTH_HELP))?;
     Ok(command)
 }

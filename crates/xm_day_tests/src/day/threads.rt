@@ -22,6 +22,7 @@ const THREADS: u32 = 3;
 const ALL: AskedTexts = AskedTexts {
     answers: true,
     trades: true,
+    events: true,
     depth: true,
 };
 
@@ -35,6 +36,7 @@ pub(super) struct Told {
     pub(super) statement: Vec<u8>,
     answers: Vec<u8>,
     trades: Vec<u8>,
+    events: Vec<u8>,
     depth: Vec<u8>,
     left: Vec<u8>,
 }
@@ -45,6 +47,7 @@ impl Told {
             && self.statement == other.statement
             && self.answers == other.answers
             && self.trades == other.trades
+            && self.events == other.events
             && self.depth == other.depth
             && self.left == other.left
     }
@@ -58,6 +61,7 @@ fn told_of(rt: &(impl Abort + AllocGlobal), ended: Result<DayTexts, DayFault>) -
                 statement,
                 answers,
                 trades,
+                events,
                 depth,
                 carry,
                 report,
@@ -67,6 +71,7 @@ fn told_of(rt: &(impl Abort + AllocGlobal), ended: Result<DayTexts, DayFault>) -
                 statement: written(rt, &statement),
                 answers,
                 trades,
+                events,
                 depth,
                 left: carry,
             }
@@ -76,6 +81,7 @@ fn told_of(rt: &(impl Abort + AllocGlobal), ended: Result<DayTexts, DayFault>) -
             statement: Vec::new(rt.alloc()),
             answers: Vec::new(rt.alloc()),
             trades: Vec::new(rt.alloc()),
+            events: Vec::new(rt.alloc()),
             depth: Vec::new(rt.alloc()),
             left: Vec::new(rt.alloc()),
         },

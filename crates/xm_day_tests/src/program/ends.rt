@@ -262,12 +262,12 @@ const WRITTEN: [End; 5] = [
 
 /// What is told where the answers can't be written as the words ask.
 pub const CANNOT_TELL: Printed = mistakes_run!(
-    "--answers, --trades and --depth go with one worker, and with a file each: standard output has the statement"
+    "--answers, --trades, --events and --depth go with one worker, and with a file each: standard output has the statement"
 );
 
 /// The same of a day that hands on what it leaves.
 pub const CANNOT_TELL_CARRIED: Printed = mistakes_carry!(
-    "--answers, --trades and --depth go with one worker, and with a file each: standard output has the statement"
+    "--answers, --trades, --events and --depth go with one worker, and with a file each: standard output has the statement"
 );
 
 /// Runs that write no answers: the order file is at fault, the file is one that is read, or it can't be made, and mistakes.

@@ -79,12 +79,22 @@ Options:
           buy_reference,seller,sell_reference,text. The file is made before any file is read, and written
           behind the statement and the answers. docs/FORMATS.md tells of each field. It goes with one worker.
 
+      --events <FILE>
+          Writes what the owners of orders are told, a line each, to this file (CSV)
+          
+          In the order in which it happens: record,security,event,member,reference,side,price,quantity,rest,
+          cause. The event is accepted, refused, changed, filled, triggered, cancelled, deleted, interrupted or
+          phase, and a trade is told to both sides. The file is made before any file is read, and written
+          behind the statement, the answers and the trades. docs/FORMATS.md tells of each field. It goes with
+          one worker.
+
       --depth <FILE>
           Writes the best levels of both sides, behind each row that changed them, to this file (CSV)
           
           Five limits of each side with the units that rest at them, and the units of market orders, as far as
           they are active in the phase. The file is made before any file is read, and written behind the
-          statement, the answers and the trades. docs/FORMATS.md tells of each field. It goes with one worker.
+          statement, the answers, the trades and the events. docs/FORMATS.md tells of each field. It goes with
+          one worker.
 
   -h, --help
           Print help (see a summary with '-h')

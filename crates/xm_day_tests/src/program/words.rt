@@ -68,9 +68,10 @@ fn day_asked(rt: &(impl Abort + AllocGlobal), request: &DayRequest<'_>) -> Strin
 fn texts_asked(rt: &(impl Abort + AllocGlobal), texts: &TextPaths<'_>) -> String {
     let answers = texts.answers.unwrap_or("nowhere");
     let trades = texts.trades.unwrap_or("nowhere");
+    let events = texts.events.unwrap_or("nowhere");
     let depth = texts.depth.unwrap_or("nowhere");
     let told = format!(in rt.alloc();
-        "answers to {answers}, trades to {trades}, levels to {depth}"
+        "answers to {answers}, trades to {trades}, events to {events}, levels to {depth}"
     );
     told.expect(rt, "memory")
 }
@@ -100,7 +101,7 @@ macro_rules! untold {
     ($day:expr) => {
         Printed::Text(concat!(
             $day,
-            ", answers to nowhere, trades to nowhere, levels to nowhere"
+            ", answers to nowhere, trades to nowhere, events to nowhere, levels to nowhere"
         ))
     };
 }
@@ -170,7 +171,7 @@ const RUNS: [Answered; 26] = [
     (
         &["run", "day.toml", "day.csv", "--answers", "a file"],
         Printed::Text(
-            "run day.toml and day.csv on 0, answers to a file, trades to nowhere, levels to nowhere",
+            "run day.toml and day.csv on 0, answers to a file, trades to nowhere, events to nowhere, levels to nowhere",
         ),
     ),
     (
@@ -183,26 +184,26 @@ const RUNS: [Answered; 26] = [
             "a file",
         ],
         Printed::Text(
-            "run day.toml and day.csv on 3, answers to a file, trades to nowhere, levels to nowhere",
+            "run day.toml and day.csv on 3, answers to a file, trades to nowhere, events to nowhere, levels to nowhere",
         ),
     ),
     (&["run", "--answers=-", "day.toml", "day.csv"], CANNOT_TELL),
     (
         &["run", "day.toml", "day.csv", "--depth", "a", "--answers=b"],
         Printed::Text(
-            "run day.toml and day.csv on 0, answers to b, trades to nowhere, levels to a",
+            "run day.toml and day.csv on 0, answers to b, trades to nowhere, events to nowhere, levels to a",
         ),
     ),
     (
         &["run", "day.toml", "day.csv", "--depth=a", "--threads=4"],
         Printed::Text(
-            "run day.toml and day.csv on 4, answers to nowhere, trades to nowhere, levels to a",
+            "run day.toml and day.csv on 4, answers to nowhere, trades to nowhere, events to nowhere, levels to a",
         ),
     ),
     (
         &["run", "day.toml", "day.csv", "--trades=c", "--threads=4"],
         Printed::Text(
-            "run day.toml and day.csv on 4, answers to nowhere, trades to c, levels to nowhere",
+            "run day.toml and day.csv on 4, answers to nowhere, trades to c, events to nowhere, levels to nowhere",
         ),
     ),
     (
@@ -351,11 +352,12 @@ const CARRIES: [Answered; 18] = [
             "out.csv",
             "--answers=a",
             "--trades=b",
+            "--events=d",
             "--depth=c",
             "--threads=4",
         ],
         Printed::Text(
-            "carry day.toml, in.csv and day.csv to out.csv on 4, answers to a, trades to b, levels to c",
+            "carry day.toml, in.csv and day.csv to out.csv on 4, answers to a, trades to b, events to d, levels to c",
         ),
     ),
     (
@@ -527,7 +529,7 @@ const MANY: [ManyFiles; 7] = [
         &[],
         Printed::Between(
             "run day.toml and 1, 2, 3, 4, 5, 6, 7, 8, 9, 10, 11, ",
-            ", 254, 255, 256 on 0, answers to nowhere, trades to nowhere, levels to nowhere",
+            ", 254, 255, 256 on 0, answers to nowhere, trades to nowhere, events to nowhere, levels to nowhere",
         ),
     ),
     (
@@ -548,7 +550,7 @@ const MANY: [ManyFiles; 7] = [
         &["--out=out.csv"],
         Printed::Between(
             "carry day.toml, in.csv and 1, 2, 3, 4, 5, 6, 7, 8, 9, 10, 11, ",
-            ", 254, 255, 256 to out.csv on 0, answers to nowhere, trades to nowhere, levels to nowhere",
+            ", 254, 255, 256 to out.csv on 0, answers to nowhere, trades to nowhere, events to nowhere, levels to nowhere",
         ),
     ),
     (

@@ -9,4 +9,5 @@ returns-clause-app c =
     let second_is = c.in_ok-arg-2.ensures.shape c.count.ensures.local ∙ ap₂ with_rule first_is c.count.ensures.rule in
     let third_is = c.in_ok-arg-3.ensures.shape c.file.ensures.local ∙ ap₂ with_rule second_is c.file.ensures.rule in
     let fourth_is = c.in_ok-arg-4.ensures.shape c.file-2.ensures.local ∙ ap₂ with_rule third_is c.file-2.ensures.rule in
-    c.in_ok-command.ensures.shape c.file-3.ensures.local ∙ ap₂ with_rule fourth_is c.file-3.ensures.rule
+    let fifth_is = c.in_ok-arg-5.ensures.shape c.file-3.ensures.local ∙ ap₂ with_rule fourth_is c.file-3.ensures.rule in
+    c.in_ok-command.ensures.shape c.file-4.ensures.local ∙ ap₂ with_rule fifth_is c.file-4.ensures.rule
