@@ -1,9 +1,9 @@
 -- A desk that has just taken a command.
-use Rattle.std.proofs.Common.{◌≡◌, ℕ, ◌-◌, ◌≤◌, List, ◌++◌, ◌∷◌, [], drop, length, take, Option, sym, ap, ◌∙◌, arith}
+use Rattle.std.proofs.Common.{◌≡◌, ℕ, ◌-◌, ◌≤◌, List, drop, length, take, ap, ◌∙◌, arith}
 use Rattle.std.proofs.lemmas.List.{length-append, length-drop, take_all}
 use Rattle.xm_events.proofs.Seeing.{last-seen-push}
 use Rattle.xm_events.specs.Life.{units_named}
-use Rattle.xm_events.specs.Seen.{Seen, last_seen, seen_of}
+use Rattle.xm_events.specs.Seen.{Seen, last_seen}
 use Rattle.xm_rules.proofs.Journals.{replay-push}
 use Rattle.xm_rules.specs.State.{State}
 use Rattle.xm_rules.specs.Step.{Journal, new_trades, replay, step}

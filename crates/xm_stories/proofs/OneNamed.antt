@@ -1,10 +1,9 @@
 -- What has a name in a lawful journal: one order, or one stop, at most.
-use Rattle.std.proofs.Common.{◌≡◌, ℕ, ◌+◌, ◌≤◌, Bool, true, false, cond, if◌then◌else◌, List, [], ◌∷◌, filter, find, sum_by, Option, Some, None, refl, sym, ap, ◌∙◌, arith}
+use Rattle.std.proofs.Common.{◌≡◌, ℕ, ◌+◌, ◌≤◌, Bool, true, false, cond, if◌then◌else◌, List, [], ◌∷◌, filter, find, sum_by, Option, Some, None, refl, ap, ◌∙◌, arith}
 use Rattle.std.specs.Option.{option_to_list}
 use Rattle.std.proofs.lemmas.List.Sums.{sum_by-cons}
 use Rattle.xm_desk.specs.Shown.{units_left, units_of_either}
-use Rattle.xm_events.specs.Life.{entry_units, units_named}
-use Rattle.xm_events.specs.declared.events.Entry.TheVariants as entry
+use Rattle.xm_events.specs.Life.{units_named}
 use Rattle.xm_rules.proofs.OneName.{step-uses, uses}
 use Rattle.xm_rules.proofs.Opening.{opening-uses}
 use Rattle.xm_rules.proofs.Replays.{lawful-has}

@@ -1,5 +1,6 @@
 -- What a desk tells of a command that it answers.
-use Rattle.std.specs.Prelude.{◌≡◌, ◌≤◌, ◌<◌, ◌^◌, ℕ, List, [], ◌∷◌, ◌++◌, length, Option, None, Some, true}
+use Rattle.std.specs.Prelude.{Bool, if◌then◌else◌, ◌≡◌, ◌≤◌, ◌<◌, ◌^◌, ℕ, List, [], ◌∷◌, ◌++◌, length, Option, None, Some, true}
+use Rattle.xm_desk.specs.Answered.{journal_after}
 use Rattle.xm_events.specs.Story.{story}
 use Rattle.xm_events.specs.declared.events.Event.{Event}
 use Rattle.xm_rules.specs.Refusals.{refusal_of}
@@ -15,6 +16,10 @@ use Rattle.xm_ticks.specs.declared.ranges.TheConstants.{MAX_WIDTH}
 abbrev pub story_by : State → Command → Option Refusal → List Event
 story_by s command None = story s command
 story_by s command (Some refusal) = []
+
+-- where memory was wanting, a desk stands as before the command, or as behind it
+abbrev pub StandsBeforeOrBehind : Journal → Command → Journal → Type 0
+StandsBeforeOrBehind before command after = (answered : Bool) × (after ≡ (if answered then journal_after before command else before))
 
 module _ {A : Type 0} where
   -- a desk has just taken a command behind a lawful journal, of which these are the values, with so many trades

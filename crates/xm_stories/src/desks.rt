@@ -1,5 +1,5 @@
 //! A desk that takes a command, and tells what happens by it.
-ghost use Rattle.std.specs.Prelude.{◌≡◌, ◌==◌, ◌<◌, ◌≤◌, ◌^◌, IfOk, IsTrue, OnOk, filter, not, option_copied, option_to_list};
+ghost use Rattle.std.specs.Prelude.{◌≡◌, ◌==◌, ◌<◌, ◌≤◌, ◌^◌, IfOk, IsTrue, OnErr, OnOk, filter, not, option_copied, option_to_list};
 ghost use Rattle.xm_config.specs.Day.{answer_by};
 ghost use Rattle.xm_desk.specs.Answered.{journal_after};
 ghost use Rattle.xm_events.specs.Story.{story};
@@ -10,7 +10,7 @@ ghost use Rattle.xm_rules.specs.Step.{Journal, is_lawful, replay};
 ghost use Rattle.xm_rules.specs.declared.orders.Order.{Order};
 ghost use Rattle.xm_rules.specs.declared.orders.Stop.{Stop};
 ghost use Rattle.xm_stories.specs.Around.{AreLeaving, IsBefore, IsFound, IsTouched};
-ghost use Rattle.xm_stories.specs.OfDesks.{HasJustTaken, story_by};
+ghost use Rattle.xm_stories.specs.OfDesks.{HasJustTaken, StandsBeforeOrBehind, story_by};
 ghost use Rattle.xm_ticks.specs.declared.ranges.TheConstants.{MAX_WIDTH};
 
 use crate::around::{After, Before, Touched};
@@ -53,6 +53,7 @@ pub fn take<A: Allocator + Copy>(
     ensures answer { IfOk result (λ taken. taken.answer ≡ answer_by (replay desk.old) command.now (refusal_of (replay desk.old) command.now)) }
     ensures story { IfOk result (λ taken. taken.events.items ≡ story_by (replay desk.old) command.now (refusal_of (replay desk.old) command.now)) }
     ensures after { OnOk result (desk.new ≡ journal_after desk.old command.now) }
+    ensures wanting { OnErr result (StandsBeforeOrBehind desk.old command.now desk.new) }
 {
     if let Some(refusal) = desk.refusal_of(command) {
         return Ok(Taken {

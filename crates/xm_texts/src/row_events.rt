@@ -4,6 +4,7 @@ ghost use Rattle.xm_config.specs.Day.{answer_on};
 ghost use Rattle.xm_desk.specs.Answered.{journal_after};
 ghost use Rattle.xm_rules.specs.Step.{replay};
 ghost use Rattle.xm_rules.specs.declared.replies.Refusal.TheVariants.{UnknownSecurity};
+ghost use Rattle.xm_stories.specs.OfDesks.{StandsBeforeOrBehind};
 ghost use Rattle.xm_texts.specs.RowAnswers.{with_text};
 ghost use Rattle.xm_texts.specs.RowEvents.{row_events};
 
@@ -29,6 +30,7 @@ pub fn take_row(
     ensures answer { IfOk result (λ answer. answer ≡ answer_on row.now (Some (replay desk.old))) }
     ensures after { OnOk result (desk.new ≡ journal_after desk.old row.now.command) }
     ensures told { OnOk result (lines.new ≡ with_text (row_events names.now row.now (answer_on row.now (Some (replay desk.old))) (Some (replay desk.old))) lines.old) }
+    ensures wanting { OnErr result (StandsBeforeOrBehind desk.old row.now.command desk.new) }
 {
     match &mut lines.text {
         None => desk.answer(&row.command),
@@ -47,6 +49,7 @@ pub fn take_told(
     ensures answer { IfOk result (λ answer. answer ≡ answer_on row.now (Some (replay desk.old))) }
     ensures after { OnOk result (desk.new ≡ journal_after desk.old row.now.command) }
     ensures told { OnOk result (text.new.items ≡ text.old.items ++ row_events names.now row.now (answer_on row.now (Some (replay desk.old))) (Some (replay desk.old))) }
+    ensures wanting { OnErr result (StandsBeforeOrBehind desk.old row.now.command desk.new) }
 {
     let tick = desk.settings().tick;
     let Taken { answer, events } = take(storage, desk, &row.command)?;
