@@ -150,6 +150,7 @@ texted days asked handing config names orders (Ok t) (Ok texts) run s = (
     carry_is = s.carry_is;
     accepted = ap (λ (r : DayReport). r.accepted) s.report_is;
     refused = ap (λ (r : DayReport). r.refused) s.report_is;
+    completeness_is = s.completeness_is;
   },
 )
 

@@ -1,9 +1,12 @@
 -- The day of a segment as a value: its texts, or the fault that it has. The bytes of a file may be unknown.
-use Rattle.std.specs.Prelude.{◌≡◌, ◌⊎◌, ℕ, Bool, false, true, List, [], length, map, Option, None, Some, option_map, unwrap_or, Result, Ok, Err}
+use Rattle.std.specs.Prelude.{◌≡◌, ◌⊎◌, ◌==◌, ◌&&◌, ℕ, Bool, false, true, if◌then◌else◌, List, [], length, map, Option, None, Some, option_map, unwrap_or, Result, Ok, Err}
+use Rattle.std.specs.List.{list_all}
 use Rattle.std.specs.Io.KnownBytes.{Appends}
 use Rattle.xm_day.specs.Answers.{OrdersRun, IsFileFault, IsSegmentOf, statement_of}
 use Rattle.xm_day.specs.CarriedDays.{IsCarryFault, OpensWith, Outputs, carry_text_of}
 use Rattle.xm_day.specs.declared.value.DayTexts.{DayTexts}
+use Rattle.xm_day.specs.declared.value.Completeness.{Completeness}
+use Rattle.xm_day.specs.declared.value.Completeness.TheVariants.{Complete, Incomplete}
 use Rattle.xm_day.specs.declared.value.HandsOn.{HandsOn}
 use Rattle.xm_day.specs.declared.value.HandsOn.TheVariants.{Nothing, WhatIsLeft}
 use Rattle.xm_day.specs.declared.taking.TakenDay.{TakenDay}
@@ -17,6 +20,8 @@ use Rattle.xm_texts.specs.RowAnswers.{answers_text, where_asked}
 use Rattle.xm_texts.specs.RowEvents.{events_text}
 use Rattle.xm_texts.specs.RowTrades.{trades_text}
 use Rattle.xm_replay.specs.Taken.{DesksEnd, IsOpenFault}
+use Rattle.xm_rules.specs.Refusals.{is_ended}
+use Rattle.xm_rules.specs.State.{State}
 use Rattle.xm_texts.specs.Asked.{TellsNothing}
 use Rattle.xm_replay.specs.declared.desks.OpenDay.{OpenDay}
 use Rattle.xm_replay.specs.declared.faults.DayFault.{DayFault}
@@ -124,7 +129,15 @@ abbrev pub hands_on : HandsOn → Bool
 hands_on Nothing = false
 hands_on WhatIsLeft = true
 
--- the texts of a day that these rows may have, which are empty where they aren't asked for, and its counts
+-- the day of a security has ended
+abbrev pub has_ended : State → Bool
+has_ended s = is_ended s.phase
+
+-- a day is complete where none of its rows was refused, and each of its securities has ended
+abbrev pub completeness_of : Day → Completeness
+completeness_of d = if (d.refused == 0) && list_all has_ended d.states then Complete else Incomplete
+
+-- the texts of a day that these rows may have, which are empty where they aren't asked for, its counts, and whether it is complete
 pub record HasTexts (days : SegmentConfig → List Row → Day → Type 0) (asked : AskedTexts) (handing : HandsOn) (names : NameLists) (texts : ℕ → List ℕ) (config : SegmentConfig) (rows : List Row) (t : DayTexts) : Type 0 where
   pub sound : segment_fault config ≡ None
   pub day : Day
@@ -137,6 +150,7 @@ pub record HasTexts (days : SegmentConfig → List Row → Day → Type 0) (aske
   pub carry_is : t.carry.items ≡ text_where (hands_on handing) (carry_text_of names day)
   pub accepted : t.report.accepted ≡ day.accepted
   pub refused : t.report.refused ≡ day.refused
+  pub completeness_is : t.completeness ≡ completeness_of day
 
 -- the texts of what took the rows
 pub record AreTextsOf (names : NameLists) (handing : HandsOn) (t : TakenDay) (texts : DayTexts) : Type 0 where
@@ -147,6 +161,7 @@ pub record AreTextsOf (names : NameLists) (handing : HandsOn) (t : TakenDay) (te
   pub depth_is : texts.depth.items ≡ unwrap_or (option_map (λ (f : Feed). f.text) t.day.told.depth) []
   pub carry_is : texts.carry.items ≡ text_where (hands_on handing) (carry_text names (map replay t.day.desks.items))
   pub report_is : texts.report ≡ t.day.report
+  pub completeness_is : texts.completeness ≡ completeness_of (taken_day t.day)
 
 -- the same, or the fault that this has, or there is no memory for the text of what is left
 abbrev pub HasTextsOf : NameLists → HandsOn → Result TakenDay DayFault → Result DayTexts DayFault → Type 0

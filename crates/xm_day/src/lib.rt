@@ -23,6 +23,6 @@ pub use crate::checks::check;
 pub use crate::opening::{open_carried_files, open_files};
 pub use crate::statement_text::StatementText;
 pub use crate::taking::{TakenDay, take_in_order, take_on_threads, take_shared};
-pub use crate::value::{DayTexts, HandsOn, day_texts};
+pub use crate::value::{Completeness, DayTexts, HandsOn, day_texts};
 pub use xm_replay::{DayFault, DayReport};
 pub use xm_texts::AskedTexts;

@@ -1,6 +1,7 @@
 //! The texts of a day.
 ghost use Rattle.std.specs.Prelude.{◌≡◌, IfOk, length, map};
-ghost use Rattle.xm_day.specs.Days.{HasTextsOf, hands_on, text_where};
+ghost use Rattle.std.specs.List.{list_all};
+ghost use Rattle.xm_day.specs.Days.{HasTextsOf, completeness_of, hands_on, has_ended, taken_day, text_where};
 ghost use Rattle.xm_texts.specs.Carry.{carry_text};
 ghost use Rattle.xm_rules.specs.Step.{replay};
 
@@ -21,7 +22,14 @@ pub enum HandsOn {
     WhatIsLeft,
 }
 
-/// The texts of a day, all made whole, and what it counts. One that isn't asked for is empty.
+/// Whether a day is complete: none of its rows was refused, and each of its securities has ended.
+#[derive(Clone, Copy, PartialEq, Eq, Debug)]
+pub enum Completeness {
+    Complete,
+    Incomplete,
+}
+
+/// The texts of a day, all made whole, what it counts, and whether it is complete. A text that isn't asked for is empty.
 #[derive(Drop)]
 pub struct DayTexts {
     pub statement: StatementText,
@@ -36,6 +44,7 @@ pub struct DayTexts {
     /// The carry file of the next day.
     pub carry: Vec<u8>,
     pub report: DayReport,
+    pub completeness: Completeness,
 }
 
 /// Makes the texts of a day whose rows are taken.
@@ -51,6 +60,7 @@ pub fn day_texts(
     ensures { HasTextsOf names.now handing taken result }
 {
     let TakenDay { day, statement } = taken?;
+    let completeness = completeness_of(&day);
     let OpenDay {
         desks,
         report,
@@ -65,7 +75,29 @@ pub fn day_texts(
         depth: told.depth.into_text(alloc),
         carry,
         report,
+        completeness,
     })
+}
+
+/// Whether a day whose rows are taken is complete.
+fn completeness_of(day: &OpenDay) -> Completeness
+    ensures { result ≡ completeness_of (taken_day day.now) }
+{
+    if day.report.refused == 0 && have_ended(day.desks.as_slice()) {
+        Completeness::Complete
+    } else {
+        Completeness::Incomplete
+    }
+}
+
+/// Whether the day of each security has ended.
+fn have_ended(desks: &[Desk<Global>]) -> bool
+    ensures { result ≡ list_all has_ended (map replay desks.now) }
+{
+    match desks {
+        [] => true,
+        [desk, desks @ ..] => desk.phase().is_ended() && have_ended(desks),
+    }
 }
 
 /// The text of what desks leave, if it is handed on.

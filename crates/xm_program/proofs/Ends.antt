@@ -7,6 +7,7 @@ use Rattle.xm_replay.specs.declared.faults.DayFault.{DayFault}
 use Rattle.xm_replay.specs.declared.faults.DayFault.TheVariants.{Segment, Carry, Orders, Open, OutOfMemory, WriteFailed}
 use Rattle.xm_program.specs.Ends.{AskedEnds, AsksHelp, HasDone, IsDone}
 use Rattle.xm_program.specs.Requests.{AnswersWords, Asked, IsTold}
+use Rattle.xm_program.specs.declared.outcome.Outcome.{Outcome}
 use Rattle.xm_program.specs.declared.requests.Failure.{Failure}
 use Rattle.xm_program.specs.declared.requests.Failure.TheVariants.{Day, Words}
 use Rattle.xm_program.specs.declared.requests.Request.TheVariants.{Help}
@@ -25,8 +26,8 @@ module _ (faults : Kinds) (asked : Option Asked) (what : Asked) (old new : Optio
   has-done end none named ends = record { faultless = none; what = what; named = named; ends = ends }
 
   -- what was asked for is done
-  pub all-done : faults ≡ [] → asked ≡ Some what → AskedEnds what old new (Ok tt) → IsDone faults asked old new (Ok tt)
-  all-done none named ends = inl (has-done (Ok tt) none named ends)
+  pub all-done : (outcome : Outcome) → faults ≡ [] → asked ≡ Some what → AskedEnds what old new (Ok outcome) → IsDone faults asked old new (Ok outcome)
+  all-done outcome none named ends = inl (has-done (Ok outcome) none named ends)
 
   -- it met a fault
   pub fault-done : (fault : DayFault) → faults ≡ [] → asked ≡ Some what → AskedEnds what old new (Err fault) → (fault ≢ WriteFailed → new ≡ old) → IsDone faults asked old new (Err (Day fault))

@@ -1,6 +1,6 @@
 -- Words that ask for a day or a check are answered with it.
 use Rattle.std.proofs.lemmas.Bool.{le-leb}
-use Rattle.std.proofs.Common.{ℕ, ◌≡◌, ◌≤◌, ◌+◌, length, map, arith, ◌&&◌, ◌++◌, unwrap_or, slice_get, ◌==◌, is_some, List, [], ◌∷◌, Option, Some, None, Err, true, false, not, codes, refl, subst, sym, ap, ap₂, ◌∙◌, fold, Bool, Result, Ok, IfErr, IfSome, IsErrAnd, IsSome, inl, inr, ◌⊎◌, option_map, option_and_then}
+use Rattle.std.proofs.Common.{ℕ, ◌≡◌, ◌≤◌, ◌+◌, length, map, arith, ◌&&◌, ◌++◌, unwrap_or, slice_get, ◌==◌, is_some, List, [], ◌∷◌, Option, Some, None, Err, true, false, not, if◌then◌else◌, codes, refl, subst, sym, ap, ap₂, ◌∙◌, fold, Bool, Result, Ok, IfErr, IfSome, IsErrAnd, IsSome, inl, inr, ◌⊎◌, option_map, option_and_then}
 use Rattle.std.specs.Str.{bytes_eq}
 use Rattle.std.specs.Fmt.{decimal}
 use Rattle.std.specs.List.{list_all}
@@ -8,8 +8,8 @@ use Rattle.clap.specs.Facts.{unwrap_or_range}
 use Rattle.clap.specs.Lexer.{long_of}
 use Rattle.clap.specs.Simple.{Shape, built, entered, filled, is_simple, names_of, with_index}
 use Rattle.clap.specs.Takes.{default_passes, entered_passes, is_valid, level_passes, settle_passes, turn_passes, use_passes, value_passes, values_pass, walk_passes}
-use Rattle.clap.specs.Walk.{Held, Names, Walk, action_of, arg_by_id, arg_by_long, finished, nothing_held, walk, walk_from, walked}
-use Rattle.clap.specs.declared.builder.action.ArgAction.TheVariants.{Set}
+use Rattle.clap.specs.Walk.{Held, Names, Walk, action_of, arg_by_id, arg_by_long, finished, nothing_held, reading_by, walk, walk_from, walked}
+use Rattle.clap.specs.declared.builder.action.ArgAction.TheVariants.{Set, SetTrue}
 use Rattle.clap.specs.declared.builder.value_parser.Reading.TheVariants.{AsWritten, WithoutMinus}
 use Rattle.clap.specs.declared.parser.matches.ValueSource.TheVariants.{CommandLine, DefaultValue}
 use Rattle.clap.specs.Words.{App, HasKind, HasMatchesOf, IsAmong, Kinds, Row, Rule, Text, fault_of, first_of, is_simple_and_free, kind_of, one_of, subcommand_rows_of, takes}
@@ -24,9 +24,11 @@ use Rattle.xm_program.specs.declared.requests.Failure.TheVariants.{Day}
 use Rattle.xm_program.specs.declared.requests.Request.{Request}
 use Rattle.xm_program.specs.declared.requests.Request.TheVariants as request
 use Rattle.xm_program.specs.declared.requests.Request.TheVariants.{Check, Help}
-use Rattle.xm_program.specs.Requests.{AnswersWords, Asked, AskedDay, Asks, AsksDay, IsCount, IsOfWords, IsRequest, Meets, answer_at, answer_of, ArePaths, asked_in, asked_of, can_write, check, concurrency_of, count_in, count_rule, day, day_app, day_in, file_rule, is_mistake, is_plain_path, is_plain_word, max_order_files, option_words, order_files, outputs, paths_rule, threads_in}
+use Rattle.xm_program.specs.Requests.{AnswersWords, Asked, AskedDay, Asks, AsksDay, IsCount, IsOfWords, IsRequest, Meets, answer_at, answer_of, ArePaths, asked_in, asked_of, can_write, check, concurrency_of, count_in, count_rule, day, day_app, day_in, file_rule, flag_rule, is_mistake, is_strict, is_plain_path, is_plain_word, max_order_files, option_words, order_files, outputs, paths_rule, strict_words, strictness_in, threads_in}
+use Rattle.xm_program.specs.declared.outcome.Strictness.{Strictness}
+use Rattle.xm_program.specs.declared.outcome.Strictness.TheVariants.{Lenient, Strict}
 use Rattle.xm_program.proofs.Numbers.{number-text}
-use Rattle.xm_program.proofs.Walks.{ArePlain, Gathered, IsOption, IsPlain, IsSeveral, IsWalked, Stands, Steps, and-then, both-true, default-else, defaults-at, further, gathered_of, given, more-walked, or_default, or_else, row, row_at, rows_in, step, walked_over, with_row}
+use Rattle.xm_program.proofs.Walks.{ArePlain, Gathered, IsFlag, IsOption, IsPlain, IsSeveral, IsWalked, Stands, Steps, and-then, both-true, default-else, defaults-at, flag-step, further, gathered_of, given, more-walked, or_default, or_else, row, row_at, rows_in, step, walked_over, with_row}
 
 false_of : (b : Bool) → not b ≡ true → b ≡ false
 false_of true h = absurd (cc)
@@ -116,6 +118,9 @@ workers_option = count_option (codes "workers") (codes "1" ∷ [])
 abbrev threads_option : Rule
 threads_option = count_option (codes "threads") []
 
+abbrev strict_option : Rule
+strict_option = filled (flag_rule (codes "strict"))
+
 -- the number that is read where none is given
 abbrev one : Text → Row
 one id = row id WithoutMinus DefaultValue (codes "1" ∷ [])
@@ -136,6 +141,8 @@ record IsDayShape (shape : Shape) : Type 0 where
   depth : IsOption shape (codes "--depth") (file_option (codes "depth"))
   workers : IsOption shape (codes "--workers") workers_option
   threads : IsOption shape (codes "--threads") threads_option
+  strict : IsFlag shape (codes "--strict") strict_option
+  strict_is : strict.value ≡ codes "true"
   no_answers : default_of shape (codes "answers") ≡ None
   no_trades : default_of shape (codes "trades") ≡ None
   no_events : default_of shape (codes "events") ≡ None
@@ -143,6 +150,7 @@ record IsDayShape (shape : Shape) : Type 0 where
   no_threads : default_of shape (codes "threads") ≡ None
   no_out : default_of shape (codes "out") ≡ None
   one_worker : default_of shape (codes "workers") ≡ Some (one (codes "workers"))
+  lenient : default_of shape (codes "strict") ≡ Some (row (codes "strict") (reading_by strict_option) DefaultValue (codes "false" ∷ []))
   defaults : list_all default_passes shape.rules ≡ true
 
 -- what stands before the options of a day: the paths that these words are
@@ -158,6 +166,7 @@ record HasPaths (name : Text) (shape : Shape) (words : List Text) (d : AskedDay)
   depth : at (codes "depth") ≡ None
   workers : at (codes "workers") ≡ None
   threads : at (codes "threads") ≡ None
+  strict : at (codes "strict") ≡ None
   segment : at (codes "SEGMENT") ≡ Some (path_row (codes "SEGMENT") d.segment)
   -- values among which these are
   valid : (values : List Row) → ((k : Text) (r : Row) → at k ≡ Some r → row_at k values ≡ Some r) → is_valid shape values false ≡ true
@@ -178,7 +187,7 @@ plain-count id defaults (Some number) h text e =
 abbrev options : AskedDay → Option ℕ → Option ℕ → List Text
 options d w n =
     option_words (codes "--answers") d.answers ++ (option_words (codes "--trades") d.trades ++ (option_words (codes "--events") d.events ++ (option_words (codes "--depth") d.depth
-    ++ (option_words (codes "--workers") (option_map decimal w) ++ option_words (codes "--threads") (option_map decimal n)))))
+    ++ (option_words (codes "--workers") (option_map decimal w) ++ (option_words (codes "--threads") (option_map decimal n) ++ strict_words d.strictness)))))
 
 -- a day can be written, with paths and numbers that are taken as they stand
 record IsFine (d : AskedDay) (w n : Option ℕ) : Type 0 where
@@ -193,15 +202,15 @@ record IsFine (d : AskedDay) (w n : Option ℕ) : Type 0 where
   files : order_files d.orders ≡ Some d.orders
 
 -- no row that is named otherwise
-unnamed : (o : Option Row) → or_else (or_else (or_else (or_else (or_else (or_else (or_else o None) None) None) None) None) None) None ≡ o
+unnamed : (o : Option Row) → or_else (or_else (or_else (or_else (or_else (or_else (or_else (or_else o None) None) None) None) None) None) None) None ≡ o
 unnamed (Some r) = refl
 unnamed None = refl
 
 module _ (name : Text) (shape : Shape) (command : IsSubcommand name shape) (is : IsDayShape shape) (words : List Text) (d : AskedDay) (of : HasPaths name shape words d) (w n : Option ℕ) (fine : IsFine d w n) where
   abbrev at_end : Text → Option Row
   at_end =
-      with_row threads_option (option_map decimal n) (with_row workers_option (option_map decimal w) (with_row (file_option (codes "depth")) d.depth
-      (with_row (file_option (codes "events")) d.events (with_row (file_option (codes "trades")) d.trades (with_row (file_option (codes "answers")) d.answers of.at)))))
+      with_row strict_option (if is_strict d.strictness then Some is.strict.value else None) (with_row threads_option (option_map decimal n) (with_row workers_option (option_map decimal w) (with_row (file_option (codes "depth")) d.depth
+      (with_row (file_option (codes "events")) d.events (with_row (file_option (codes "trades")) d.trades (with_row (file_option (codes "answers")) d.answers of.at))))))
 
   steps : Steps shape of.position of.gathered (options d w n) at_end
   steps =
@@ -211,7 +220,8 @@ module _ (name : Text) (shape : Shape) (command : IsSubcommand name shape) (is :
       let l = step of.position d.depth v.stands is.depth (rw of.depth refl) (plain-file (codes "depth") d.depth fine.depth) in
       let m = step of.position (option_map decimal w) l.stands is.workers (rw of.workers refl) (plain-count (codes "workers") (codes "1" ∷ []) w fine.workers) in
       let o = step of.position (option_map decimal n) m.stands is.threads (rw of.threads refl) (plain-count (codes "threads") [] n fine.threads) in
-      and-then a (and-then t (and-then v (and-then l (and-then m o))))
+      let f = flag-step of.position (is_strict d.strictness) o.stands is.strict (rw of.strict refl) in
+      and-then a (and-then t (and-then v (and-then l (and-then m (and-then o f)))))
 
   abbrev values : List Row
   values = finished shape.rules (walked_over of.position steps.end).held
@@ -253,6 +263,10 @@ module _ (name : Text) (shape : Shape) (command : IsSubcommand name shape) (is :
       let text = number-text k h.0 h.1 in
       rw (value-at (codes "threads"), of.threads, is.no_threads, e) (ap (option_map Some) (ap count_in text.as_it_stands ∙ text.is_in))
 
+  strictness-read : (s : Strictness) → d.strictness ≡ s → strictness_in values ≡ s
+  strictness-read Lenient e = rw (value-at (codes "strict"), of.strict, is.lenient, e) refl
+  strictness-read Strict e = rw (value-at (codes "strict"), of.strict, is.lenient, e, is.strict_is) refl
+
   -- the day that these values ask for
   day-read : day_in d.carrying d.orders values ≡ Some d
   day-read =
@@ -266,6 +280,7 @@ module _ (name : Text) (shape : Shape) (command : IsSubcommand name shape) (is :
         trades-read d.trades refl,
         events-read d.events refl,
         depth-read d.depth refl,
+        strictness-read d.strictness refl,
         fine.can,
       ) refl
 
@@ -289,6 +304,12 @@ option-of : (shape : Shape) (word name : Text) (rule : Rule) → bytes_eq word (
 option-of shape word name rule no_hyphens is_long by_long by_id is_itself least most sets =
     record { no_hyphens = no_hyphens; name = name; is_long = is_long; by_long = by_long; by_id = by_id; is_itself = is_itself; least = least; most = most; sets = sets }
 
+abbrev flag-of : (shape : Shape) (word name : Text) (rule : Rule) → bytes_eq word (45 ∷ 45 ∷ []) ≡ false → long_of word ≡ Some (name, None) → arg_by_long shape.rules name ≡ Some rule
+    → bytes_eq rule.id rule.id ≡ true → (unwrap_or_range rule.range).start_inclusive ≡ 0 → (unwrap_or_range rule.range).end_inclusive ≡ 0 → action_of rule ≡ SetTrue → (value : Text) → rule.missing ≡ value ∷ []
+    → value_passes rule value ≡ true → IsFlag shape word rule
+flag-of shape word name rule no_hyphens is_long by_long is_itself least most sets value stands_for passes =
+    record { no_hyphens = no_hyphens; name = name; is_long = is_long; by_long = by_long; is_itself = is_itself; least = least; most = most; sets = sets; value = value; stands_for = stands_for; passes = passes }
+
 run-shape : IsDayShape run_shape
 run-shape = record {
   answers = option-of run_shape (codes "--answers") (codes "answers") (file_option (codes "answers")) refl refl refl refl refl refl refl refl;
@@ -297,6 +318,8 @@ run-shape = record {
   depth = option-of run_shape (codes "--depth") (codes "depth") (file_option (codes "depth")) refl refl refl refl refl refl refl refl;
   workers = option-of run_shape (codes "--workers") (codes "workers") workers_option refl refl refl refl refl refl refl refl;
   threads = option-of run_shape (codes "--threads") (codes "threads") threads_option refl refl refl refl refl refl refl refl;
+  strict = flag-of run_shape (codes "--strict") (codes "strict") strict_option refl refl refl refl refl refl refl (codes "true") refl refl;
+  strict_is = refl;
   no_answers = refl;
   no_trades = refl;
   no_events = refl;
@@ -304,6 +327,7 @@ run-shape = record {
   no_threads = refl;
   no_out = refl;
   one_worker = refl;
+  lenient = refl;
   defaults = refl;
 }
 
@@ -319,6 +343,8 @@ carry-shape = record {
   depth = option-of carry_shape (codes "--depth") (codes "depth") (file_option (codes "depth")) refl refl refl refl refl refl refl refl;
   workers = option-of carry_shape (codes "--workers") (codes "workers") workers_option refl refl refl refl refl refl refl refl;
   threads = option-of carry_shape (codes "--threads") (codes "threads") threads_option refl refl refl refl refl refl refl refl;
+  strict = flag-of carry_shape (codes "--strict") (codes "strict") strict_option refl refl refl refl refl refl refl (codes "true") refl refl;
+  strict_is = refl;
   no_answers = refl;
   no_trades = refl;
   no_events = refl;
@@ -326,6 +352,7 @@ carry-shape = record {
   no_threads = refl;
   no_out = refl;
   one_worker = refl;
+  lenient = refl;
   defaults = refl;
 }
 
@@ -389,6 +416,7 @@ run-paths d o rest e f p q few = record {
   depth = refl;
   workers = refl;
   threads = refl;
+  strict = refl;
   segment = refl;
   valid = λ values has. rw (has (codes "SEGMENT") _ refl, has (codes "ORDERS") _ refl) refl;
   asks = λ values has out read. rw (has (codes "ORDERS") _ refl)
@@ -442,6 +470,7 @@ out-paths d c o rest e f p q r u few =
       depth = refl;
       workers = refl;
       threads = refl;
+      strict = refl;
       segment = refl;
       valid = λ values has. rw (has (codes "SEGMENT") _ refl, has (codes "IN") _ refl, has (codes "ORDERS") _ refl) refl;
       asks = λ values has out read. rw (has (codes "IN") _ refl, has (codes "out") _ refl, has (codes "ORDERS") _ refl)
@@ -464,6 +493,7 @@ last-paths d c o e f p q r u = record {
   depth = refl;
   workers = refl;
   threads = refl;
+  strict = refl;
   segment = refl;
   valid = λ values has. rw (has (codes "SEGMENT") _ refl, has (codes "IN") _ refl, has (codes "ORDERS") _ refl) refl;
   asks = λ values has out read. rw (has (codes "IN") _ refl, out, has (codes "ORDERS") _ refl)

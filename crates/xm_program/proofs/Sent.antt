@@ -5,6 +5,7 @@ use Rattle.std.specs.Io.KnownBytes.{Appends, Keeps}
 use Rattle.xm_day.proofs.Written.{appended}
 use Rattle.xm_day.specs.Answers.{InFileOrder}
 use Rattle.xm_day.specs.Days.{DayFiles}
+use Rattle.xm_day.specs.declared.value.Completeness.{Completeness}
 use Rattle.xm_day.specs.declared.value.HandsOn.{HandsOn}
 use Rattle.xm_texts.specs.declared.asked.AskedTexts.{AskedTexts}
 use Rattle.xm_config.specs.Day.{Day}
@@ -32,7 +33,7 @@ ends-anyhow (Threads threads) After holds = holds InFileOrder
 ends-anyhow (Workers workers) After holds = record { alone = λ one. holds InFileOrder; shared = λ more. holds (IsShared workers) }
 
 -- a day ended so, on whatever number of threads where none is said
-pub ends-said : {asked : AskedTexts} {handing : HandsOn} {files : DayFiles} {out : DayOutputs} {result : Result (Unit {0}) DayFault} (said chosen : Concurrency) → IsChosen said chosen
+pub ends-said : {asked : AskedTexts} {handing : HandsOn} {files : DayFiles} {out : DayOutputs} {result : Result Completeness DayFault} (said chosen : Concurrency) → IsChosen said chosen
     → DayCallEnds chosen asked handing files out result → DayCallEnds said asked handing files out result
 ends-said (Threads None) (Threads threads) is ends = record { made = ends.made; is_day = ends.is_day; is_sent = ends.is_sent }
 ends-said (Threads None) (Workers workers) is ends = absurd is

@@ -1,4 +1,4 @@
--- The walk of a command line over paths, of which the last may be several, and over options behind them that have one value each.
+-- The walk of a command line over paths, of which the last may be several, over options behind them that have one value each, and over flags.
 use Rattle.std.proofs.Common.{ℕ, ◌≡◌, ◌∙◌, ◌++◌, ◌&&◌, Bool, true, false, if◌then◌else◌, List, [], ◌∷◌, Option, Some, None, is_some, find, fold, refl, subst, sym, ap, append-nil, append_assoc}
 use Rattle.std.specs.Prelude.{option_map}
 use Rattle.std.specs.Str.{bytes_eq}
@@ -8,9 +8,9 @@ use Rattle.clap.specs.Facts.{unwrap_or_range}
 use Rattle.clap.specs.Lexer.{long_of, strip_byte}
 use Rattle.clap.specs.Simple.{Shape}
 use Rattle.clap.specs.Takes.{settle_passes, value_passes, walk_passes}
-use Rattle.clap.specs.Walk.{Waiting, Walk, action_of, arg_by_id, arg_by_index, arg_by_long, at_row, has_row, idle, more_values, option, positional, reading_by, settled_rows, subcommand_met, takes_several, walked, with_default, without}
+use Rattle.clap.specs.Walk.{Waiting, Walk, action_of, arg_by_id, arg_by_index, arg_by_long, at_row, has_row, idle, more_values, option, positional, reading_by, settled_rows, subcommand_met, used, takes_several, walked, with_default, without}
 use Rattle.clap.specs.Words.{Row, Rule, Text}
-use Rattle.clap.specs.declared.builder.action.ArgAction.TheVariants.{Set}
+use Rattle.clap.specs.declared.builder.action.ArgAction.TheVariants.{Set, SetTrue}
 use Rattle.clap.specs.declared.builder.value_parser.Reading.{Reading}
 use Rattle.clap.specs.declared.parser.matches.ValueSource.{ValueSource}
 use Rattle.clap.specs.declared.parser.matches.ValueSource.TheVariants.{CommandLine, DefaultValue}
@@ -142,17 +142,16 @@ further shape from mid end (word ∷ words) more a b =
     let rest = further shape (walked shape.rules [] from word) mid end words more (record { comes_to = a.comes_to; passes = now.1 }) b in
     record { comes_to = rest.comes_to; passes = both-true _ _ now.0 rest.passes }
 
--- what a walk has gathered: rows, the last values, which are not among them yet, and what takes the next word
+-- what a walk has gathered: rows, the last values, which may not be among them yet, and what takes the next word
 pub record Gathered : Type 0 where
   pub rows : List Row
-  pub id : Text
-  pub values : List Text
+  pub pending : Option (Text × List Text)
   pub waiting : Waiting
 
 -- the walk that stands at this position, and has gathered so much
 abbrev pub walked_over : ℕ → Gathered → Walk
 walked_over position g = record {
-  held = record { rows = g.rows; pending = Some (g.id, g.values); skip = 0 };
+  held = record { rows = g.rows; pending = g.pending; skip = 0 };
   waiting = g.waiting;
   position = position;
   is_trailing = false;
@@ -160,7 +159,7 @@ walked_over position g = record {
 }
 
 abbrev pub rows_in : Shape → Gathered → List Row
-rows_in shape g = settled_rows shape.rules (Some (g.id, g.values)) g.rows
+rows_in shape g = settled_rows shape.rules g.pending g.rows
 
 -- the last values pass, and the rows with them are these
 pub record Stands (shape : Shape) (at : Text → Option Row) (g : Gathered) : Type 0 where
@@ -194,7 +193,7 @@ pub record IsSeveral (shape : Shape) (position : ℕ) (rule : Rule) : Type 0 whe
 
 -- so many values of a positional behind these rows
 abbrev pub gathered_of : Rule → List Row → List Text → Gathered
-gathered_of rule rows values = record { rows = rows; id = rule.id; values = values; waiting = positional }
+gathered_of rule rows values = record { rows = rows; pending = Some (rule.id, values); waiting = positional }
 
 module _ (shape : Shape) (position : ℕ) (rule : Rule) (is : IsSeveral shape position rule) (rows : List Row) where
   abbrev with_all : List Text → Walk
@@ -249,7 +248,7 @@ module _ (shape : Shape) (position : ℕ) (g : Gathered) (at : Text → Option R
 
   module _ (value : Text) (p : IsPlain value) where
     abbrev next : Gathered
-    next = record { rows = rows_in shape g; id = rule.id; values = value ∷ []; waiting = idle }
+    next = record { rows = rows_in shape g; pending = Some (rule.id, value ∷ []); waiting = idle }
 
     option-walked : IsWalked shape (walked_over position g) (word ∷ value ∷ []) (walked_over position next)
     unfolding walked walk_passes
@@ -277,6 +276,52 @@ pub step : {shape : Shape} {g : Gathered} {at : Text → Option Row} {word : Tex
     → ((text : Text) → value ≡ Some text → IsPlain text × (value_passes rule text ≡ true)) → Steps shape position g (option_words word value) (with_row rule value at)
 step {shape} {g} {at} {word} {rule} position None s o none fine = left-out shape position g at s word rule o
 step {shape} {g} {at} {word} {rule} position (Some value) s o none fine = let f = fine value refl in given shape position g at s word rule o value f.0 none f.1
+
+-- ---- flags
+
+-- the word is a flag of this rule
+pub record IsFlag (shape : Shape) (word : Text) (rule : Rule) : Type 0 where
+  pub no_hyphens : bytes_eq word (45 ∷ 45 ∷ []) ≡ false
+  pub name : Text
+  pub is_long : long_of word ≡ Some (name, None)
+  pub by_long : arg_by_long shape.rules name ≡ Some rule
+  pub is_itself : bytes_eq rule.id rule.id ≡ true
+  pub least : (unwrap_or_range rule.range).start_inclusive ≡ 0
+  pub most : (unwrap_or_range rule.range).end_inclusive ≡ 0
+  pub sets : action_of rule ≡ SetTrue
+  pub value : Text
+  pub stands_for : rule.missing ≡ value ∷ []
+  pub passes : value_passes rule value ≡ true
+
+-- a flag that is given
+flag-given : (shape : Shape) (position : ℕ) (g : Gathered) (at : Text → Option Row) (s : Stands shape at g) (word : Text) (rule : Rule) (f : IsFlag shape word rule) → at rule.id ≡ None
+    → Steps shape position g (word ∷ []) (with_row rule (Some f.value) at)
+unfolding walked walk_passes
+flag-given shape position g at s word rule f none =
+    let new = s.rows_are rule.id ∙ none in
+    let has : has_row rule.id (rows_in shape g) ≡ false = has_row-is rule.id (rows_in shape g) ∙ ap is_some new in
+    record {
+      end = record { rows = used rule [] (rows_in shape g); pending = None; waiting = idle };
+      is_walked = record {
+        comes_to = simp (none-met g.waiting word, f.no_hyphens, f.is_long, f.by_long, f.most);
+        passes = simp (none-met g.waiting word, f.no_hyphens, f.is_long, f.by_long, f.least, f.most, f.sets, f.stands_for, f.passes, has, s.passes);
+      };
+      stands = record {
+        passes = refl;
+        rows_are = λ k. rw (f.sets, f.stands_for, none-left-out rule.id (rows_in shape g) new, joined rule.id _ (row rule.id (reading_by rule) CommandLine (f.value ∷ [])) k (rows_in shape g) new, s.rows_are k) refl;
+      };
+    }
+
+-- a flag that is given or left out
+pub flag-step : {shape : Shape} {g : Gathered} {at : Text → Option Row} {word : Text} {rule : Rule} (position : ℕ) (given : Bool) → Stands shape at g → (f : IsFlag shape word rule) → at rule.id ≡ None
+    → Steps shape position g (if given then word ∷ [] else []) (with_row rule (if given then Some f.value else None) at)
+unfolding walk_passes
+flag-step {shape} {g} {at} {word} {rule} position false s f none = record {
+  end = g;
+  is_walked = record { comes_to = refl; passes = refl };
+  stands = record { passes = s.passes; rows_are = λ k. s.rows_are k ∙ sym (none-named rule.id k (at k)) };
+}
+flag-step {shape} {g} {at} {word} {rule} position true s f none = flag-given shape position g at s word rule f none
 
 -- steps behind others
 pub and-then : {shape : Shape} {position : ℕ} {g : Gathered} {words more : List Text} {at then_at : Text → Option Row} (a : Steps shape position g words at) → Steps shape position a.end more then_at → Steps shape position g (words ++ more) then_at

@@ -5,6 +5,7 @@ use Rattle.std.specs.Io.KnownBytes.{Appends}
 use Rattle.xm_day.specs.Answers.{InFileOrder}
 use Rattle.xm_day.specs.Checks.{IsCheck}
 use Rattle.xm_day.specs.Days.{DayFiles, IsDay, nothing_asked}
+use Rattle.xm_day.specs.declared.value.Completeness.{Completeness}
 use Rattle.xm_day.specs.declared.value.DayTexts.{DayTexts}
 use Rattle.xm_day.specs.declared.value.HandsOn.{HandsOn}
 use Rattle.xm_day.specs.declared.value.HandsOn.TheVariants.{Nothing, WhatIsLeft}
@@ -110,14 +111,15 @@ pub record AreUntouched (out : DayOutputs) : Type 0 where
   pub depth : out.depth.new ≡ out.depth.old
   pub carry : out.carry.new ≡ out.carry.old
 
--- the texts of a day go out, or its fault is told
-abbrev pub DayIsSent : DayOutputs → Result DayTexts DayFault → Result (Unit {0}) DayFault → Type 0
-DayIsSent out (Ok t) result = SendingEnds (sendings out t) result
-DayIsSent out (Err fault) (Ok done) = ⊥
+-- the texts of a day go out, and whether it is complete is answered; or its fault is told
+abbrev pub DayIsSent : DayOutputs → Result DayTexts DayFault → Result Completeness DayFault → Type 0
+DayIsSent out (Ok t) (Ok completeness) = (completeness ≡ t.completeness) × AreSent (sendings out t)
+DayIsSent out (Ok t) (Err fault) = (fault ≡ WriteFailed) × AreBegun (sendings out t)
+DayIsSent out (Err fault) (Ok completeness) = ⊥
 DayIsSent out (Err fault) (Err again) = (again ≡ fault) × AreUntouched out
 
 -- how a call ends that makes the day of these files, whose rows are taken so, and sends out its texts
-pub record DayCallEnds (concurrency : Concurrency) (asked : AskedTexts) (handing : HandsOn) (files : DayFiles) (out : DayOutputs) (result : Result (Unit {0}) DayFault) : Type 0 where
+pub record DayCallEnds (concurrency : Concurrency) (asked : AskedTexts) (handing : HandsOn) (files : DayFiles) (out : DayOutputs) (result : Result Completeness DayFault) : Type 0 where
   pub made : Result DayTexts DayFault
   pub is_day : IsDayBy concurrency asked handing files made
   pub is_sent : DayIsSent out made result
@@ -128,13 +130,13 @@ handing true = WhatIsLeft
 handing false = Nothing
 
 -- a day ends so before a file is read
-abbrev pub EndsUnread : Result (Unit {0}) DayFault → Type 0
+abbrev pub EndsUnread : Result Completeness DayFault → Type 0
 EndsUnread result = (result ≡ Err WriteFailed) ⊎ (result ≡ Err (OutOfMemory tt))
 
 -- the same where the files have some bytes, so many of them order files, among them a carry file if the day goes on from earlier ones, and
 -- one that is to be written may be none that can be made, which is a failed write before anything is read; or there is no memory for the
 -- list of the order files
-abbrev pub FilesEnd : Concurrency → AskedTexts → Bool → ℕ → Option (List ℕ) → Option (List ℕ) → Result (Unit {0}) DayFault → Type 0
+abbrev pub FilesEnd : Concurrency → AskedTexts → Bool → ℕ → Option (List ℕ) → Option (List ℕ) → Result Completeness DayFault → Type 0
 FilesEnd concurrency asked goes_on count old new result =
     ((files : DayFiles) × (is_some files.carried ≡ goes_on) × (length files.orders ≡ count) × (answers trades events depth carry : Held) × DayCallEnds concurrency asked (handing goes_on) files
     (record { statement = record { old = old; new = new }; answers = answers; trades = trades; events = events; depth = depth; carry = carry }) result)

@@ -4,22 +4,28 @@ use Rattle.std.specs.Io.KnownBytes.{Appends}
 use Rattle.clap.specs.Values.{kind_of}
 use Rattle.clap.specs.Words.{IsAmong, Kinds}
 use Rattle.clap.specs.declared.error.kind.ErrorKind.{ErrorKind}
+use Rattle.xm_day.specs.declared.value.Completeness.{Completeness}
 use Rattle.xm_replay.specs.declared.faults.DayFault.{DayFault}
 use Rattle.xm_replay.specs.declared.faults.DayFault.TheVariants.{OutOfMemory, WriteFailed}
 use Rattle.xm_program.specs.Days.{CheckCallEnds, FilesEnd}
 use Rattle.xm_program.specs.FaultLines.{fault_line}
+use Rattle.xm_program.specs.Outcomes.{done_after, judged}
+use Rattle.xm_program.specs.declared.outcome.Outcome.{Outcome}
+use Rattle.xm_program.specs.declared.outcome.Outcome.TheVariants.{Done}
 use Rattle.xm_program.specs.Requests.{Asked, IsOfWords, asked_texts, check, day, end_status, is_mistake}
 use Rattle.xm_program.specs.declared.requests.Failure.{Failure}
 use Rattle.xm_program.specs.declared.requests.Failure.TheVariants.{Day, Words}
 use Rattle.xm_ticks.specs.Writing.{AppendsPrefix}
 
--- what was asked for ended so, on files of some bytes
-abbrev pub AskedEnds : Asked → Option (List ℕ) → Option (List ℕ) → Result (Unit {0}) DayFault → Type 0
-AskedEnds (day d) old new end = FilesEnd d.concurrency (asked_texts d) (is_some d.carrying) (length d.orders) old new end
-AskedEnds (check segment) old new end = (segment_bytes : Option (List ℕ)) × CheckCallEnds segment_bytes (record { old = old; new = new }) end
+-- what was asked for ended so, on files of some bytes: a day is judged as it is asked for
+abbrev pub AskedEnds : Asked → Option (List ℕ) → Option (List ℕ) → Result Outcome DayFault → Type 0
+AskedEnds (day d) old new end =
+    (made : Result Completeness DayFault) × FilesEnd d.concurrency (asked_texts d) (is_some d.carrying) (length d.orders) old new made × (end ≡ judged d.strictness made)
+AskedEnds (check segment) old new end =
+    (segment_bytes : Option (List ℕ)) × (sent : Result (Unit {0}) DayFault) × CheckCallEnds segment_bytes (record { old = old; new = new }) sent × (end ≡ done_after sent)
 
 -- the words have no fault and ask for what can be done, which ended so
-pub record HasDone (faults : Kinds) (asked : Option Asked) (old new : Option (List ℕ)) (end : Result (Unit {0}) DayFault) : Type 0 where
+pub record HasDone (faults : Kinds) (asked : Option Asked) (old new : Option (List ℕ)) (end : Result Outcome DayFault) : Type 0 where
   pub faultless : faults ≡ []
   pub what : Asked
   pub named : asked ≡ Some what
@@ -33,8 +39,8 @@ pub record AsksHelp (faults : Kinds) : Type 0 where
 
 -- what words with these faults, which ask for this, lead to on standard output: a day writes its statement, a check the line of its
 -- segment, and nothing else; after a mistake, and after a fault, nothing was written, but where writing failed
-abbrev pub IsDone : Kinds → Option Asked → Option (List ℕ) → Option (List ℕ) → Result (Unit {0}) Failure → Type 0
-IsDone faults asked old new (Ok done) = HasDone faults asked old new (Ok done) ⊎ AsksHelp faults
+abbrev pub IsDone : Kinds → Option Asked → Option (List ℕ) → Option (List ℕ) → Result Outcome Failure → Type 0
+IsDone faults asked old new (Ok outcome) = HasDone faults asked old new (Ok outcome) ⊎ (AsksHelp faults × (outcome ≡ Done))
 IsDone faults asked old new (Err (Day (OutOfMemory _))) = new ≡ old
 IsDone faults asked old new (Err (Day WriteFailed)) = HasDone faults asked old new (Err WriteFailed) ⊎ AsksHelp faults
 IsDone faults asked old new (Err (Day fault)) = HasDone faults asked old new (Err fault) × (new ≡ old)
@@ -42,14 +48,14 @@ IsDone faults asked old new (Err (Words error)) = IsOfWords faults asked error �
 
 -- what is then told on standard error: nothing, the line of the fault once, of which a part may be missing where writing
 -- failed, or what is mistaken in the words
-abbrev pub IsToldAs : Option (List ℕ) → Option (List ℕ) → Result (Unit {0}) Failure → Type 0
-IsToldAs old new (Ok done) = new ≡ old
+abbrev pub IsToldAs : Option (List ℕ) → Option (List ℕ) → Result Outcome Failure → Type 0
+IsToldAs old new (Ok outcome) = new ≡ old
 IsToldAs old new (Err (Day fault)) = Appends old new (fault_line fault) ⊎ AppendsPrefix old new (fault_line fault)
 IsToldAs old new (Err (Words error)) = ⊤
 
 -- how a call with these words ends: what it did, what it told, and its status
 pub record CallEnds (faults : Kinds) (asked : Option Asked) (old new told_before told_after : Option (List ℕ)) (status : ℕ) : Type 0 where
-  pub end : Result (Unit {0}) Failure
+  pub end : Result Outcome Failure
   pub is_done : IsDone faults asked old new end
   pub is_told : IsToldAs told_before told_after end
   pub status_is : status ≡ end_status end

@@ -3,6 +3,7 @@ pub mod Ends
 pub mod Examples
 pub mod FaultLines
 pub mod Inputs
+pub mod Outcomes
 pub mod Outputs
 pub mod Places
 pub mod Requests

@@ -8,7 +8,7 @@ use Rattle.clap.specs.Values.{kind_of}
 use Rattle.clap.specs.ValueTests.{is_unsigned_in}
 use Rattle.clap.specs.Words.{App, IsAmong, Kinds, Row, Rule, Text, all_of, first_of, new_app, new_rule, one_of, subcommand_of, with_rule, with_subcommand}
 use Rattle.clap.specs.Simple.{on_top}
-use Rattle.clap.specs.declared.builder.action.ArgAction.TheVariants.{Append, Set}
+use Rattle.clap.specs.declared.builder.action.ArgAction.TheVariants.{Append, Set, SetTrue}
 use Rattle.clap.specs.declared.builder.value_parser.ValueParser.TheVariants.{Signed}
 use Rattle.clap.specs.declared.error.Error.{Error}
 use Rattle.clap.specs.declared.error.kind.ErrorKind.{ErrorKind}
@@ -21,6 +21,10 @@ use Rattle.xm_texts.specs.declared.asked.AskedTexts.{AskedTexts}
 use Rattle.xm_config.specs.Opening.{max_workers}
 use Rattle.xm_program.specs.declared.concurrency.Concurrency.{Concurrency}
 use Rattle.xm_program.specs.declared.concurrency.Concurrency.TheVariants.{Threads, Workers}
+use Rattle.xm_program.specs.Outcomes.{outcome_status}
+use Rattle.xm_program.specs.declared.outcome.Outcome.{Outcome}
+use Rattle.xm_program.specs.declared.outcome.Strictness.{Strictness}
+use Rattle.xm_program.specs.declared.outcome.Strictness.TheVariants.{Lenient, Strict}
 use Rattle.xm_program.specs.declared.requests.Request.{Request}
 use Rattle.xm_program.specs.declared.requests.Request.TheVariants as request
 use Rattle.xm_program.specs.declared.requests.Request.TheVariants.{Check, Help}
@@ -64,12 +68,16 @@ workers_rule = record (count_rule (codes "workers")) { defaults = codes "1" ∷ 
 abbrev pub file_rule : Text → Rule
 file_rule id = record (new_rule id) { long = Some id; action = Some Set; value_names = 1 }
 
--- how the rows of a day are taken, and the texts beside its statement: `--workers N --threads N --answers FILE --trades FILE
--- --events FILE --depth FILE`
+-- `--strict`, which may be left out, and has no value
+abbrev pub flag_rule : Text → Rule
+flag_rule id = record (new_rule id) { long = Some id; action = Some SetTrue }
+
+-- how the rows of a day are taken, the texts beside its statement, and how it is judged: `--workers N --threads N --answers FILE
+-- --trades FILE --events FILE --depth FILE --strict`
 abbrev pub with_options : App → App
 with_options app =
-    with_rule (with_rule (with_rule (with_rule (with_rule (with_rule app workers_rule) (count_rule (codes "threads")))
-    (file_rule (codes "answers"))) (file_rule (codes "trades"))) (file_rule (codes "events"))) (file_rule (codes "depth"))
+    with_rule (with_rule (with_rule (with_rule (with_rule (with_rule (with_rule app workers_rule) (count_rule (codes "threads")))
+    (file_rule (codes "answers"))) (file_rule (codes "trades"))) (file_rule (codes "events"))) (file_rule (codes "depth"))) (flag_rule (codes "strict"))
 
 -- `run SEGMENT ORDERS...`, with these options
 abbrev pub run_app : App
@@ -109,6 +117,8 @@ pub record AskedDay : Type 0 where
   pub trades : Option Text
   pub events : Option Text
   pub depth : Option Text
+  -- whether the status tells that it is incomplete
+  pub strictness : Strictness
 
 -- a day, or the check of a segment file
 pub data Asked : Type 0 where
@@ -134,6 +144,15 @@ abbrev pub concurrency_in : List Row → Option Concurrency
 concurrency_in rows =
     option_and_then (λ workers. option_and_then (concurrency_of workers) (threads_in rows))
     (option_and_then count_in (one_of (codes "workers") rows))
+
+-- the value of a flag says that it was given
+abbrev pub is_given : Option Text → Bool
+is_given None = false
+is_given (Some value) = bytes_eq value (codes "true")
+
+-- how a day is judged, by these values
+abbrev pub strictness_in : List Row → Strictness
+strictness_in rows = if is_given (first_of (codes "strict") rows) then Strict else Lenient
 
 -- a path is not that of standard output
 abbrev pub is_file : Option Text → Bool
@@ -189,6 +208,7 @@ day_in carrying paths rows =
       trades = first_of (codes "trades") rows;
       events = first_of (codes "events") rows;
       depth = first_of (codes "depth") rows;
+      strictness = strictness_in rows;
     })) (concurrency_in rows)) (order_files paths)) (first_of (codes "SEGMENT") rows)
 
 -- the paths that these values have for ORDERS
@@ -239,6 +259,14 @@ abbrev pub option_words : Text → Option Text → List Text
 option_words option None = []
 option_words option (Some value) = option ∷ value ∷ []
 
+abbrev pub is_strict : Strictness → Bool
+is_strict Strict = true
+is_strict Lenient = false
+
+-- the flag of a strict day
+abbrev pub strict_words : Strictness → List Text
+strict_words strictness = if is_strict strictness then codes "--strict" ∷ [] else []
+
 -- a number that an option may have
 abbrev pub IsCount : ℕ → Type 0
 IsCount number = (1 ≤ number) × (number ≤ max_workers)
@@ -251,8 +279,8 @@ ArePaths words segment orders (Some c) =
     ⊎ ((length orders ≡ 1) × (words ≡ codes "carry" ∷ segment ∷ c.0 ∷ (orders ++ c.1 ∷ [])))
 
 -- the words are the program's name, a subcommand with its paths, and then, as far as they are asked for, `--answers`, `--trades`,
--- `--events` and `--depth`, each with a path, and `--workers` and `--threads`, each with a number; the day can be written, and its order files are
--- not too many
+-- `--events` and `--depth`, each with a path, `--workers` and `--threads`, each with a number, and `--strict`; the day can be written, and its
+-- order files are not too many
 pub record AsksDay (words : List Text) (d : AskedDay) : Type 0 where
   pub program : Text
   pub workers : Option ℕ
@@ -261,7 +289,7 @@ pub record AsksDay (words : List Text) (d : AskedDay) : Type 0 where
   pub paths_are : ArePaths paths d.segment d.orders d.carrying
   pub words_are : words ≡ program ∷ (paths
       ++ (option_words (codes "--answers") d.answers ++ (option_words (codes "--trades") d.trades ++ (option_words (codes "--events") d.events ++ (option_words (codes "--depth") d.depth
-      ++ (option_words (codes "--workers") (option_map decimal workers) ++ option_words (codes "--threads") (option_map decimal threads)))))))
+      ++ (option_words (codes "--workers") (option_map decimal workers) ++ (option_words (codes "--threads") (option_map decimal threads) ++ strict_words d.strictness)))))))
   pub are_plain : list_all is_plain_path (inputs d ++ outputs d) ≡ true
   pub are_so_many : (1 ≤ length d.orders) × (length d.orders ≤ max_order_files)
   pub are_counts : IfSome workers IsCount × IfSome threads IsCount
@@ -295,6 +323,7 @@ named_day d = record {
   trades = option_map (λ s. s.now) d.texts.trades;
   events = option_map (λ s. s.now) d.texts.events;
   depth = option_map (λ s. s.now) d.texts.depth;
+  strictness = d.strictness;
 }
 
 -- the request is what was asked for, and not a help text
@@ -365,7 +394,7 @@ abbrev pub failure_status : Failure → ℕ
 failure_status (Day fault) = 1
 failure_status (Words error) = 2
 
--- the status that the program ends with: 0 where it did what it was asked for
-abbrev pub end_status : Result (Unit {0}) Failure → ℕ
-end_status (Ok done) = 0
+-- the status that the program ends with
+abbrev pub end_status : Result Outcome Failure → ℕ
+end_status (Ok outcome) = outcome_status outcome
 end_status (Err failure) = failure_status failure

@@ -158,6 +158,15 @@ they are active in the phase. The file is made before any file is read, and writ
 statement, the answers, the trades and the events. docs/FORMATS.md tells of each field. It goes with
 one worker.";
 
+pub(crate) const STRICT_SHORT: &str =
+    "Ends with status 4 where a row was refused, or a security hasn't ended";
+
+pub(crate) const STRICT_HELP: &str =
+    "Ends with status 4 where a row was refused, or a security hasn't ended
+
+What is written is the same with and without it: the statement tells how many rows were refused, and
+`--answers FILE` why each was.";
+
 pub(crate) const WORKERS_SHORT: &str = "How many workers take the rows of members, side by side";
 
 pub(crate) const WORKERS_HELP: &str =
@@ -191,4 +200,5 @@ pub(crate) const STATUS_HELP: &str = "Exit status:
   0  it is done: the statement or the line was written
   1  it is not done: standard error has one line that names the fault
   2  the command line is mistaken
-  3  the script xetra-day has no program to run: standard error says why";
+  3  the script xetra-day has no program to run: standard error says why
+  4  with --strict, it is done, and a row was refused, or a security hasn't ended";

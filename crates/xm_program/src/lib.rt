@@ -3,7 +3,8 @@
 //!
 //! `requests` reads the command line, whose help stands in `help_texts`, and `program` does that. `concurrency` says whether threads or
 //! workers take the rows, and a `count` how many. `outputs` makes the files of the texts, by what lies at their `places`; `inputs` opens
-//! those that are read. `fault_lines` has the line that tells a fault; `complaints` is standard error, as a writer.
+//! those that are read. `outcome` is what comes of a call, and `fault_lines` has the line that tells a fault; `complaints` is standard
+//! error, as a writer.
 #![tactic(auto)]
 
 mod complaints;
@@ -13,6 +14,7 @@ pub mod examples;
 mod fault_lines;
 mod help_texts;
 mod inputs;
+mod outcome;
 mod outputs;
 mod places;
 mod program;
@@ -22,6 +24,7 @@ pub use crate::concurrency::Concurrency;
 pub use crate::count::Count;
 pub use crate::fault_lines::fault_line;
 pub use crate::inputs::{Input, open_input, open_inputs};
+pub use crate::outcome::{Outcome, Strictness};
 pub use crate::outputs::{Output, TextFiles};
 pub use crate::program::{carry_over, check, run, run_program, run_words};
 pub use crate::requests::{Carrying, DayRequest, Failure, Request, TextPaths, read_words};

@@ -1,19 +1,20 @@
 //! A call of the program, over any runtime.
-ghost use Rattle.std.specs.Prelude.{◌≡◌, ◌≢◌, ◌≤◌, ℕ, List, Option, Err, IfErr, IfOk, None, OnOk, Some, length, map, string_bytes};
+ghost use Rattle.std.specs.Prelude.{◌≡◌, ◌≢◌, ◌≤◌, Err, IfErr, IfOk, None, OnOk, Some, is_some, length, map, string_bytes};
 ghost use Rattle.std.specs.Io.KnownBytes.{Appends};
 ghost use Rattle.std.specs.Process.{exit_status};
 ghost use Rattle.clap.specs.Words.{fault_of};
 ghost use Rattle.xm_day.specs.Days.{TakesFile};
 ghost use Rattle.xm_files.specs.declared.order_files.TheConstants.{MAX_FILES};
-ghost use Rattle.xm_program.specs.Days.{AppendsBeginning, CheckCallEnds, DayCallEnds, DayIsSent, EndsBy, IsChosen, IsDayBy, SendingEnds, asked_with, sendings};
+ghost use Rattle.xm_program.specs.Days.{AppendsBeginning, CheckCallEnds, DayCallEnds, DayIsSent, EndsBy, FilesEnd, IsChosen, IsDayBy, SendingEnds, asked_with, sendings};
 ghost use Rattle.xm_program.specs.Ends.{AskedEnds, CallEnds, IsDone, IsToldAs};
 ghost use Rattle.xm_program.specs.Outputs.{outputs_of};
-ghost use Rattle.xm_program.specs.Requests.{RefusesBytes, asked_of, day, day_app, named_day, end_status};
+ghost use Rattle.xm_program.specs.Requests.{RefusesBytes, asked_of, asked_texts, check, day, day_app, named_day, end_status};
 
 use crate::complaints::Complaints;
 use crate::concurrency::Concurrency;
 use crate::count::Count;
 use crate::fault_lines::fault_line;
+use crate::outcome::Outcome;
 use crate::outputs::TextFiles;
 use crate::places::place_in;
 use crate::requests::{self, DayRequest, Failure, Request};
@@ -29,7 +30,7 @@ use std::thread::Threads;
 use std::{env, fs, io, thread};
 use xm_config::SegmentConfig;
 use xm_day::{
-    AskedTexts, DayFault, DayTexts, HandsOn, TakenDay, day_texts, open_carried_files, open_files,
+    AskedTexts, Completeness, DayFault, DayTexts, HandsOn, TakenDay, day_texts, open_carried_files, open_files,
     send_statement, take_on_threads, take_shared,
 };
 use xm_files::SegmentNames;
@@ -45,7 +46,7 @@ const LONG_FILE: u64 = 700_000;
 pub fn run_program<
     R: Env + AllocGlobal + Files + Print + Eprint + RandomSource + Threads + Wait + Sync,
 >(rt: &R) -> ExitCode
-    ensures { exit_status result ≤ 2 }
+    ensures { exit_status result ≤ 4 }
 {
     let mut complaints = Complaints { rt };
     match read_command_line(rt) {
@@ -74,7 +75,7 @@ fn answer<R: AllocGlobal + Files + RandomSource + Threads + Wait + Sync, W: Writ
     rt: &R,
     words: &[String],
     out: &mut W,
-) -> Result<(), Failure>
+) -> Result<Outcome, Failure>
     ensures { IsDone (fault_of day_app (map string_bytes words.now)) (asked_of (map string_bytes words.now)) (W.contents out.old) (W.contents out.new) result }
 {
     match requests::read_words(rt.alloc(), words)? {
@@ -84,13 +85,28 @@ fn answer<R: AllocGlobal + Files + RandomSource + Threads + Wait + Sync, W: Writ
     }
 }
 
-/// Writes the texts of a day to standard output and to their files, which are made before any is read.
+/// Writes the texts of a day to standard output and to their files, and judges it as it is asked for.
 fn write_day<R: AllocGlobal + Files + RandomSource + Threads + Wait + Sync, W: Write>(
     rt: &R,
     request: &DayRequest<'_>,
     out: &mut W,
-) -> Result<(), DayFault>
+) -> Result<Outcome, DayFault>
     ensures ends { AskedEnds (day (named_day request.now)) (W.contents out.old) (W.contents out.new) result }
+    ensures untouched { IfErr result (λ fault. fault ≢ DayFault.WriteFailed → out.new ≡ out.old) }
+{
+    match write_texts(rt, request, out) {
+        Ok(completeness) => Ok(request.strictness.outcome(completeness)),
+        Err(fault) => Err(fault),
+    }
+}
+
+/// Writes the texts of a day to standard output and to their files, which are made before any is read.
+fn write_texts<R: AllocGlobal + Files + RandomSource + Threads + Wait + Sync, W: Write>(
+    rt: &R,
+    request: &DayRequest<'_>,
+    out: &mut W,
+) -> Result<Completeness, DayFault>
+    ensures ends { FilesEnd request.now.concurrency (asked_texts (named_day request.now)) (is_some (named_day request.now).carrying) (length (named_day request.now).orders) (W.contents out.old) (W.contents out.new) result }
     ensures untouched { IfErr result (λ fault. fault ≢ DayFault.WriteFailed → out.new ≡ out.old) }
 {
     let lies = |path: &str| place_in(fs::metadata(rt, path));
@@ -170,12 +186,15 @@ fn check_file<R: AllocGlobal + Files + RandomSource, W: Write>(
     rt: &R,
     segment: &str,
     out: &mut W,
-) -> Result<(), DayFault>
-    ensures ends { (segment : Option (List ℕ)) × CheckCallEnds segment (record { old = W.contents out.old; new = W.contents out.new }) result }
+) -> Result<Outcome, DayFault>
+    ensures ends { AskedEnds (check segment.entry.now) (W.contents out.old) (W.contents out.new) result }
     ensures untouched { IfErr result (λ fault. fault ≢ DayFault.WriteFailed → out.new ≡ out.old) }
 {
     let mut segment = inputs::open_input(|path| fs::open(rt, path), segment);
-    check(storage(rt), &mut segment, out)
+    match check(storage(rt), &mut segment, out) {
+        Ok(()) => Ok(Outcome::Done),
+        Err(fault) => Err(fault),
+    }
 }
 
 /// Where the structures of a call lie, whose tables have a seed that is drawn.
@@ -187,11 +206,15 @@ fn storage<R: AllocGlobal + RandomSource>(rt: &R) -> Storage<Global> {
 }
 
 /// Prints a help text, or the version.
-fn print_help<W: Write>(text: Error, out: &mut W) -> Result<(), DayFault>
-    ensures { IfErr result (λ fault. fault ≡ DayFault.WriteFailed) }
+fn print_help<W: Write>(text: Error, out: &mut W) -> Result<Outcome, DayFault>
+    ensures done { IfOk result (λ outcome. outcome ≡ Outcome.Done) }
+    ensures failed { IfErr result (λ fault. fault ≡ DayFault.WriteFailed) }
 {
     write!(out, "{text}").map_err(|_| DayFault::WriteFailed)?;
-    out.flush().map_err(|_| DayFault::WriteFailed)
+    match out.flush() {
+        Ok(()) => Ok(Outcome::Done),
+        Err(_) => Err(DayFault::WriteFailed),
+    }
 }
 
 /// The words of the command line, of which the first is the program's name.
@@ -208,8 +231,8 @@ fn read_command_line<R: Env + AllocGlobal>(rt: &R) -> Result<Vec<String>, Failur
 /// statement, and the answers to its rows, their trades, the events of their orders and the levels behind them, as far as they are
 /// asked for, each to its file.
 ///
-/// The faults are those of the day, in their order. `WriteFailed` tells that a text didn't go out whole. Nothing
-/// of those behind it did.
+/// It answers whether the day is complete. The faults are those of the day, in their order. `WriteFailed` tells that a text didn't go out
+/// whole. Nothing of those behind it did.
 pub fn run<R: Threads + Wait + Sync, S: Read, O: Read, W: Write, F: Write>(
     rt: &R,
     storage: Storage<Global>,
@@ -219,7 +242,7 @@ pub fn run<R: Threads + Wait + Sync, S: Read, O: Read, W: Write, F: Write>(
     asked: AskedTexts,
     out: &mut W,
     files: &mut TextFiles<F>,
-) -> Result<(), DayFault>
+) -> Result<Completeness, DayFault>
     requires { length orders.old ≤ MAX_FILES }
     ensures ends { DayCallEnds concurrency asked HandsOn.Nothing (record { segment = S.remaining segment.old; carried = None; orders = map O.remaining orders.old })
         (outputs_of F.contents (record { old = W.contents out.old; new = W.contents out.new }) files.old files.new) result }
@@ -241,7 +264,7 @@ pub fn carry_over<R: Threads + Wait + Sync, S: Read, C: Read, O: Read, W: Write,
     asked: AskedTexts,
     out: &mut W,
     files: &mut TextFiles<F>,
-) -> Result<(), DayFault>
+) -> Result<Completeness, DayFault>
     requires { length orders.old ≤ MAX_FILES }
     ensures ends { DayCallEnds concurrency asked HandsOn.WhatIsLeft (record { segment = S.remaining segment.old; carried = Some (C.remaining carried.old); orders = map O.remaining orders.old })
         (outputs_of F.contents (record { old = W.contents out.old; new = W.contents out.new }) files.old files.new) result }
@@ -315,16 +338,18 @@ fn take_rows<R: Threads + Wait + Sync, O: Read>(
     }
 }
 
-/// Sends out the texts of a day, one after the other, or tells its fault.
+/// Sends out the texts of a day, one after the other, and answers whether it is complete; or tells its fault.
 fn send_day<W: Write, F: Write>(
     made: Result<DayTexts, DayFault>,
     out: &mut W,
     files: &mut TextFiles<F>,
-) -> Result<(), DayFault>
+) -> Result<Completeness, DayFault>
     ensures sent { DayIsSent (outputs_of F.contents (record { old = W.contents out.old; new = W.contents out.new }) files.old files.new) made result }
     ensures untouched { IfErr result (λ fault. fault ≢ DayFault.WriteFailed → out.new ≡ out.old) }
 {
-    send_texts(&made?, out, files)
+    let texts = made?;
+    send_texts(&texts, out, files)?;
+    Ok(texts.completeness)
 }
 
 /// Sends out the texts of a day, one after the other.
@@ -372,18 +397,21 @@ pub fn check<S: Read, W: Write>(
     }
 }
 
-/// Tells on a stream why the program ends without what it was asked for, and gives the status to end with.
+/// Tells on a stream why the program ends without what it was asked for, if it does, and gives the status to end with.
 ///
 /// Where that can't be written, the status tells alone.
-fn tell<E: Write>(complaints: &mut E, ended: Result<(), Failure>) -> ExitCode
+fn tell<E: Write>(complaints: &mut E, ended: Result<Outcome, Failure>) -> ExitCode
     ensures status { exit_status result ≡ end_status ended }
     ensures told { IsToldAs (E.contents complaints.old) (E.contents complaints.new) ended }
 {
-    let Err(failure) = ended else {
-        return ExitCode::SUCCESS;
+    let status = match ended {
+        Ok(outcome) => outcome.status(),
+        Err(failure) => {
+            let status = failure.status();
+            complain(complaints, failure);
+            status
+        }
     };
-    let status = failure.status();
-    complain(complaints, failure);
     ExitCode::from(status)
 }
 

@@ -4,16 +4,17 @@ ghost use Rattle.std.specs.List.{list_any};
 ghost use Rattle.clap.specs.Words.{app_of, fault_of, first_of, found_of, kind_of, new_app, one_of, rows_of, rule_of, subcommand_rows_of, takes};
 ghost use Rattle.clap.specs.declared.builder.command.Command.TheViews.{out-Command as fields_of};
 ghost use Rattle.clap.specs.declared.error.kind.ErrorKind.TheVariants as kind;
-ghost use Rattle.xm_program.specs.Requests.{AnswersWords, Asked, Asks, IsGranted, IsOfWords, IsRequest, IsTold, IsUnread, Meets, answer_of, are_apart, asked_in, asked_of, asked_texts, can_write, carried_by, carried_day_in, carry_app, check_app, concurrency_in, count_in, count_rule, day, day_app, day_in, inputs, kept_in, named_day, failure_status, file_rule, is_file, is_one_path, order_files, outputs, path_rule, paths_in, paths_rule, run_app, run_day_in, threads_in, top_app, with_options, workers_rule};
+ghost use Rattle.xm_program.specs.Requests.{AnswersWords, Asked, Asks, IsGranted, IsOfWords, IsRequest, IsTold, IsUnread, Meets, answer_of, are_apart, asked_in, asked_of, asked_texts, can_write, carried_by, carried_day_in, carry_app, check_app, concurrency_in, count_in, count_rule, day, day_app, day_in, inputs, kept_in, named_day, failure_status, file_rule, flag_rule, is_file, is_given, is_one_path, order_files, outputs, path_rule, paths_in, paths_rule, run_app, run_day_in, strictness_in, threads_in, top_app, with_options, workers_rule};
 
 use crate::concurrency::{Concurrency, concurrency_of};
 use crate::count::Count;
+use crate::outcome::Strictness;
 use crate::help_texts::{
     ANSWERS_HELP, ANSWERS_SHORT, CANNOT_KEEP, CANNOT_SHARE, CANNOT_TELL, CARRIED_HELP, CARRY_HELP,
     CARRY_SHORT, CARRY_USAGE, CHECK_HELP, CHECK_SHORT, DAY_HELP, DAY_SHORT, DEPTH_HELP,
     DEPTH_SHORT, EVENTS_HELP, EVENTS_SHORT, KEEP_HELP, KEEP_SHORT, KEPT_BY_OUT, KEPT_NOWHERE,
     ORDERS_AND_OUT_HELP, ORDERS_HELP, RUN_HELP, RUN_SHORT, SEGMENT_HELP, STATUS_HELP, THREADS_HELP,
-    THREADS_SHORT, TOO_MANY_FILES, TRADES_HELP, TRADES_SHORT, WORKERS_HELP, WORKERS_SHORT,
+    THREADS_SHORT, STRICT_HELP, STRICT_SHORT, TOO_MANY_FILES, TRADES_HELP, TRADES_SHORT, WORKERS_HELP, WORKERS_SHORT,
 };
 use arrayvec::ArrayVec;
 use clap::error::ErrorKind;
@@ -69,6 +70,11 @@ const EVENTS: &str = "events";
 
 const DEPTH: &str = "depth";
 
+const STRICT: &str = "strict";
+
+/// The value of a flag that was given.
+const GIVEN: &str = "true";
+
 /// By this word a file is standard output, where the statement goes.
 const STANDARD_OUTPUT: &str = "-";
 
@@ -93,6 +99,7 @@ pub struct DayRequest<'a> {
     pub carrying: Option<Carrying<'a>>,
     pub concurrency: Concurrency,
     pub texts: TextPaths<'a>,
+    pub strictness: Strictness,
 }
 
 /// The paths of the carry file that a day opens with, and of the one that it writes.
@@ -384,6 +391,7 @@ fn day_in<'a>(
             events: text_in(values, EVENTS),
             depth: text_in(values, DEPTH),
         },
+        strictness: strictness_in(values),
     };
     if day.can_be_written() {
         Some(Request::Day(day))
@@ -443,6 +451,27 @@ fn text_in<'a>(values: &ArgMatches<'a>, name: &str) -> Option<&'a str>
     ensures { option_map (λ s. s.now) result ≡ first_of name.now (rows_of (found_of values.now)) }
 {
     values.get_str(name)
+}
+
+/// How a day is judged, by the values of a subcommand.
+fn strictness_in(values: &ArgMatches<'_>) -> Strictness
+    ensures { result ≡ strictness_in (rows_of (found_of values.now)) }
+{
+    if is_given(text_in(values, STRICT)) {
+        Strictness::Strict
+    } else {
+        Strictness::Lenient
+    }
+}
+
+/// Whether the value of a flag says that it was given.
+fn is_given(value: Option<&str>) -> bool
+    ensures { result ≡ is_given (option_map (λ s. s.now) value.entry) }
+{
+    match value {
+        None => false,
+        Some(value) => value == GIVEN,
+    }
 }
 
 /// Whether no two of these paths are the same, and none is that of standard output.
@@ -595,7 +624,8 @@ fn with_options<'a>(alloc: Global, command: Command<'a>) -> Result<Command<'a>, 
         .arg(file(alloc, ANSWERS, FILE, ANSWERS_SHORT, ANSWERS_HELP))?
         .arg(file(alloc, TRADES, FILE, TRADES_SHORT, TRADES_HELP))?
         .arg(file(alloc, EVENTS, FILE, EVENTS_SHORT, EVENTS_HELP))?
-        .arg(file(alloc, DEPTH, FILE, DEPTH_SHORT, DEPTH_HELP))?;
+        .arg(file(alloc, DEPTH, FILE, DEPTH_SHORT, DEPTH_HELP))?
+        .arg(flag(alloc, STRICT, STRICT_SHORT, STRICT_HELP))?;
     Ok(command)
 }
 
@@ -674,6 +704,18 @@ fn file<'a>(alloc: Global, name: &'a str, value: &'a str, short: &'a str, long: 
         .long(name)
         .value_name(value)
         .action(ArgAction::Set)
+        .help(short)
+        .long_help(long)
+}
+
+/// A flag, with its help in short and at length.
+fn flag<'a>(alloc: Global, name: &'a str, short: &'a str, long: &'a str) -> Arg<'a>
+    ensures rule { rule_of result ≡ flag_rule name.entry.now }
+    ensures local { result.global ≡ false }
+{
+    Arg::new(alloc, name)
+        .long(name)
+        .action(ArgAction::SetTrue)
         .help(short)
         .long_help(long)
 }

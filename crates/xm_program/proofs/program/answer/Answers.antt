@@ -39,16 +39,16 @@ pub returns-in_ok-write_day-in-Day : goal.returns-in_ok-write_day-in-Day
 returns-in_ok-write_day-in-Day g c =
     let words = map string_bytes c.args.words.now in
     let answered : AnswersWords (fault_of day_app words) (asked_of words) (Ok (request.Day c.in-Day.request)) = search rules in
-    all-done _ _ (day (named_day c.in-Day.request)) _ _ answered.0 answered.1 c.in_ok-write_day-in-Day.ensures.ends
+    all-done _ _ (day (named_day c.in-Day.request)) _ _ _ answered.0 answered.1 c.in_ok-write_day-in-Day.ensures.ends
 
 pub returns-in_ok-check_file-in-Check : goal.returns-in_ok-check_file-in-Check
 returns-in_ok-check_file-in-Check g c =
     let words = map string_bytes c.args.words.now in
     let answered : AnswersWords (fault_of day_app words) (asked_of words) (Ok (request.Check c.in-Check.segment)) = search rules in
-    all-done _ _ (check c.in-Check.segment.now) _ _ answered.0 answered.1 c.in_ok-check_file-in-Check.ensures.ends
+    all-done _ _ (check c.in-Check.segment.now) _ _ _ answered.0 answered.1 c.in_ok-check_file-in-Check.ensures.ends
 
 pub returns-in_ok-print_help-in-Help : goal.returns-in_ok-print_help-in-Help
 returns-in_ok-print_help-in-Help g c =
     let words = map string_bytes c.args.words.now in
     let answered : AnswersWords (fault_of day_app words) (asked_of words) (Ok (request.Help c.in-Help.text)) = search rules in
-    inr (asks-help (fault_of day_app words) (asked_of words) c.in-Help.text answered)
+    inr (asks-help (fault_of day_app words) (asked_of words) c.in-Help.text answered, c.in_ok-print_help-in-Help.ensures.done)

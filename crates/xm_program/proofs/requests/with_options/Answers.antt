@@ -10,4 +10,5 @@ returns-clause-app c =
     let third_is = c.in_ok-arg-3.ensures.shape c.file.ensures.local ∙ ap₂ with_rule second_is c.file.ensures.rule in
     let fourth_is = c.in_ok-arg-4.ensures.shape c.file-2.ensures.local ∙ ap₂ with_rule third_is c.file-2.ensures.rule in
     let fifth_is = c.in_ok-arg-5.ensures.shape c.file-3.ensures.local ∙ ap₂ with_rule fourth_is c.file-3.ensures.rule in
-    c.in_ok-command.ensures.shape c.file-4.ensures.local ∙ ap₂ with_rule fifth_is c.file-4.ensures.rule
+    let sixth_is = c.in_ok-arg-6.ensures.shape c.file-4.ensures.local ∙ ap₂ with_rule fifth_is c.file-4.ensures.rule in
+    c.in_ok-command.ensures.shape c.flag.ensures.local ∙ ap₂ with_rule sixth_is c.flag.ensures.rule

@@ -1,0 +1,44 @@
+//! What comes of a call that met no fault, and the status that tells it.
+ghost use Rattle.std.specs.Prelude.{◌≡◌};
+ghost use Rattle.xm_program.specs.Outcomes.{outcome_of, outcome_status};
+
+use xm_day::Completeness;
+
+/// Whether the status tells that a day is incomplete.
+#[derive(Clone, Copy, PartialEq, Eq, Debug)]
+pub enum Strictness {
+    Lenient,
+    Strict,
+}
+
+/// What came of a call that met no fault.
+#[derive(Clone, Copy, PartialEq, Eq, Debug)]
+pub enum Outcome {
+    Done,
+    /// A strict day was written, of which a row was refused, or a security hasn't ended.
+    Incomplete,
+}
+
+impl Strictness {
+    /// What comes of a day that was written.
+    pub(crate) fn outcome(self, completeness: Completeness) -> Outcome
+        ensures { result ≡ outcome_of self completeness }
+    {
+        match (self, completeness) {
+            (Strictness::Strict, Completeness::Incomplete) => Outcome::Incomplete,
+            _ => Outcome::Done,
+        }
+    }
+}
+
+impl Outcome {
+    /// The status that the program then ends with.
+    pub fn status(self) -> u8
+        ensures { result ≡ outcome_status self }
+    {
+        match self {
+            Outcome::Done => 0,
+            Outcome::Incomplete => 4,
+        }
+    }
+}
