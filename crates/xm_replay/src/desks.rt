@@ -164,7 +164,10 @@ fn take_and_tell(
 
 /// Has the security of a row answer it. `OutOfMemory` comes only where no rule refuses the row.
 #[inline(always)]
-fn answer_row(desks: &mut [Desk<Global>], row: &Row) -> Result<Result<Reply, Refusal>, OutOfMemory>
+pub fn answer_row(
+    desks: &mut [Desk<Global>],
+    row: &Row,
+) -> Result<Result<Reply, Refusal>, OutOfMemory>
     ensures answer { IfOk result (λ answer. answer ≡ row_answer (map replay desks.old) row.now) }
     ensures taken { IfOk result (λ answer. (accepted refused : ℕ) → after_row (day_of desks.old accepted refused) row.now ≡ counted (day_of desks.new accepted refused) answer) }
     ensures memory { OnErr result ((accepted refused : ℕ) → Accepts (day_of desks.old accepted refused) row.now) }

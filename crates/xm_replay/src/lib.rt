@@ -10,7 +10,7 @@ mod report;
 mod runs;
 mod with_events;
 
-pub use crate::desks::OpenDay;
+pub use crate::desks::{OpenDay, answer_row};
 pub use crate::faults::DayFault;
 pub use crate::report::DayReport;
 pub use crate::runs::run_rows;

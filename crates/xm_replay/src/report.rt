@@ -15,7 +15,7 @@ pub struct DayReport {
 impl DayReport {
     /// The report with one row more, which was answered so.
     #[inline(always)]
-    pub(crate) fn counted(self, answer: &Result<Reply, Refusal>) -> DayReport
+    pub fn counted(self, answer: &Result<Reply, Refusal>) -> DayReport
         requires room { self.accepted + self.refused + 1 < 2 ^ 64 }
         ensures counted { (states : List State) → record { states = states; accepted = result.accepted; refused = result.refused } ≡ counted (record { states = states; accepted = self.accepted; refused = self.refused }) answer.now }
         ensures one { result.accepted + result.refused ≡ self.accepted + self.refused + 1 }
