@@ -11,20 +11,20 @@ ROOT = pathlib.Path(__file__).resolve().parent.parent
 MOST = {
     "README.md": 900,
     "CHANGELOG.md": 600,
-    "CONTRIBUTING.md": 2750,
-    "docs/ARCHITECTURE.md": 1200,
+    "CONTRIBUTING.md": 3500,
+    "docs/ARCHITECTURE.md": 1800,
     "docs/CASES.md": 1500,
-    "docs/DECISIONS.md": 2900,
-    "docs/FORMATS.md": 4400,
-    "docs/MARKET_MODEL.md": 2900,
-    "docs/PERFORMANCE.md": 1900,
+    "docs/DECISIONS.md": 3500,
+    "docs/FORMATS.md": 4500,
+    "docs/MARKET_MODEL.md": 3200,
+    "docs/PERFORMANCE.md": 2500,
     "docs/PROMISES.md": 3000,
-    "docs/TESTED.md": 1700,
+    "docs/TESTED.md": 1800,
     "docs/TWO_DAYS.md": 1500,
-    "docs/WHOLE_DAY.md": 1250,
-    "docs/WRONG_VARIANTS.md": 1150,
+    "docs/WHOLE_DAY.md": 1500,
+    "docs/WRONG_VARIANTS.md": 1500,
 }
-MOST_IN_ALL = 25_000
+MOST_IN_ALL = 28_000
 LONGEST_SENTENCE = 45
 # What is no file of the repository, though it is named as one: files that a build makes, and names that stand for any.
 MADE = ("out/",)

@@ -37,7 +37,7 @@ printf '#!/bin/sh\necho stand-in\n' >"$room/bin/rt"
 chmod +x "$room/bin/rt"
 PATH=$room/bin:$PATH
 printf 'xm_program: clap\nxetra_day: xm_program\n' >"$copy/crates.txt"
-echo 'const VERSION: &str = "7.0.0";' >"$copy/crates/xm_program/src/requests.rt"
+echo 'const VERSION: &str = "7.0.0";' >"$copy/crates/xm_program/src/command_lines.rt"
 echo 'fn main() {}' >"$copy/crates/xetra_day/src/main.rt"
 for file in README.md CHANGELOG.md CONTRIBUTING.md docs/PAGE.md examples/segment.toml crates/xetra_cases/data/one.orders.csv \
     crates/xetra_cases/index.json; do

@@ -40,7 +40,7 @@ fresh_copy() {
     printf '# layers\nxm_program: clap\nxetra_day: xm_program\nxm_tests tests_may=Wait: xm_program\n' >"$copy/crates.txt"
     cp -- "$here/dev/sources.sh" "$copy/dev"
     echo '// a test' >"$copy/crates/xm_tests/src/lib.rt"
-    cp -- "$here/crates/xm_program/src/requests.rt" "$copy/crates/xm_program/src"
+    cp -- "$here/crates/xm_program/src/command_lines.rt" "$copy/crates/xm_program/src"
     cp -- "$here/crates/xetra_day/src/main.rt" "$copy/crates/xetra_day/src"
     : >"$room/builds"
 }
@@ -83,7 +83,7 @@ case \$(cat "$room/mode") in
 esac
 mkdir -p out && cp "$room/program" out/xetra_day
 END
-version=$(sed -n 's/^const VERSION: &str = "\(.*\)";$/xetra-day \1/p' "$here/crates/xm_program/src/requests.rt")
+version=$(sed -n 's/^const VERSION: &str = "\(.*\)";$/xetra-day \1/p' "$here/crates/xm_program/src/command_lines.rt")
 cat >"$room/program" <<END
 #!/bin/sh
 case \$1 in
@@ -128,7 +128,7 @@ done
 check 'help before the first build, builds' '' "$(cat "$room/builds")"
 check 'the version before the first build' "$version" "$("$copy/xetra-day" --version)"
 check 'help before the first build, commands' \
-    "$(sed -n 's/^ *\.subcommand(\(.*\)_command(alloc)?)?;*$/\1/p' "$here/crates/xm_program/src/requests.rt")" \
+    "$(sed -n 's/^ *\.subcommand(\(.*\)_command(alloc)?)?;*$/\1/p' "$here/crates/xm_program/src/command_lines.rt")" \
     "$(sed -n 's/^\(Usage:\)* *xetra-day \([a-z]*\) .*/\2/p' "$room/out" | uniq)"
 ../copy/xetra-day run segment.toml orders.csv >"$room/out" 2>"$room/err"
 check 'a first call from another folder, status' 0 $?
@@ -192,11 +192,11 @@ sleep 3
 call who
 # Each leaves other sources, in a way that is seen.
 for change in 'mkdir crates/xetra_day/specs' 'mv crates/xetra_day/src/main.rt crates/xetra_day/src/other.rt' 'touch -d 2030-01-01 out/xetra-day.seen'; do
-    (cd "$copy" && $change && echo '// other' >>crates/xm_program/src/requests.rt)
+    (cd "$copy" && $change && echo '// other' >>crates/xm_program/src/command_lines.rt)
     PATH=$room/tools "$copy/xetra-day" who >"$room/out" 2>"$room/err"
     check "$change, status" 3 $?
     check "$change, why" yes "$(has_line "$room/err" 'not of these sources')"
-    sed -i '$d' "$copy/crates/xm_program/src/requests.rt"
+    sed -i '$d' "$copy/crates/xm_program/src/command_lines.rt"
     (cd "$copy" && rmdir crates/xetra_day/specs; mv crates/xetra_day/src/other.rt crates/xetra_day/src/main.rt) 2>/dev/null
 done
 call who

@@ -67,7 +67,7 @@ use std::sync::Wait;
 use std::thread::Threads;
 use std::{fs, io};
 use xm_config::OpenFault;
-use xm_day::{AskedTexts, DayFault};
+use xm_day::{AskedTexts, Completeness, DayFault};
 use xm_files::{FileCause, FileFault, OrdersFault};
 use xm_name_index::Storage;
 use xm_program::{
@@ -163,7 +163,7 @@ fn run_day(
     orders: &mut [impl Read],
     workers: u32,
     out: &mut impl Write,
-) -> Result<(), DayFault>
+) -> Result<Completeness, DayFault>
     requires { length orders.old ≤ MAX_FILES }
 {
     let storage = Storage::with_fixed_seed(rt.alloc());
@@ -246,7 +246,7 @@ fn tell_day(
     out: &mut impl Write,
     asked: AskedTexts,
     files: &mut TextFiles<Kept>,
-) -> Result<(), DayFault> {
+) -> Result<Completeness, DayFault> {
     let storage = Storage::with_fixed_seed(rt.alloc());
     let (mut segment, mut orders) = (SEGMENT.as_bytes(), [CASCADE.as_bytes()]);
     let mut carried = NONE_LEFT.as_bytes();
@@ -343,7 +343,7 @@ fn one_text_of_a_day(rt: HostRuntime) {
         depth: make_kept(rt.alloc(), false),
         carry: make_kept(rt.alloc(), false),
     };
-    assert!(rt; tell_day(&rt, &mut out, asked, &mut files) == Ok(()));
+    assert!(rt; tell_day(&rt, &mut out, asked, &mut files) == Ok(Completeness::Incomplete));
     assert!(rt; has_text(&files.depth));
 }
 

@@ -9,14 +9,14 @@ use Rattle.xm_program.specs.declared.outcome.Strictness.{Strictness}
 use Rattle.xm_program.specs.declared.outcome.Strictness.TheVariants.{Lenient, Strict}
 
 -- what comes of a day that was written: a strict one is done only where it is complete
-abbrev pub outcome_of : Strictness → Completeness → Outcome
-outcome_of Strict day.Complete = Done
-outcome_of Strict day.Incomplete = Incomplete
-outcome_of Lenient completeness = Done
+abbrev pub outcome_after : Strictness → Completeness → Outcome
+outcome_after Strict day.Complete = Done
+outcome_after Strict day.Incomplete = Incomplete
+outcome_after Lenient completeness = Done
 
 -- what comes of a day that may have a fault
 abbrev pub judged : Strictness → Result Completeness DayFault → Result Outcome DayFault
-judged strictness (Ok completeness) = Ok (outcome_of strictness completeness)
+judged strictness (Ok completeness) = Ok (outcome_after strictness completeness)
 judged strictness (Err fault) = Err fault
 
 -- what comes of what is done where it meets no fault

@@ -1,6 +1,6 @@
 //! What comes of a call that met no fault, and the status that tells it.
 ghost use Rattle.std.specs.Prelude.{◌≡◌};
-ghost use Rattle.xm_program.specs.Outcomes.{outcome_of, outcome_status};
+ghost use Rattle.xm_program.specs.Outcomes.{outcome_after, outcome_status};
 
 use xm_day::Completeness;
 
@@ -22,7 +22,7 @@ pub enum Outcome {
 impl Strictness {
     /// What comes of a day that was written.
     pub(crate) fn outcome(self, completeness: Completeness) -> Outcome
-        ensures { result ≡ outcome_of self completeness }
+        ensures { result ≡ outcome_after self completeness }
     {
         match (self, completeness) {
             (Strictness::Strict, Completeness::Incomplete) => Outcome::Incomplete,

@@ -18,6 +18,16 @@ ROWS 0 0
 
 const BAD_ROW: &str = orders!("walk,,,,,,,,,,,\n");
 
+/// The phases of a day, which ends.
+const ENDED: &str = orders!(
+    "open,,,*,,,,,,,,\nuncross,,,*,,,,,,,,\nclose,,,*,,,,,,,,\nuncross,,,*,,,,,,,,\nend,,,*,,,,,,,,\n"
+);
+
+/// The same, with a cancellation behind it, which is refused.
+const ENDED_BEFORE: &str = orders!(
+    "open,,,*,,,,,,,,\nuncross,,,*,,,,,,,,\nclose,,,*,,,,,,,,\nuncross,,,*,,,,,,,,\nend,,,*,,,,,,,,\ncancel,AAA,1,XYZ,,,,,,,,\n"
+);
+
 /// A carry file without an entry.
 const NONE_LEFT: &str = carried!("");
 
@@ -25,6 +35,8 @@ const FILES: &[(&str, &str)] = &[
     ("day.toml", SEGMENT),
     ("day.csv", HEADER),
     ("bad.csv", BAD_ROW),
+    ("ended.csv", ENDED),
+    ("before.csv", ENDED_BEFORE),
     ("wide.toml", BAD_WIDTHS),
     ("empty.toml", NO_SECURITY),
     ("in.csv", NONE_LEFT),
@@ -153,6 +165,42 @@ const STATEMENTS: [End; 7] = [
         b"run",
         b" spaced.toml\t",
         b"\n spaced.csv "
+    ),
+];
+
+/// A strict command line that ends with this status, whose statement ends so.
+macro_rules! judged {
+    ($status:expr, $end:expr, $($word:expr),*) => {
+        End {
+            words: &[b"xetra-day", $($word),*, b"--strict"],
+            status: $status,
+            printed: Printed::Between("DAY 20260105\nSECURITY XYZ ", $end),
+            complained: Printed::Nothing,
+            written: Printed::Nothing,
+        }
+    };
+}
+
+/// A strict day is done only where each row was accepted and each security has ended.
+const STRICT: [End; 7] = [
+    judged!(0, "ROWS 5 0\n", b"run", b"day.toml", b"ended.csv"),
+    judged!(0, "ROWS 5 0\n", b"run", b"day.toml", b"ended.csv", b"day.csv", b"--threads=2"),
+    judged!(4, "ROWS 5 1\n", b"run", b"day.toml", b"before.csv"),
+    judged!(4, "ROWS 5 1\n", b"run", b"day.toml", b"before.csv", b"--workers=2"),
+    judged!(4, "ROWS 0 0\n", b"run", b"day.toml", b"day.csv"),
+    complains!(
+        1,
+        Printed::Text("xetra-day: orders: line 2: BadField\n"),
+        b"run",
+        b"--strict",
+        b"day.toml",
+        b"bad.csv"
+    ),
+    prints!(
+        Printed::Between("DAY 20260105\nSECURITY XYZ ", "ROWS 5 1\n"),
+        b"run",
+        b"day.toml",
+        b"before.csv"
     ),
 ];
 
@@ -686,6 +734,7 @@ const MISTAKES: [End; 7] = [
 #[test]
 fn ends_of_runs(rt: HostRuntime) {
     are_ends(&rt, Stream::Kept, &STATEMENTS);
+    are_ends(&rt, Stream::Kept, &STRICT);
     are_ends(&rt, Stream::Kept, &WRITTEN);
     are_ends(&rt, Stream::Kept, &BOTH_WRITTEN);
     are_ends(&rt, Stream::Kept, &UNANSWERED);

@@ -96,6 +96,12 @@ Options:
           statement, the answers, the trades and the events. docs/FORMATS.md tells of each field. It goes with
           one worker.
 
+      --strict
+          Ends with status 4 where a row was refused, or a security hasn't ended
+          
+          What is written is the same with and without it: the statement tells how many rows were refused, and
+          `--answers FILE` why each was.
+
   -h, --help
           Print help (see a summary with '-h')
 
@@ -104,6 +110,7 @@ Exit status:
   1  it is not done: standard error has one line that names the fault
   2  the command line is mistaken
   3  the script xetra-day has no program to run: standard error says why
+  4  with --strict, it is done, and a row was refused, or a security hasn't ended
 ";
 
 /// What `check --help` prints.
@@ -127,6 +134,7 @@ Exit status:
   1  it is not done: standard error has one line that names the fault
   2  the command line is mistaken
   3  the script xetra-day has no program to run: standard error says why
+  4  with --strict, it is done, and a row was refused, or a security hasn't ended
 ";
 
 /// How each help text ends.
@@ -135,6 +143,7 @@ const STATUSES: &str = "Exit status:
   1  it is not done: standard error has one line that names the fault
   2  the command line is mistaken
   3  the script xetra-day has no program to run: standard error says why
+  4  with --strict, it is done, and a row was refused, or a security hasn't ended
 ";
 
 const WHOLE_HELP: Printed = Printed::Between("Replays a trading day of a segment", STATUSES);

@@ -5,7 +5,7 @@ use super::ends::{
 };
 use std::process::Abort;
 use xm_config::MAX_WORKERS;
-use xm_program::{Concurrency, Count, DayRequest, Failure, Request, TextPaths, read_words};
+use xm_program::{Concurrency, Count, DayRequest, Failure, Request, Strictness, TextPaths, read_words};
 
 /// Adds words to a command line.
 fn add_words(rt: &(impl Abort + AllocGlobal), line: &mut Vec<String>, words: &[&str]) {
@@ -54,11 +54,15 @@ fn day_asked(rt: &(impl Abort + AllocGlobal), request: &DayRequest<'_>) -> Strin
     let orders = listed(rt, request.orders.as_slice());
     let segment = request.segment;
     let (how, number) = taken(request.concurrency);
+    let judged = match request.strictness {
+        Strictness::Strict => "strictly ",
+        Strictness::Lenient => "",
+    };
     let day = match &request.carrying {
-        None => format!(in alloc; "run {segment} and {orders} {how} {number}"),
+        None => format!(in alloc; "{judged}run {segment} and {orders} {how} {number}"),
         Some(carrying) => {
             let (from, to) = (carrying.from, carrying.to);
-            format!(in alloc; "carry {segment}, {from} and {orders} to {to} {how} {number}")
+            format!(in alloc; "{judged}carry {segment}, {from} and {orders} to {to} {how} {number}")
         }
     };
     day.expect(rt, "memory")
@@ -106,7 +110,19 @@ macro_rules! untold {
     };
 }
 
-const RUNS: [Answered; 26] = [
+const RUNS: [Answered; 29] = [
+    (
+        &["run", "--strict", "day.toml", "day.csv"],
+        untold!("strictly run day.toml and day.csv on 0"),
+    ),
+    (
+        &["run", "day.toml", "day.csv", "--strict", "--strict"],
+        mistakes_run!("the argument '--strict' cannot be used multiple times"),
+    ),
+    (
+        &["run", "day.toml", "day.csv", "--strict=no"],
+        mistakes_run!("unexpected value 'no' for '--strict' found; no more were expected"),
+    ),
     (
         &["run", "day.toml", "day.csv"],
         untold!("run day.toml and day.csv on 0"),
@@ -239,7 +255,11 @@ const RUNS: [Answered; 26] = [
     ),
 ];
 
-const CARRIES: [Answered; 18] = [
+const CARRIES: [Answered; 19] = [
+    (
+        &["carry", "day.toml", "in.csv", "day.csv", "out.csv", "--strict"],
+        untold!("strictly carry day.toml, in.csv and day.csv to out.csv on 0"),
+    ),
     (
         &["carry", "day.toml", "in.csv", "day.csv", "out.csv"],
         untold!("carry day.toml, in.csv and day.csv to out.csv on 0"),
