@@ -53,7 +53,7 @@ kit_version() {
 
 # The version of the program, by its sources.
 program_version() {
-    sed -n 's/^const VERSION: &str = "\(.*\)";$/\1/p' "$root/crates/xm_program/src/requests.rt"
+    sed -n 's/^const VERSION: &str = "\(.*\)";$/\1/p' "$root/crates/xm_program/src/command_lines.rt"
 }
 
 sha256_of() {

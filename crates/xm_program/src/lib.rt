@@ -1,12 +1,13 @@
 //! What the program `xetra-day` does with its command line: it runs a day of its files, also one that opens with
 //! what earlier days left, checks a segment file, or prints its help.
 //!
-//! `requests` reads the command line, whose help stands in `help_texts`, and `program` does that. `concurrency` says whether threads or
-//! workers take the rows, and a `count` how many. `outputs` makes the files of the texts, by what lies at their `places`; `inputs` opens
-//! those that are read. `outcome` is what comes of a call, and `fault_lines` has the line that tells a fault; `complaints` is standard
-//! error, as a writer.
+//! `requests` reads the command line, which `command_lines` describes and whose help stands in `help_texts`, and `program` does that.
+//! `concurrency` says whether threads or workers take the rows, and a `count` how many. `outputs` makes the files of the texts, by what
+//! lies at their `places`; `inputs` opens those that are read. `outcome` is what comes of a call, and `fault_lines` has the line that
+//! tells a fault; `complaints` is standard error, as a writer.
 #![tactic(auto)]
 
+mod command_lines;
 mod complaints;
 mod concurrency;
 mod count;

@@ -30,8 +30,8 @@ use std::thread::Threads;
 use std::{env, fs, io, thread};
 use xm_config::SegmentConfig;
 use xm_day::{
-    AskedTexts, Completeness, DayFault, DayTexts, HandsOn, TakenDay, day_texts, open_carried_files, open_files,
-    send_statement, take_on_threads, take_shared,
+    AskedTexts, Completeness, DayFault, DayTexts, HandsOn, TakenDay, day_texts, open_carried_files,
+    open_files, send_statement, take_on_threads, take_shared,
 };
 use xm_files::SegmentNames;
 use xm_memory::OutOfMemory;
@@ -211,10 +211,8 @@ fn print_help<W: Write>(text: Error, out: &mut W) -> Result<Outcome, DayFault>
     ensures failed { IfErr result (λ fault. fault ≡ DayFault.WriteFailed) }
 {
     write!(out, "{text}").map_err(|_| DayFault::WriteFailed)?;
-    match out.flush() {
-        Ok(()) => Ok(Outcome::Done),
-        Err(_) => Err(DayFault::WriteFailed),
-    }
+    out.flush().map_err(|_| DayFault::WriteFailed)?;
+    Ok(Outcome::Done)
 }
 
 /// The words of the command line, of which the first is the program's name.

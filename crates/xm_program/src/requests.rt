@@ -1,76 +1,32 @@
 //! What the words of the command line ask for.
 ghost use Rattle.std.specs.Prelude.{◌≡◌, ◌≤◌, [], IfOk, IfErr, IfSome, IsSome, None, map, option_and_then, option_map, string_bytes, false, true};
 ghost use Rattle.std.specs.List.{list_any};
-ghost use Rattle.clap.specs.Words.{app_of, fault_of, first_of, found_of, kind_of, new_app, one_of, rows_of, rule_of, subcommand_rows_of, takes};
-ghost use Rattle.clap.specs.declared.builder.command.Command.TheViews.{out-Command as fields_of};
+ghost use Rattle.clap.specs.Words.{app_of, fault_of, first_of, found_of, kind_of, one_of, rows_of, subcommand_rows_of, takes};
 ghost use Rattle.clap.specs.declared.error.kind.ErrorKind.TheVariants as kind;
-ghost use Rattle.xm_program.specs.Requests.{AnswersWords, Asked, Asks, IsGranted, IsOfWords, IsRequest, IsTold, IsUnread, Meets, answer_of, are_apart, asked_in, asked_of, asked_texts, can_write, carried_by, carried_day_in, carry_app, check_app, concurrency_in, count_in, count_rule, day, day_app, day_in, inputs, kept_in, named_day, failure_status, file_rule, flag_rule, is_file, is_given, is_one_path, order_files, outputs, path_rule, paths_in, paths_rule, run_app, run_day_in, strictness_in, threads_in, top_app, with_options, workers_rule};
+ghost use Rattle.xm_program.specs.Requests.{AnswersWords, Asked, Asks, IsGranted, IsOfWords, IsRequest, IsTold, IsUnread, Meets, answer_of, are_apart, asked_in, asked_of, asked_texts, can_write, carried_by, carried_day_in, concurrency_in, count_in, day, day_app, day_in, inputs, kept_in, named_day, failure_status, is_file, is_given, is_one_path, order_files, outputs, paths_in, run_day_in, strictness_in, threads_in};
 
+use crate::command_lines::{
+    ANSWERS, CARRIED, CARRY, CHECK, DEPTH, EVENTS, HELP, KEEP, ORDERS, RUN, SEGMENT, STRICT,
+    THREADS, TRADES, WORKERS, carry_command, command_line, run_command,
+};
 use crate::concurrency::{Concurrency, concurrency_of};
 use crate::count::Count;
-use crate::outcome::Strictness;
 use crate::help_texts::{
-    ANSWERS_HELP, ANSWERS_SHORT, CANNOT_KEEP, CANNOT_SHARE, CANNOT_TELL, CARRIED_HELP, CARRY_HELP,
-    CARRY_SHORT, CARRY_USAGE, CHECK_HELP, CHECK_SHORT, DAY_HELP, DAY_SHORT, DEPTH_HELP,
-    DEPTH_SHORT, EVENTS_HELP, EVENTS_SHORT, KEEP_HELP, KEEP_SHORT, KEPT_BY_OUT, KEPT_NOWHERE,
-    ORDERS_AND_OUT_HELP, ORDERS_HELP, RUN_HELP, RUN_SHORT, SEGMENT_HELP, STATUS_HELP, THREADS_HELP,
-    THREADS_SHORT, STRICT_HELP, STRICT_SHORT, TOO_MANY_FILES, TRADES_HELP, TRADES_SHORT, WORKERS_HELP, WORKERS_SHORT,
+    CANNOT_KEEP, CANNOT_SHARE, CANNOT_TELL, KEPT_BY_OUT, KEPT_NOWHERE, TOO_MANY_FILES,
 };
+use crate::outcome::Strictness;
 use arrayvec::ArrayVec;
 use clap::error::ErrorKind;
-use clap::{Arg, ArgAction, ArgMatches, Command, Error, value_parser};
+use clap::{ArgMatches, Command, Error};
 use std::alloc::Global;
 use std::io;
 use strsim::osa_distance;
-use xm_config::MAX_WORKERS;
 use xm_day::{AskedTexts, DayFault};
 use xm_files::MAX_FILES;
 use xm_memory::OutOfMemory;
 
-/// What `--version` prints behind the name; the script `xetra-day` reads it here.
-const VERSION: &str = "0.3.0";
-
-const PROGRAM: &str = "xetra-day";
-
-const RUN: &str = "run";
-
-const CARRY: &str = "carry";
-
-const CHECK: &str = "check";
-
-/// The command that prints help, which clap adds.
-const HELP: &str = "help";
-
-const SEGMENT: &str = "SEGMENT";
-
-const CARRIED: &str = "IN";
-
-const ORDERS: &str = "ORDERS";
-
-const KEEP: &str = "out";
-
-const WORKERS: &str = "workers";
-
-const THREADS: &str = "threads";
-
-/// The value of an option that is the path of a file.
-const FILE: &str = "FILE";
-
-/// The value of `--out`.
-const OUT: &str = "OUT";
-
 /// So many files a day is read from at most, with the segment file and the carry file.
 const MAX_INPUTS: usize = MAX_FILES + 2;
-
-const ANSWERS: &str = "answers";
-
-const TRADES: &str = "trades";
-
-const EVENTS: &str = "events";
-
-const DEPTH: &str = "depth";
-
-const STRICT: &str = "strict";
 
 /// The value of a flag that was given.
 const GIVEN: &str = "true";
@@ -563,159 +519,4 @@ fn bytes_error(alloc: Global) -> Result<Error, OutOfMemory>
     let message = "a word of the command line is not UTF-8 text";
     let mut command = command_line(alloc)?;
     Ok(command.error(ErrorKind::ValueValidation, message)?)
-}
-
-/// The command line of the program.
-fn command_line<'a>(alloc: Global) -> Result<Command<'a>, OutOfMemory>
-    ensures { IfOk result (λ command. app_of command ≡ day_app) }
-{
-    let command = top_command(alloc)
-        .bin_name(PROGRAM)?
-        .subcommand(run_command(alloc)?)?
-        .subcommand(carry_command(alloc)?)?
-        .subcommand(check_command(alloc)?)?;
-    Ok(command)
-}
-
-/// The command line without its parts.
-fn top_command<'a>(alloc: Global) -> Command<'a>
-    ensures { app_of result ≡ top_app }
-{
-    titled(alloc, PROGRAM, DAY_SHORT, DAY_HELP)
-        .version(VERSION)
-        .subcommand_required(true)
-        .arg_required_else_help(true)
-}
-
-/// The part of the command line that runs a day.
-fn run_command<'a>(alloc: Global) -> Result<Command<'a>, OutOfMemory>
-    ensures app { IfOk result (λ command. app_of command ≡ run_app) }
-    ensures local { IfOk result (λ command. (fields_of command).has_globals ≡ false) }
-{
-    let command = titled(alloc, RUN, RUN_SHORT, RUN_HELP)
-        .arg(path(alloc, SEGMENT, SEGMENT_HELP))?
-        .arg(paths(alloc, ORDERS, MAX_FILES, ORDERS_HELP))?;
-    with_options(alloc, command)
-}
-
-/// The part of the command line that runs a day with a carry file, and writes one.
-fn carry_command<'a>(alloc: Global) -> Result<Command<'a>, OutOfMemory>
-    ensures app { IfOk result (λ command. app_of command ≡ carry_app) }
-    ensures local { IfOk result (λ command. (fields_of command).has_globals ≡ false) }
-{
-    let command = titled(alloc, CARRY, CARRY_SHORT, CARRY_HELP)
-        .override_usage(CARRY_USAGE)
-        .arg(path(alloc, SEGMENT, SEGMENT_HELP))?
-        .arg(path(alloc, CARRIED, CARRIED_HELP))?
-        .arg(paths(alloc, ORDERS, MAX_FILES + 1, ORDERS_AND_OUT_HELP))?
-        .arg(file(alloc, KEEP, OUT, KEEP_SHORT, KEEP_HELP))?;
-    with_options(alloc, command)
-}
-
-/// The same part, with the options of a day.
-fn with_options<'a>(alloc: Global, command: Command<'a>) -> Result<Command<'a>, OutOfMemory>
-    requires { (fields_of command).has_globals ≡ false }
-    ensures app { IfOk result (λ with. app_of with ≡ with_options (app_of command.entry)) }
-    ensures local { IfOk result (λ with. (fields_of with).has_globals ≡ false) }
-{
-    let command = command
-        .arg(workers(alloc))?
-        .arg(count(alloc, THREADS, THREADS_SHORT, THREADS_HELP))?
-        .arg(file(alloc, ANSWERS, FILE, ANSWERS_SHORT, ANSWERS_HELP))?
-        .arg(file(alloc, TRADES, FILE, TRADES_SHORT, TRADES_HELP))?
-        .arg(file(alloc, EVENTS, FILE, EVENTS_SHORT, EVENTS_HELP))?
-        .arg(file(alloc, DEPTH, FILE, DEPTH_SHORT, DEPTH_HELP))?
-        .arg(flag(alloc, STRICT, STRICT_SHORT, STRICT_HELP))?;
-    Ok(command)
-}
-
-/// The part of the command line that checks a segment file.
-fn check_command<'a>(alloc: Global) -> Result<Command<'a>, OutOfMemory>
-    ensures app { IfOk result (λ command. app_of command ≡ check_app) }
-    ensures local { IfOk result (λ command. (fields_of command).has_globals ≡ false) }
-{
-    let segment = path(alloc, SEGMENT, SEGMENT_HELP);
-    Ok(titled(alloc, CHECK, CHECK_SHORT, CHECK_HELP).arg(segment)?)
-}
-
-/// A command with its help in short and at length, behind which the exit statuses stand.
-fn titled<'a>(alloc: Global, name: &'a str, short: &'a str, long: &'a str) -> Command<'a>
-    ensures app { app_of result ≡ new_app name.entry.now }
-    ensures local { (fields_of result).has_globals ≡ false }
-{
-    Command::new(alloc, name)
-        .about(short)
-        .long_about(long)
-        .after_help(STATUS_HELP)
-}
-
-/// The path of a file, which has to be given, with its help.
-fn path<'a>(alloc: Global, name: &'a str, help: &'a str) -> Arg<'a>
-    ensures rule { rule_of result ≡ path_rule name.entry.now }
-    ensures local { result.global ≡ false }
-{
-    Arg::new(alloc, name)
-        .required(true)
-        .action(ArgAction::Set)
-        .help(help)
-}
-
-/// The paths of files, of which one has to be given, and at most so many in a row, with their help.
-fn paths<'a>(alloc: Global, name: &'a str, most: usize, help: &'a str) -> Arg<'a>
-    requires { 1 ≤ most }
-    ensures rule { rule_of result ≡ paths_rule name.entry.now most }
-    ensures local { result.global ≡ false }
-{
-    Arg::new(alloc, name)
-        .required(true)
-        .action(ArgAction::Append)
-        .num_args(1..=most)
-        .help(help)
-}
-
-/// The number of workers, which is 1 where it is left out.
-fn workers<'a>(alloc: Global) -> Arg<'a>
-    ensures rule { rule_of result ≡ workers_rule }
-    ensures local { result.global ≡ false }
-{
-    count(alloc, WORKERS, WORKERS_SHORT, WORKERS_HELP).default_value("1")
-}
-
-/// A number of workers or of threads, which may be left out, with its help in short and at length.
-fn count<'a>(alloc: Global, name: &'a str, short: &'a str, long: &'a str) -> Arg<'a>
-    ensures rule { rule_of result ≡ count_rule name.entry.now }
-    ensures local { result.global ≡ false }
-{
-    Arg::new(alloc, name)
-        .long(name)
-        .value_name("N")
-        .action(ArgAction::Set)
-        .value_parser(value_parser!(u32).range(1..=i64::from(MAX_WORKERS)))
-        .help(short)
-        .long_help(long)
-}
-
-/// The path of a file that is written beside the statement, which may be left out, with its help in short and at length.
-fn file<'a>(alloc: Global, name: &'a str, value: &'a str, short: &'a str, long: &'a str) -> Arg<'a>
-    ensures rule { rule_of result ≡ file_rule name.entry.now }
-    ensures local { result.global ≡ false }
-{
-    Arg::new(alloc, name)
-        .long(name)
-        .value_name(value)
-        .action(ArgAction::Set)
-        .help(short)
-        .long_help(long)
-}
-
-/// A flag, with its help in short and at length.
-fn flag<'a>(alloc: Global, name: &'a str, short: &'a str, long: &'a str) -> Arg<'a>
-    ensures rule { rule_of result ≡ flag_rule name.entry.now }
-    ensures local { result.global ≡ false }
-{
-    Arg::new(alloc, name)
-        .long(name)
-        .action(ArgAction::SetTrue)
-        .help(short)
-        .long_help(long)
 }

@@ -2,7 +2,7 @@ use Rattle.std.proofs.Common.{ap, ap₂, ◌≡◌, ◌∙◌, IfOk, codes, subs
 use Rattle.clap.specs.Words.{App, app_of, new_app, with_rule}
 use Rattle.clap.specs.Simple.{app_of_fields}
 use Rattle.xm_program.specs.Requests.{with_options}
-use Rattle.xm_program.proofs.requests.carry_command.Goals as goal
+use Rattle.xm_program.proofs.command_lines.carry_command.Goals as goal
 
 pub returns-clause-app : goal.returns-clause-app
 returns-clause-app c =

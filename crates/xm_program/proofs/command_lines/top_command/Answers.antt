@@ -1,7 +1,7 @@
 use Rattle.std.proofs.Common.{ap, ◌≡◌, ◌∙◌, true, codes}
 use Rattle.clap.specs.Words.{App, app_of, new_app}
 use Rattle.clap.specs.Simple.{app_of_fields, on_top}
-use Rattle.xm_program.proofs.requests.top_command.Goals as goal
+use Rattle.xm_program.proofs.command_lines.top_command.Goals as goal
 
 abbrev with_version : App → App
 with_version = on_top (λ s. record s { has_version = true })

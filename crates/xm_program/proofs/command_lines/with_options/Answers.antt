@@ -1,7 +1,7 @@
 use Rattle.std.proofs.Common.{ap₂, ◌≡◌, ◌∙◌, refl}
 use Rattle.clap.specs.Words.{app_of, with_rule}
 use Rattle.xm_program.specs.Requests.{workers_rule}
-use Rattle.xm_program.proofs.requests.with_options.Goals as goal
+use Rattle.xm_program.proofs.command_lines.with_options.Goals as goal
 
 pub returns-clause-app : goal.returns-clause-app
 returns-clause-app c =

@@ -1,7 +1,7 @@
 use Rattle.std.proofs.Common.{rules, ap, ap₂, ◌≡◌, ◌∙◌}
 use Rattle.clap.specs.Words.{App, app_of, shape_of, with_subcommand}
 use Rattle.xm_program.specs.Requests.{carry_app, check_app, run_app, top_app}
-use Rattle.xm_program.proofs.requests.command_line.Goals as goal
+use Rattle.xm_program.proofs.command_lines.command_line.Goals as goal
 
 pub returns : goal.returns
 returns c =
