@@ -7,7 +7,7 @@ use std::io::Read;
 use std::rt::Files;
 use std::sync::Wait;
 use std::thread::Threads;
-use xm_day::{AskedTexts, DayFault};
+use xm_day::{AskedTexts, Completeness, DayFault};
 use xm_files::MAX_FILES;
 use xm_name_index::Storage;
 use xm_program::{
@@ -69,7 +69,7 @@ fn is_carry_as_stored<R: AllocGlobal + Files + Print + Threads + Wait + Sync, C:
     let mut statement = Vec::new(rt.alloc());
     let mut files = made_files(rt);
     match carry_day(rt, name, carried, threads, &mut statement, &mut files)? {
-        Ok(()) => {
+        Ok(_) => {
             let left = differences::is_stored(rt, name, "out.csv", text_of(&files.carry))?;
             let answers = text_of(&files.answers);
             let answers = differences::is_stored_if_any(rt, name, "answers.csv", answers)?;
@@ -88,7 +88,7 @@ fn carry_day<R: AllocGlobal + Files + Threads + Wait + Sync, C: Read>(
     threads: Count,
     statement: &mut Vec<u8>,
     files: &mut TextFiles<Vec<u8>>,
-) -> Result<Result<(), DayFault>, CaseFault> {
+) -> Result<Result<Completeness, DayFault>, CaseFault> {
     let (mut segment, mut orders) = open_files(rt, name)?;
     if orders.len() > MAX_FILES {
         return Err(CaseFault);
@@ -116,7 +116,7 @@ fn is_run_as_stored<R: AllocGlobal + Files + Print + Threads + Wait + Sync>(
     let mut statement = Vec::new(rt.alloc());
     let mut files = made_files(rt);
     match run_day(rt, name, threads, &mut statement, &mut files)? {
-        Ok(()) => {
+        Ok(_) => {
             let answers = differences::is_stored(rt, name, "answers.csv", text_of(&files.answers))?;
             let others = are_as_stored(rt, name, statement.as_slice(), &files)?;
             Ok(answers && others)
@@ -132,7 +132,7 @@ fn run_day<R: AllocGlobal + Files + Threads + Wait + Sync>(
     threads: Count,
     statement: &mut Vec<u8>,
     files: &mut TextFiles<Vec<u8>>,
-) -> Result<Result<(), DayFault>, CaseFault> {
+) -> Result<Result<Completeness, DayFault>, CaseFault> {
     let (mut segment, mut orders) = open_files(rt, name)?;
     if orders.len() > MAX_FILES {
         return Err(CaseFault);

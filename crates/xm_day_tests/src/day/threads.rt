@@ -9,8 +9,8 @@ use std::io::{ErrorKind, Read};
 use std::process::Abort;
 use std::thread::Threads;
 use xm_day::{
-    AskedTexts, DayFault, DayTexts, HandsOn, StatementText, day_texts, open_carried_files,
-    send_statement, take_on_threads,
+    AskedTexts, Completeness, DayFault, DayTexts, HandsOn, StatementText, day_texts,
+    open_carried_files, send_statement, take_on_threads,
 };
 use xm_files::{FileCause, FileFault, MAX_FILES, OrdersFault};
 use xm_name_index::Storage;
@@ -33,6 +33,7 @@ pub(super) const NONE: &str = carried!("");
 #[derive(Drop)]
 pub(super) struct Told {
     pub(super) answer: Answer,
+    completeness: Option<Completeness>,
     pub(super) statement: Vec<u8>,
     answers: Vec<u8>,
     trades: Vec<u8>,
@@ -44,6 +45,7 @@ pub(super) struct Told {
 impl Told {
     fn is(&self, other: &Told) -> bool {
         self.answer == other.answer
+            && self.completeness == other.completeness
             && self.statement == other.statement
             && self.answers == other.answers
             && self.trades == other.trades
@@ -65,9 +67,11 @@ fn told_of(rt: &(impl Abort + AllocGlobal), ended: Result<DayTexts, DayFault>) -
                 depth,
                 carry,
                 report,
+                completeness,
             } = day;
             Told {
                 answer: Ok((report.accepted, report.refused)),
+                completeness: Some(completeness),
                 statement: written(rt, &statement),
                 answers,
                 trades,
@@ -78,6 +82,7 @@ fn told_of(rt: &(impl Abort + AllocGlobal), ended: Result<DayTexts, DayFault>) -
         }
         Err(fault) => Told {
             answer: Err(fault),
+            completeness: None,
             statement: Vec::new(rt.alloc()),
             answers: Vec::new(rt.alloc()),
             trades: Vec::new(rt.alloc()),

@@ -184,9 +184,24 @@ macro_rules! judged {
 /// A strict day is done only where each row was accepted and each security has ended.
 const STRICT: [End; 7] = [
     judged!(0, "ROWS 5 0\n", b"run", b"day.toml", b"ended.csv"),
-    judged!(0, "ROWS 5 0\n", b"run", b"day.toml", b"ended.csv", b"day.csv", b"--threads=2"),
+    judged!(
+        0,
+        "ROWS 5 0\n",
+        b"run",
+        b"day.toml",
+        b"ended.csv",
+        b"day.csv",
+        b"--threads=2"
+    ),
     judged!(4, "ROWS 5 1\n", b"run", b"day.toml", b"before.csv"),
-    judged!(4, "ROWS 5 1\n", b"run", b"day.toml", b"before.csv", b"--workers=2"),
+    judged!(
+        4,
+        "ROWS 5 1\n",
+        b"run",
+        b"day.toml",
+        b"before.csv",
+        b"--workers=2"
+    ),
     judged!(4, "ROWS 0 0\n", b"run", b"day.toml", b"day.csv"),
     complains!(
         1,

@@ -5,7 +5,9 @@ use super::ends::{
 };
 use std::process::Abort;
 use xm_config::MAX_WORKERS;
-use xm_program::{Concurrency, Count, DayRequest, Failure, Request, Strictness, TextPaths, read_words};
+use xm_program::{
+    Concurrency, Count, DayRequest, Failure, Request, Strictness, TextPaths, read_words,
+};
 
 /// Adds words to a command line.
 fn add_words(rt: &(impl Abort + AllocGlobal), line: &mut Vec<String>, words: &[&str]) {
@@ -257,7 +259,9 @@ const RUNS: [Answered; 29] = [
 
 const CARRIES: [Answered; 19] = [
     (
-        &["carry", "day.toml", "in.csv", "day.csv", "out.csv", "--strict"],
+        &[
+            "carry", "day.toml", "in.csv", "day.csv", "out.csv", "--strict",
+        ],
         untold!("strictly carry day.toml, in.csv and day.csv to out.csv on 0"),
     ),
     (
