@@ -123,7 +123,9 @@ const RUNS: [Answered; 29] = [
     ),
     (
         &["run", "day.toml", "day.csv", "--strict=no"],
-        mistakes_run!("unexpected value 'no' for '--strict' found; no more were expected"),
+        Printed::Text(
+            "error: unexpected value 'no' for '--strict' found; no more were expected\n\nUsage: xetra-day run --strict <SEGMENT> <ORDERS>...\n\nFor more information, try '--help'.\n",
+        ),
     ),
     (
         &["run", "day.toml", "day.csv"],
