@@ -20,9 +20,9 @@ pub use crate::calls::{
     carry, carry_alone, carry_day, run_alone, run_day, run_orders, send_statement, statement,
 };
 pub use crate::checks::check;
-pub use crate::opening::{open_carried_files, open_files};
+pub use crate::opening::{open_carried_files, open_day_files, open_files};
 pub use crate::statement_text::StatementText;
 pub use crate::taking::{TakenDay, take_in_order, take_on_threads, take_shared};
-pub use crate::value::{Completeness, DayTexts, HandsOn, day_texts};
+pub use crate::value::{Completeness, DayTexts, HandsOn, completeness_of, day_texts};
 pub use xm_replay::{DayFault, DayReport};
 pub use xm_texts::AskedTexts;

@@ -1,5 +1,5 @@
 //! The files that a segment opens with.
-ghost use Rattle.std.specs.Prelude.{◌≡◌, IfOk, None, Some, length};
+ghost use Rattle.std.specs.Prelude.{◌≡◌, IfOk, None, Some, length, option_map};
 ghost use Rattle.xm_day.specs.Days.{OpeningRead};
 
 use std::alloc::Global;
@@ -23,6 +23,24 @@ pub fn open_files<S: Read>(
     match read_segment(storage.alloc, segment) {
         Ok(read) => Ok(read),
         Err(fault) => Err(DayFault::Segment(fault)),
+    }
+}
+
+/// Reads a segment file, and a carry file if there is one.
+///
+/// `Segment`, `Carry`: the file has a fault.
+pub fn open_day_files<S: Read, C: Read>(
+    storage: Storage<Global>,
+    segment: &mut S,
+    carried: &mut Option<C>,
+) -> Result<(SegmentConfig, SegmentNames), DayFault>
+    ensures read { OpeningRead (S.remaining segment.old) (option_map C.remaining carried.old) result }
+    ensures securities { IfOk result (λ read. length read.1.securities ≡ length read.0.securities) }
+    ensures members { IfOk result (λ read. length read.1.members ≡ read.0.members) }
+{
+    match carried {
+        None => open_files(storage, segment),
+        Some(carried) => open_carried_files(storage, segment, carried),
     }
 }
 

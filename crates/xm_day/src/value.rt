@@ -1,7 +1,8 @@
 //! The texts of a day.
 ghost use Rattle.std.specs.Prelude.{◌≡◌, IfOk, length, map};
 ghost use Rattle.std.specs.List.{list_all};
-ghost use Rattle.xm_day.specs.Days.{HasTextsOf, completeness_of, hands_on, has_ended, taken_day, text_where};
+ghost use Rattle.xm_config.specs.Day.{day_of};
+ghost use Rattle.xm_day.specs.Days.{HasTextsOf, completeness_of, hands_on, has_ended, text_where};
 ghost use Rattle.xm_texts.specs.Carry.{carry_text};
 ghost use Rattle.xm_rules.specs.Step.{replay};
 
@@ -60,7 +61,7 @@ pub fn day_texts(
     ensures { HasTextsOf names.now handing taken result }
 {
     let TakenDay { day, statement } = taken?;
-    let completeness = completeness_of(&day);
+    let completeness = completeness_of(day.desks.as_slice(), &day.report);
     let OpenDay {
         desks,
         report,
@@ -79,11 +80,11 @@ pub fn day_texts(
     })
 }
 
-/// Whether a day whose rows are taken is complete.
-fn completeness_of(day: &OpenDay) -> Completeness
-    ensures { result ≡ completeness_of (taken_day day.now) }
+/// Whether the day of desks that took rows, and counted these, is complete.
+pub fn completeness_of(desks: &[Desk<Global>], report: &DayReport) -> Completeness
+    ensures { result ≡ completeness_of (day_of desks.now report.now.accepted report.now.refused) }
 {
-    if day.report.refused == 0 && have_ended(day.desks.as_slice()) {
+    if report.refused == 0 && have_ended(desks) {
         Completeness::Complete
     } else {
         Completeness::Incomplete

@@ -1,5 +1,7 @@
 -- The faults of files.
 use Rattle.std.specs.Prelude.{ℕ, ◌+◌, ◌-◌, ◌==◌, Bool, true, false, if◌then◌else◌, Result, Ok, Err}
+use Rattle.xm_files.specs.declared.bytes.ReadFault.{ReadFault}
+use Rattle.xm_files.specs.declared.bytes.ReadFault.TheVariants as reading
 use Rattle.xm_files.specs.declared.file_faults.FileCause.{FileCause}
 use Rattle.xm_files.specs.declared.file_faults.FileCause.TheVariants.{ReadFailed, TooLong, OutOfMemory}
 use Rattle.xm_files.specs.declared.file_faults.FileFault.{FileFault}
@@ -14,6 +16,12 @@ of_reading ReadFailed = true
 of_reading TooLong = true
 of_reading (OutOfMemory _) = true
 of_reading _ = false
+
+-- the cause by which a run tells why a file was not read
+abbrev pub cause_of : ReadFault → FileCause
+cause_of (reading.Failed error) = ReadFailed
+cause_of reading.TooLong = TooLong
+cause_of (reading.OutOfMemory refused) = OutOfMemory refused
 
 -- the reader and the memory decide, and not the bytes
 abbrev pub is_from_outside : FileCause → Bool

@@ -41,7 +41,7 @@ mod timetable;
 mod wide;
 
 pub use crate::batch::Batch;
-pub use crate::bytes::MAX_BYTES;
+pub use crate::bytes::{MAX_BYTES, ReadFault, read_file};
 pub use crate::carry::read_carry;
 pub use crate::file_faults::{FileCause, FileFault, OrdersFault};
 pub use crate::file_parts::FileParts;

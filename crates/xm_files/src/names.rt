@@ -287,7 +287,7 @@ impl SegmentNames {
 
     /// The index of the security with this name, or the number of securities where none has it.
     #[inline(always)]
-    pub(crate) fn security_index(&self, name: &[u8]) -> u32
+    pub fn security_index(&self, name: &[u8]) -> u32
         ensures { result ≡ position_or_len (bytes_eq name.now) self.now.securities }
     {
         self.securities.index_of(name)

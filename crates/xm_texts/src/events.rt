@@ -4,7 +4,7 @@ ghost use Rattle.std.specs.List.{flat_map};
 ghost use Rattle.xm_events.specs.declared.events.Event.{Event};
 ghost use Rattle.xm_rules.specs.Orders.{limit_of};
 ghost use Rattle.xm_texts.specs.RowAnswers.{number_field, where_asked};
-ghost use Rattle.xm_texts.specs.RowEvents.{cause_word, deletion_word, entry_word, event_line, event_word, events_header, giver_fields, left_behind, outcome_fields, owner_fields, owner_of, owner_of_entry, price_field, price_of_event, price_of_entry, quantity_of, quantity_of_entry, range_word, refused_line, subject_fields};
+ghost use Rattle.xm_texts.specs.RowEvents.{cause_word, deletion_word, entry_word, event_line, event_word, events_header, giver_fields, left_behind, outcome_fields, owner_fields, owner_of, owner_of_entry, price_field, price_of_event, price_of_entry, quantity_of, quantity_of_entry, refused_line, subject_fields};
 
 use crate::fields::{
     member_name, push_comma, push_line_feed, push_number, push_text, security_name,
@@ -12,10 +12,10 @@ use crate::fields::{
 use crate::lines::begun;
 use crate::remaining::push_ticks;
 use crate::trades::push_party;
-use crate::words::{kind_word, phase_word, refusal_word, side_word, trade_word};
+use crate::words::{kind_word, phase_word, range_word, refusal_word, side_word, trade_word};
 use std::alloc::{Allocator, Global};
 use xm_config::Row;
-use xm_events::{Deletion, Entry, Event, PriceRange};
+use xm_events::{Deletion, Entry, Event};
 use xm_files::SegmentNames;
 use xm_memory::OutOfMemory;
 use xm_rules::{Command, OrderKind, Refusal, Side};
@@ -188,17 +188,6 @@ fn deletion_word(reason: Deletion) -> &'static str
         Deletion::ImmediateOrCancel => "ioc",
         Deletion::FillOrKill => "fok",
         Deletion::EndOfDay => "end",
-    }
-}
-
-/// The word of a price range.
-fn range_word(range: PriceRange) -> &'static str
-    ensures { result.now ≡ range_word range }
-{
-    match range {
-        PriceRange::Dynamic => "dynamic",
-        PriceRange::Static => "static",
-        PriceRange::Wide => "wide",
     }
 }
 

@@ -37,3 +37,4 @@ pub use crate::statements::{push_day, push_rows, push_security, room_for_trades,
 pub use crate::told::Told;
 pub use crate::traded::push_members;
 pub use crate::trades::{begun_trades, push_trade, trades_by};
+pub use crate::words::{phase_word, range_word, refusal_word, side_word};

@@ -2,8 +2,10 @@
 ghost use Rattle.std.specs.Prelude.{◌≡◌};
 ghost use Rattle.xm_texts.specs.Carry.{kind_word};
 ghost use Rattle.xm_texts.specs.RowAnswers.{refusal_word};
+ghost use Rattle.xm_texts.specs.RowEvents.{range_word};
 ghost use Rattle.xm_texts.specs.Statement.{phase_word, restriction_word, side_word, trade_word};
 
+use xm_events::PriceRange;
 use xm_rules::{Auction, CallStage, OrderKind, Phase, Refusal, Restriction, Side, TradeKind};
 
 /// The word of a phase.
@@ -79,8 +81,19 @@ pub fn restriction_word(restriction: Restriction) -> &'static str
     }
 }
 
+/// The word of a price range.
+pub fn range_word(range: PriceRange) -> &'static str
+    ensures { result.now ≡ range_word range }
+{
+    match range {
+        PriceRange::Dynamic => "dynamic",
+        PriceRange::Static => "static",
+        PriceRange::Wide => "wide",
+    }
+}
+
 /// The word of a refusal.
-pub(crate) fn refusal_word(refusal: Refusal) -> &'static str
+pub fn refusal_word(refusal: Refusal) -> &'static str
     ensures { result.now ≡ refusal_word refusal }
 {
     match refusal {

@@ -1,6 +1,6 @@
 use Rattle.std.proofs.Common.{◌≡◌, ◌<◌, ◌≤◌, ◌-◌, length, take, arith, refl}
 use Rattle.xm_files.proofs.Known.{all_given, too_many}
-use Rattle.xm_files.proofs.bytes.read_whole.Goals as goal
+use Rattle.xm_files.proofs.bytes.read_file.Goals as goal
 
 pub returns-then-count-eq0-clause-ok : goal.returns-then-count-eq0-clause-ok
 returns-then-count-eq0-clause-ok g c =
