@@ -1,0 +1,6 @@
+mod Deciding
+mod FewUnits
+mod InOrder
+mod Passing
+mod Ruling
+mod Walking
