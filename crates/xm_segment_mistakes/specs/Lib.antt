@@ -1,0 +1,1 @@
+pub use Rattle.xm_mistakes.specs.Mistakes
