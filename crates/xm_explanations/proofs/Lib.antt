@@ -1,0 +1,4 @@
+mod Firsts
+mod Known
+mod Pushes
+mod Runs
