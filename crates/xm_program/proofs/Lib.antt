@@ -1,3 +1,4 @@
+mod Calls
 mod Ends
 mod Numbers
 mod Runs

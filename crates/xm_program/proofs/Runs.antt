@@ -1,6 +1,6 @@
 -- Words that ask for a day or a check are answered with it.
 use Rattle.std.proofs.lemmas.Bool.{le-leb}
-use Rattle.std.proofs.Common.{ℕ, ◌≡◌, ◌≤◌, ◌+◌, length, map, arith, ◌&&◌, ◌++◌, unwrap_or, slice_get, ◌==◌, is_some, List, [], ◌∷◌, Option, Some, None, Err, true, false, not, if◌then◌else◌, codes, refl, subst, sym, ap, ap₂, ◌∙◌, fold, Bool, Result, Ok, IfErr, IfSome, IsErrAnd, IsSome, inl, inr, ◌⊎◌, option_map, option_and_then}
+use Rattle.std.proofs.Common.{ℕ, ◌≡◌, ◌≤◌, ◌+◌, length, map, append-nil, arith, ◌&&◌, ◌++◌, unwrap_or, slice_get, ◌==◌, is_some, List, [], ◌∷◌, Option, Some, None, Err, true, false, not, if◌then◌else◌, codes, refl, subst, sym, ap, ap₂, ◌∙◌, fold, Bool, Result, Ok, IfErr, IfSome, IsErrAnd, IsSome, inl, inr, ◌⊎◌, option_map, option_and_then}
 use Rattle.std.specs.Str.{bytes_eq}
 use Rattle.std.specs.Fmt.{decimal}
 use Rattle.std.specs.List.{list_all}
@@ -24,7 +24,9 @@ use Rattle.xm_program.specs.declared.requests.Failure.TheVariants.{Day}
 use Rattle.xm_program.specs.declared.requests.Request.{Request}
 use Rattle.xm_program.specs.declared.requests.Request.TheVariants as request
 use Rattle.xm_program.specs.declared.requests.Request.TheVariants.{Check, Help}
-use Rattle.xm_program.specs.Requests.{AnswersWords, Asked, AskedDay, Asks, AsksDay, IsCount, IsOfWords, IsRequest, Meets, answer_at, answer_of, ArePaths, asked_in, asked_of, can_write, check, concurrency_of, count_in, count_rule, day, day_app, day_in, file_rule, flag_rule, is_mistake, is_strict, is_plain_path, is_plain_word, max_order_files, option_words, order_files, outputs, paths_rule, strict_words, strictness_in, threads_in}
+use Rattle.xm_program.specs.Requests.{AnswersWords, Asked, AskedAuction, AskedDay, AskedExplanation, Asks, AsksAuction, AsksDay, AsksExplanation, IsCount, IsOfWords, IsRequest, Meets, answer_at, answer_of, ArePaths, asked_in, asked_of, auction, auction_in, can_write, check, concurrency_of, count_in, count_rule, day, day_app, day_in, explanation, explanation_in, file_rule, flag_rule, form_in, is_csv, is_mistake, is_strict, is_plain_path, is_plain_word, max_order_files, option_words, order_files, outputs, paths_rule, record_of, required_rule, strict_words, strictness_in, threads_in}
+use Rattle.xm_calls.specs.declared.asked.Form.{Form}
+use Rattle.xm_calls.specs.declared.asked.Form.TheVariants.{Csv, Plain}
 use Rattle.xm_program.specs.declared.outcome.Strictness.{Strictness}
 use Rattle.xm_program.specs.declared.outcome.Strictness.TheVariants.{Lenient, Strict}
 use Rattle.xm_program.proofs.Numbers.{number-text}
@@ -550,6 +552,192 @@ plain-orders (path ∷ orders) more h =
 files-are : (orders : List Text) → 1 ≤ length orders → length orders ≤ max_order_files → order_files orders ≡ Some orders
 files-are orders some few = rw (le-leb 1 (length orders) some, le-leb (length orders) max_order_files few) refl
 
+-- ---- the words of an auction
+
+abbrev auction_shape : Shape
+auction_shape = unwrap_or (slice_get (built day_app).subs 3) day_app.top
+
+abbrev security_option : Rule
+security_option = filled (required_rule (codes "security"))
+
+abbrev csv_option : Rule
+csv_option = filled (flag_rule (codes "csv"))
+
+auction-subcommand : IsSubcommand (codes "auction") auction_shape
+unfolding clap_on_literals
+auction-subcommand = record { stops = refl; passes = refl; level = λ behind. refl; enters = λ behind. refl }
+
+auction-orders : IsSeveral auction_shape 2 (orders_option 2 max_order_files)
+auction-orders = record { by_index = refl; is_itself = refl; several = refl; no_trailing = refl }
+
+auction-security : IsOption auction_shape (codes "--security") security_option
+auction-security = option-of auction_shape (codes "--security") (codes "security") security_option refl refl refl refl refl refl refl refl
+
+auction-record : IsOption auction_shape (codes "--record") (file_option (codes "record"))
+auction-record = option-of auction_shape (codes "--record") (codes "record") (file_option (codes "record")) refl refl refl refl refl refl refl refl
+
+abbrev auction-csv : IsFlag auction_shape (codes "--csv") csv_option
+auction-csv = flag-of auction_shape (codes "--csv") (codes "csv") csv_option refl refl refl refl refl refl refl (codes "true") refl refl
+
+auction-two : (s o : Text) → IsPlain s → IsPlain o → IsWalked auction_shape start (s ∷ o ∷ []) (walked_over 2 (run_gathered s (o ∷ [])))
+unfolding clap_on_literals
+auction-two s o p q = record { comes_to = simp (p.no_hyphen, p.no_hyphens, q.no_hyphen, q.no_hyphens); passes = simp (p.no_hyphen, p.no_hyphens, q.no_hyphen, q.no_hyphens) }
+
+auction-walked : (s o : Text) (rest : List Text) → IsPlain s → ArePlain (o ∷ rest) → IsWalked auction_shape start (s ∷ o ∷ rest) (walked_over 2 (run_gathered s (o ∷ rest)))
+auction-walked s o rest p q =
+    further auction_shape start (walked_over 2 (run_gathered s (o ∷ []))) (walked_over 2 (run_gathered s (o ∷ rest))) (s ∷ o ∷ []) rest (auction-two s o p q.0)
+    (more-walked auction_shape 2 (orders_option 2 max_order_files) auction-orders (path_row (codes "SEGMENT") s ∷ []) (o ∷ []) rest q.1)
+
+auction-stands : (s o : Text) (rest : List Text) → length (o ∷ rest) ≤ max_order_files → Stands auction_shape (run_at s (o ∷ rest)) (run_gathered s (o ∷ rest))
+auction-stands s o rest few = record { passes = orders-pass 2 max_order_files o rest few; rows_are = λ k. refl }
+
+auction-carry : IsOption auction_shape (codes "--carry") (file_option (codes "carry"))
+auction-carry = option-of auction_shape (codes "--carry") (codes "carry") (file_option (codes "carry")) refl refl refl refl refl refl refl refl
+
+abbrev auction_options : AskedAuction → Option Text → List Text
+auction_options a text =
+    option_words (codes "--security") (Some a.security) ++ (option_words (codes "--record") text ++ (option_words (codes "--carry") a.carried ++ (if is_csv a.form then codes "--csv" ∷ [] else [])))
+
+module _ (a : AskedAuction) (o : Text) (rest : List Text) (text : Option Text) (orders_are : a.orders ≡ o ∷ rest) (segment : IsPlain a.segment) (orders : ArePlain (o ∷ rest)) (security : IsPlain a.security)
+    (plain_text : is_plain_path text ≡ true) (plain_carried : is_plain_path a.carried ≡ true) (few : length (o ∷ rest) ≤ max_order_files) (at_is : record_of text ≡ Some a.at) where
+  abbrev auction_end : Text → Option Row
+  auction_end =
+      with_row csv_option (if is_csv a.form then Some auction-csv.value else None) (with_row (file_option (codes "carry")) a.carried
+      (with_row (file_option (codes "record")) text (with_row security_option (Some a.security) (run_at a.segment (o ∷ rest)))))
+
+  auction-steps : Steps auction_shape 2 (run_gathered a.segment (o ∷ rest)) (auction_options a text) auction_end
+  auction-steps =
+      let n = given auction_shape 2 (run_gathered a.segment (o ∷ rest)) (run_at a.segment (o ∷ rest)) (auction-stands a.segment o rest few) (codes "--security") security_option auction-security a.security security refl refl in
+      let r = step 2 text n.stands auction-record refl (plain-file (codes "record") text plain_text) in
+      let k = step 2 a.carried r.stands auction-carry refl (plain-file (codes "carry") a.carried plain_carried) in
+      let f = flag-step 2 (is_csv a.form) k.stands auction-csv refl in
+      and-then n (and-then r (and-then k f))
+
+  abbrev auction_values : List Row
+  auction_values = finished auction_shape.rules (walked_over 2 auction-steps.end).held
+
+  auction-at : (k : Text) → row_at k auction_values ≡ or_else (auction_end k) (default_of auction_shape k)
+  auction-at k =
+      defaults-at k auction_shape.rules (rows_in auction_shape auction-steps.end) ∙ ap (λ (o : Option Row). fold (or_default k) o auction_shape.rules) (auction-steps.stands.rows_are k) ∙ default-else k auction_shape.rules (auction_end k)
+
+  number-read : (t : Option Text) → text ≡ t → first_of (codes "record") auction_values ≡ t
+  number-read None e = rw (auction-at (codes "record"), e) refl
+  number-read (Some path) e = rw (auction-at (codes "record"), e) refl
+
+  carried-read : (t : Option Text) → a.carried ≡ t → first_of (codes "carry") auction_values ≡ t
+  carried-read None e = rw (auction-at (codes "carry"), e) refl
+  carried-read (Some path) e = rw (auction-at (codes "carry"), e) refl
+
+  form-read : (form : Form) → a.form ≡ form → form_in auction_values ≡ form
+  form-read Plain e = rw (auction-at (codes "csv"), e) refl
+  form-read Csv e = rw (auction-at (codes "csv"), e) refl
+
+  auction-read : auction_in auction_values ≡ Some a
+  auction-read =
+      rw (
+        auction-at (codes "SEGMENT"),
+        auction-at (codes "ORDERS"),
+        auction-at (codes "security"),
+        number-read text refl,
+        carried-read a.carried refl,
+        at_is,
+        form-read a.form refl,
+        files-are (o ∷ rest) (omega arith) few,
+        sym orders_are,
+      ) refl
+
+  taken-auction : (program : Text) → IsTaken (program ∷ codes "auction" ∷ a.segment ∷ o ∷ (rest ++ auction_options a text)) (auction a)
+  taken-auction program =
+      taken-by (codes "auction") auction_shape auction-subcommand program (a.segment ∷ o ∷ (rest ++ auction_options a text)) (walked_over 2 auction-steps.end) (auction a)
+      (further auction_shape start (walked_over 2 (run_gathered a.segment (o ∷ rest))) (walked_over 2 auction-steps.end) (a.segment ∷ o ∷ rest) (auction_options a text) (auction-walked a.segment o rest segment orders) auction-steps.is_walked)
+      (both-true _ _ auction-steps.stands.passes (both-true _ _ refl (rw (auction-at (codes "SEGMENT"), auction-at (codes "ORDERS"), auction-at (codes "security")) refl)))
+      (ap (option_map auction) auction-read)
+
+-- the same, whatever its order files are
+taken-of : (words : List Text) (a : AskedAuction) → AsksAuction words a → (paths : List Text) → a.orders ≡ paths → ArePlain paths → 1 ≤ length paths → length paths ≤ max_order_files → IsPlain a.segment → IsPlain a.security → IsTaken words (auction a)
+taken-of words a asks [] e plain_orders some few s n = let bad : 1 ≤ 0 = some in absurd (omega (arith, bad))
+taken-of words a asks (o ∷ rest) e plain_orders some few s n =
+    let after = both _ _ asks.are_plain in
+    let security = both _ _ after.1 in
+    let number = both _ _ security.1 in
+    let carried = both _ _ number.1 in
+    let same : words ≡ asks.program ∷ codes "auction" ∷ a.segment ∷ o ∷ (rest ++ auction_options a asks.record_text) =
+    asks.words_are ∙ ap (λ (paths : List Text). asks.program ∷ codes "auction" ∷ a.segment ∷ (paths ++ auction_options a asks.record_text)) e in
+    rw same (taken-auction a o rest asks.record_text e s plain_orders n number.0 carried.0 few asks.record_is asks.program)
+
+-- ---- the words of an explanation
+
+abbrev explain_shape : Shape
+explain_shape = unwrap_or (slice_get (built day_app).subs 4) day_app.top
+
+explain-subcommand : IsSubcommand (codes "explain") explain_shape
+unfolding clap_on_literals
+explain-subcommand = record { stops = refl; passes = refl; level = λ behind. refl; enters = λ behind. refl }
+
+explain-orders : IsSeveral explain_shape 2 (orders_option 2 max_order_files)
+explain-orders = record { by_index = refl; is_itself = refl; several = refl; no_trailing = refl }
+
+explain-carry : IsOption explain_shape (codes "--carry") (file_option (codes "carry"))
+explain-carry = option-of explain_shape (codes "--carry") (codes "carry") (file_option (codes "carry")) refl refl refl refl refl refl refl refl
+
+explain-two : (s o : Text) → IsPlain s → IsPlain o → IsWalked explain_shape start (s ∷ o ∷ []) (walked_over 2 (run_gathered s (o ∷ [])))
+unfolding clap_on_literals
+explain-two s o p q = record { comes_to = simp (p.no_hyphen, p.no_hyphens, q.no_hyphen, q.no_hyphens); passes = simp (p.no_hyphen, p.no_hyphens, q.no_hyphen, q.no_hyphens) }
+
+explain-walked : (s o : Text) (rest : List Text) → IsPlain s → ArePlain (o ∷ rest) → IsWalked explain_shape start (s ∷ o ∷ rest) (walked_over 2 (run_gathered s (o ∷ rest)))
+explain-walked s o rest p q =
+    further explain_shape start (walked_over 2 (run_gathered s (o ∷ []))) (walked_over 2 (run_gathered s (o ∷ rest))) (s ∷ o ∷ []) rest (explain-two s o p q.0)
+    (more-walked explain_shape 2 (orders_option 2 max_order_files) explain-orders (path_row (codes "SEGMENT") s ∷ []) (o ∷ []) rest q.1)
+
+explain-stands : (s o : Text) (rest : List Text) → length (o ∷ rest) ≤ max_order_files → Stands explain_shape (run_at s (o ∷ rest)) (run_gathered s (o ∷ rest))
+explain-stands s o rest few = record { passes = orders-pass 2 max_order_files o rest few; rows_are = λ k. refl }
+
+module _ (x : AskedExplanation) (o : Text) (rest : List Text) (orders_are : x.orders ≡ o ∷ rest) (segment : IsPlain x.segment) (orders : ArePlain (o ∷ rest)) (plain_carried : is_plain_path x.carried ≡ true)
+    (few : length (o ∷ rest) ≤ max_order_files) where
+  abbrev explain_end : Text → Option Row
+  explain_end = with_row (file_option (codes "carry")) x.carried (run_at x.segment (o ∷ rest))
+
+  explain-steps : Steps explain_shape 2 (run_gathered x.segment (o ∷ rest)) (option_words (codes "--carry") x.carried) explain_end
+  explain-steps = step 2 x.carried (explain-stands x.segment o rest few) explain-carry refl (plain-file (codes "carry") x.carried plain_carried)
+
+  abbrev explain_values : List Row
+  explain_values = finished explain_shape.rules (walked_over 2 explain-steps.end).held
+
+  explain-at : (k : Text) → row_at k explain_values ≡ or_else (explain_end k) (default_of explain_shape k)
+  explain-at k =
+      defaults-at k explain_shape.rules (rows_in explain_shape explain-steps.end) ∙ ap (λ (o : Option Row). fold (or_default k) o explain_shape.rules) (explain-steps.stands.rows_are k) ∙ default-else k explain_shape.rules (explain_end k)
+
+  earlier-read : (t : Option Text) → x.carried ≡ t → first_of (codes "carry") explain_values ≡ t
+  earlier-read None e = rw (explain-at (codes "carry"), e) refl
+  earlier-read (Some path) e = rw (explain-at (codes "carry"), e) refl
+
+  explanation-read : explanation_in explain_values ≡ Some x
+  explanation-read =
+      rw (
+        explain-at (codes "SEGMENT"),
+        explain-at (codes "ORDERS"),
+        earlier-read x.carried refl,
+        files-are (o ∷ rest) (omega arith) few,
+        sym orders_are,
+      ) refl
+
+  taken-explanation : (program : Text) → IsTaken (program ∷ codes "explain" ∷ x.segment ∷ o ∷ (rest ++ option_words (codes "--carry") x.carried)) (explanation x)
+  taken-explanation program =
+      taken-by (codes "explain") explain_shape explain-subcommand program (x.segment ∷ o ∷ (rest ++ option_words (codes "--carry") x.carried)) (walked_over 2 explain-steps.end) (explanation x)
+      (further explain_shape start (walked_over 2 (run_gathered x.segment (o ∷ rest))) (walked_over 2 explain-steps.end) (x.segment ∷ o ∷ rest) (option_words (codes "--carry") x.carried)
+      (explain-walked x.segment o rest segment orders) explain-steps.is_walked)
+      (both-true _ _ explain-steps.stands.passes (both-true _ _ refl (rw (explain-at (codes "SEGMENT"), explain-at (codes "ORDERS")) refl)))
+      (ap (option_map explanation) explanation-read)
+
+-- the same, whatever its order files are
+explained-of : (words : List Text) (x : AskedExplanation) → AsksExplanation words x → (paths : List Text) → x.orders ≡ paths → ArePlain paths → 1 ≤ length paths → length paths ≤ max_order_files → IsPlain x.segment → is_plain_path x.carried ≡ true
+    → IsTaken words (explanation x)
+explained-of words x asks [] e plain_orders some few s c = let bad : 1 ≤ 0 = some in absurd (omega (arith, bad))
+explained-of words x asks (o ∷ rest) e plain_orders some few s c =
+    let same : words ≡ asks.program ∷ codes "explain" ∷ x.segment ∷ o ∷ (rest ++ option_words (codes "--carry") x.carried) =
+    asks.words_are ∙ ap (λ (paths : List Text). asks.program ∷ codes "explain" ∷ x.segment ∷ (paths ++ option_words (codes "--carry") x.carried)) e in
+    rw same (taken-explanation x o rest e s plain_orders c few asks.program)
+
 -- the words that ask for it are taken
 pub taken : (words : List Text) (asked : Asked) → Asks words asked → IsTaken words asked
 taken words (day d) asks =
@@ -585,6 +773,18 @@ taken words (day d) asks =
       };
     })
 taken words (check segment) asks = rw asks.words_are (taken-check asks.program segment (plain segment asks.segment_is_plain))
+taken words (auction a) asks =
+    let segment = both _ _ asks.are_plain in
+    let security = both _ _ segment.1 in
+    let number = both _ _ security.1 in
+    let carried = both _ _ number.1 in
+    let orders = plain-orders a.orders [] (rw (append-nil (map Some a.orders)) carried.1) in
+    taken-of words a asks a.orders refl orders.0 asks.are_so_many.0 asks.are_so_many.1 (plain a.segment segment.0) (plain a.security security.0)
+taken words (explanation x) asks =
+    let segment = both _ _ asks.are_plain in
+    let carried = both _ _ segment.1 in
+    let orders = plain-orders x.orders [] (rw (append-nil (map Some x.orders)) carried.1) in
+    explained-of words x asks x.orders refl orders.0 asks.are_so_many.0 asks.are_so_many.1 (plain x.segment segment.0) carried.0
 
 -- what matches of these words meet, the words ask for
 pub asked-met : (m : ArgMatches) (words : List Text) (app : App) (met : Option Request) → app ≡ day_app → HasMatchesOf app words m → Meets (asked_in (subcommand_rows_of m)) met → (o : Option Request) → met ≡ o → Meets (asked_of words) o
@@ -638,4 +838,6 @@ err_from (Err e) v P h p = rw h p
 pub requested : (faults : Kinds) (asked : Option Asked) (request : Request) → faults ≡ [] → IsRequest asked request → AnswersWords faults asked (Ok request)
 requested faults asked (request.Day d) none is = (none, is)
 requested faults asked (Check segment) none is = (none, is)
+requested faults asked (request.Auction a) none is = (none, is)
+requested faults asked (request.Explanation x) none is = (none, is)
 requested faults asked (Help error) none is = absurd is

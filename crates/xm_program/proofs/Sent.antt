@@ -1,6 +1,9 @@
 -- What was written before all of it was sent out, and what goes out one text after the other.
-use Rattle.std.proofs.Common.{◌≡◌, ◌⊎◌, ℕ, List, [], ◌∷◌, length, Option, None, Some, Result, Ok, Err, OnOk, inl, inr, subst, sym, arith, IfErr}
+use Rattle.std.proofs.Common.{◌≡◌, ◌⊎◌, ◌∙◌, ℕ, List, [], ◌∷◌, ap, length, map, Option, None, Some, Result, Ok, Err, OnOk, inl, inr, subst, sym, arith, IfErr, is_some, option_map, refl}
 use Rattle.std.proofs.Math.Seq.{take-length}
+use Rattle.std.proofs.lemmas.List.{length-map}
+use Rattle.std.proofs.lemmas.Slice.Zip.{AllZip-long}
+use Rattle.std.specs.List.{AllZip}
 use Rattle.std.specs.Io.KnownBytes.{Appends, Keeps}
 use Rattle.xm_day.proofs.Written.{appended}
 use Rattle.xm_day.specs.Answers.{InFileOrder}
@@ -60,3 +63,12 @@ begun-of old new text (inr all) = whole-of old new text all
 pub one-sent : (s : Sending) (result : Result (Unit {0}) DayFault) → OnOk result (Appends s.old s.new s.text) → IfErr result (λ fault. (fault ≡ WriteFailed) × AppendsBeginning s.old s.new s.text) → SendingEnds (s ∷ []) result
 one-sent s (Ok done) all begun = (all, tt)
 one-sent s (Err fault) all begun = (begun.0, inl (begun.1, tt))
+
+-- there are as many as were opened, whatever is read of each
+pub so-many : {A B C : Type 0} (R : A → B → Type 0) (paths : List A) (opened now : List B) (read : B → C) → AllZip R paths opened → now ≡ opened → length (map read now) ≡ length paths
+so-many R paths opened now read all is = length-map now read ∙ ap length is ∙ AllZip-long R paths opened all
+
+-- there is one where there was
+pub mapped-some : {A B : Type 0} (f : A → B) (o : Option A) → is_some (option_map f o) ≡ is_some o
+mapped-some f None = refl
+mapped-some f (Some x) = refl

@@ -1,10 +1,13 @@
 -- How a day and a check end, as the program tells it.
-use Rattle.std.specs.Prelude.{◌≡◌, ◌≢◌, ◌≤◌, ◌⊎◌, ℕ, Bool, true, false, List, [], ◌∷◌, length, take, Option, None, is_some, Result, Ok, Err, ⊤, Vec}
+use Rattle.std.specs.Prelude.{◌≡◌, ◌≢◌, ◌≤◌, ◌⊎◌, ℕ, Bool, true, false, List, [], ◌∷◌, length, take, Option, None, Some, is_some, option_map, map, Result, Ok, Err, ⊤, Vec}
 use Rattle.std.specs.Global.{Global}
+use Rattle.std.specs.List.{position_or_len}
+use Rattle.std.specs.Str.{bytes_eq}
 use Rattle.std.specs.Io.KnownBytes.{Appends}
-use Rattle.xm_day.specs.Answers.{InFileOrder}
+use Rattle.xm_calls.specs.Calls.{HasTables}
+use Rattle.xm_day.specs.Answers.{InFileOrder, IsFileFault, OrdersRun}
 use Rattle.xm_day.specs.Checks.{IsCheck}
-use Rattle.xm_day.specs.Days.{DayFiles, IsDay, nothing_asked}
+use Rattle.xm_day.specs.Days.{DayFiles, HasCarryFault, IsDay, OpensBy, nothing_asked}
 use Rattle.xm_day.specs.declared.value.Completeness.{Completeness}
 use Rattle.xm_day.specs.declared.value.DayTexts.{DayTexts}
 use Rattle.xm_day.specs.declared.value.HandsOn.{HandsOn}
@@ -13,9 +16,20 @@ use Rattle.xm_config.specs.Day.{Day}
 use Rattle.xm_workers.specs.Workers.{IsShared}
 use Rattle.xm_texts.specs.declared.asked.AskedTexts.{AskedTexts}
 use Rattle.xm_replay.specs.declared.faults.DayFault.{DayFault}
-use Rattle.xm_replay.specs.declared.faults.DayFault.TheVariants.{OutOfMemory, WriteFailed}
+use Rattle.xm_files.specs.Names.{NameLists}
+use Rattle.xm_files.specs.Segment.{segment_of}
+use Rattle.xm_replay.specs.declared.faults.DayFault.TheVariants.{Carry, OutOfMemory, Segment, WriteFailed}
+use Rattle.xm_explanations.specs.Explained.{IsExplained}
+use Rattle.xm_explanations.specs.Lines.{AreLines}
+use Rattle.xm_explanations.specs.declared.explaining.Explanation.{Explanation}
+use Rattle.xm_explanations.specs.declared.read_files.ReadDay.{ReadDay}
+use Rattle.xm_explanations.specs.declared.read_files.ReadFile.{ReadFile}
+use Rattle.xm_program.specs.Outcomes.{done_after, explained}
+use Rattle.xm_program.specs.Requests.{AskedAuction, AskedExplanation, calls_asked}
 use Rattle.xm_program.specs.declared.concurrency.Concurrency.{Concurrency}
 use Rattle.xm_program.specs.declared.concurrency.Concurrency.TheVariants.{Threads, Workers}
+use Rattle.xm_program.specs.declared.outcome.Outcome.{Outcome}
+use Rattle.xm_program.specs.declared.outcome.Outcome.TheVariants.{UnknownSecurity}
 use Rattle.xm_config.specs.declared.config.SegmentConfig.{SegmentConfig}
 use Rattle.xm_config.specs.declared.rows.Row.{Row}
 
@@ -142,14 +156,67 @@ FilesEnd concurrency asked goes_on count old new result =
     (record { statement = record { old = old; new = new }; answers = answers; trades = trades; events = events; depth = depth; carry = carry }) result)
     ⊎ (EndsUnread result × (new ≡ old))
 
--- the line of a segment goes out, or its fault is told
-abbrev pub LineIsSent : Held → Result (Vec ℕ Global) DayFault → Result (Unit {0}) DayFault → Type 0
-LineIsSent out (Ok line) result = SendingEnds (sending out line.items ∷ []) result
-LineIsSent out (Err fault) (Ok done) = ⊥
-LineIsSent out (Err fault) (Err again) = (again ≡ fault) × (out.new ≡ out.old)
+-- a text goes out, or the fault is told in place of it
+abbrev pub TextIsSent : Held → Result (Vec ℕ Global) DayFault → Result (Unit {0}) DayFault → Type 0
+TextIsSent out (Ok text) result = SendingEnds (sending out text.items ∷ []) result
+TextIsSent out (Err fault) (Ok done) = ⊥
+TextIsSent out (Err fault) (Err again) = (again ≡ fault) × (out.new ≡ out.old)
 
 -- how a call ends that checks a segment file of these bytes
 pub record CheckCallEnds (segment : Option (List ℕ)) (out : Held) (result : Result (Unit {0}) DayFault) : Type 0 where
   pub made : Result (Vec ℕ Global) DayFault
   pub is_check : IsCheck segment made
-  pub is_sent : LineIsSent out made result
+  pub is_sent : TextIsSent out made result
+
+-- the tables of the calls of a security of these files, or a fault of the rows
+abbrev pub CallsRun : AskedAuction → DayFiles → Result (Vec ℕ Global) DayFault → Type 0
+CallsRun a files result =
+    (config : SegmentConfig) × (names : NameLists) × OpensBy files.segment files.carried config names
+    × OrdersRun (λ texts. HasTables names a.security (calls_asked a)) config names files.orders result
+
+-- the segment of these files has no security of this name
+abbrev pub LacksSecurity : List ℕ → DayFiles → Type 0
+LacksSecurity name files =
+    (config : SegmentConfig) × (names : NameLists) × OpensBy files.segment files.carried config names
+    × (position_or_len (bytes_eq name) names.securities ≡ length names.securities)
+
+-- what the calls of a security of these files are: those of the rows, none where there is no such security, or a fault of the segment file or
+-- of the carry file before them
+abbrev pub AreCalls : AskedAuction → DayFiles → Result (Option (Vec ℕ Global)) DayFault → Type 0
+AreCalls a files (Ok (Some text)) = CallsRun a files (Ok text)
+AreCalls a files (Ok None) = LacksSecurity a.security files
+AreCalls a files (Err (Segment fault)) = IsFileFault segment_of files.segment fault
+AreCalls a files (Err (Carry fault)) = HasCarryFault files.segment files.carried fault
+AreCalls a files (Err fault) = CallsRun a files (Err fault)
+
+-- they go out; where there is no such security that is the outcome; or the fault is told in place of them
+abbrev pub CallsAreSent : Held → Result (Option (Vec ℕ Global)) DayFault → Result Outcome DayFault → Type 0
+CallsAreSent out (Ok (Some text)) result = (sent : Result (Unit {0}) DayFault) × SendingEnds (sending out text.items ∷ []) sent × (result ≡ done_after sent)
+CallsAreSent out (Ok None) result = (result ≡ Ok UnknownSecurity) × (out.new ≡ out.old)
+CallsAreSent out (Err fault) result = (result ≡ Err fault) × (out.new ≡ out.old)
+
+-- how a call ends that tells the calls of a security of these files
+pub record AuctionCallEnds (a : AskedAuction) (files : DayFiles) (out : Held) (result : Result Outcome DayFault) : Type 0 where
+  pub made : Result (Option (Vec ℕ Global)) DayFault
+  pub are_calls : AreCalls a files made
+  pub is_sent : CallsAreSent out made result
+
+-- an explanation of a day, and its text
+pub record HasExplained (d : ReadDay) (text : List ℕ) (outcome : Outcome) : Type 0 where
+  pub explanation : Explanation
+  pub is_explained : IsExplained d explanation
+  pub are_lines : AreLines explanation text
+  pub comes_to : outcome ≡ explained explanation
+
+-- how a call ends that explains a day of files that were read so: the text of an explanation of it goes out; or there is no memory for it
+abbrev pub ExplanationEnds : ReadDay → Held → Result Outcome DayFault → Type 0
+ExplanationEnds d out (Ok outcome) = (text : List ℕ) × HasExplained d text outcome × Appends out.old out.new text
+ExplanationEnds d out (Err WriteFailed) = (text : List ℕ) × (outcome : Outcome) × HasExplained d text outcome × AreBegun (sending out text ∷ [])
+ExplanationEnds d out (Err (OutOfMemory _)) = out.new ≡ out.old
+ExplanationEnds d out (Err fault) = ⊥
+
+-- files were read for what is asked: they are told by the paths that the words give
+pub record IsReadFor (e : AskedExplanation) (d : ReadDay) : Type 0 where
+  pub segment : d.segment.path.now ≡ e.segment
+  pub carried : option_map (λ (file : ReadFile). file.path.now) d.carried ≡ e.carried
+  pub orders : map (λ (file : ReadFile). file.path.now) d.orders.items ≡ e.orders

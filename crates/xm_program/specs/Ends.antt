@@ -7,22 +7,31 @@ use Rattle.clap.specs.declared.error.kind.ErrorKind.{ErrorKind}
 use Rattle.xm_day.specs.declared.value.Completeness.{Completeness}
 use Rattle.xm_replay.specs.declared.faults.DayFault.{DayFault}
 use Rattle.xm_replay.specs.declared.faults.DayFault.TheVariants.{OutOfMemory, WriteFailed}
-use Rattle.xm_program.specs.Days.{CheckCallEnds, FilesEnd}
+use Rattle.xm_day.specs.Days.{DayFiles}
+use Rattle.xm_explanations.specs.declared.read_files.ReadDay.{ReadDay}
+use Rattle.xm_program.specs.Days.{AuctionCallEnds, CheckCallEnds, ExplanationEnds, FilesEnd, IsReadFor}
 use Rattle.xm_program.specs.FaultLines.{fault_line}
-use Rattle.xm_program.specs.Outcomes.{done_after, judged}
+use Rattle.xm_program.specs.Outcomes.{done_after, judged, unknown_line}
 use Rattle.xm_program.specs.declared.outcome.Outcome.{Outcome}
-use Rattle.xm_program.specs.declared.outcome.Outcome.TheVariants.{Done}
-use Rattle.xm_program.specs.Requests.{Asked, IsOfWords, asked_texts, check, day, end_status, is_mistake}
+use Rattle.xm_program.specs.declared.outcome.Outcome.TheVariants.{Done, UnknownSecurity}
+use Rattle.xm_program.specs.Requests.{Asked, IsOfWords, asked_texts, auction, check, day, end_status, explanation, is_mistake}
 use Rattle.xm_program.specs.declared.requests.Failure.{Failure}
 use Rattle.xm_program.specs.declared.requests.Failure.TheVariants.{Day, Words}
 use Rattle.xm_ticks.specs.Writing.{AppendsPrefix}
 
--- what was asked for ended so, on files of some bytes: a day is judged as it is asked for
+-- what was asked for ended so, on files of some bytes: a day is judged as it is asked for; for the list of the order files of an auction, or
+-- for what files to explain hold, there may be no memory
 abbrev pub AskedEnds : Asked → Option (List ℕ) → Option (List ℕ) → Result Outcome DayFault → Type 0
 AskedEnds (day d) old new end =
     (made : Result Completeness DayFault) × FilesEnd d.concurrency (asked_texts d) (is_some d.carrying) (length d.orders) old new made × (end ≡ judged d.strictness made)
 AskedEnds (check segment) old new end =
     (segment_bytes : Option (List ℕ)) × (sent : Result (Unit {0}) DayFault) × CheckCallEnds segment_bytes (record { old = old; new = new }) sent × (end ≡ done_after sent)
+AskedEnds (auction a) old new end =
+    ((files : DayFiles) × (is_some files.carried ≡ is_some a.carried) × (length files.orders ≡ length a.orders) × AuctionCallEnds a files (record { old = old; new = new }) end)
+    ⊎ ((end ≡ Err (OutOfMemory tt)) × (new ≡ old))
+AskedEnds (explanation e) old new end =
+    ((d : ReadDay) × IsReadFor e d × ExplanationEnds d (record { old = old; new = new }) end)
+    ⊎ ((end ≡ Err (OutOfMemory tt)) × (new ≡ old))
 
 -- the words have no fault and ask for what can be done, which ended so
 pub record HasDone (faults : Kinds) (asked : Option Asked) (old new : Option (List ℕ)) (end : Result Outcome DayFault) : Type 0 where
@@ -38,7 +47,7 @@ pub record AsksHelp (faults : Kinds) : Type 0 where
   pub among : IsAmong kind faults
 
 -- what words with these faults, which ask for this, lead to on standard output: a day writes its statement, a check the line of its
--- segment, and nothing else; after a mistake, and after a fault, nothing was written, but where writing failed
+-- segment, an auction its tables, an explanation its lines, and nothing else; after a mistake, and after a fault, nothing was written, but where writing failed
 abbrev pub IsDone : Kinds → Option Asked → Option (List ℕ) → Option (List ℕ) → Result Outcome Failure → Type 0
 IsDone faults asked old new (Ok outcome) = HasDone faults asked old new (Ok outcome) ⊎ (AsksHelp faults × (outcome ≡ Done))
 IsDone faults asked old new (Err (Day (OutOfMemory _))) = new ≡ old
@@ -46,9 +55,10 @@ IsDone faults asked old new (Err (Day WriteFailed)) = HasDone faults asked old n
 IsDone faults asked old new (Err (Day fault)) = HasDone faults asked old new (Err fault) × (new ≡ old)
 IsDone faults asked old new (Err (Words error)) = IsOfWords faults asked error × (is_mistake (kind_of error) ≡ true) × (new ≡ old)
 
--- what is then told on standard error: nothing, the line of the fault once, of which a part may be missing where writing
+-- what is then told on standard error: nothing, that there is no such security, the line of the fault once, of which a part may be missing where writing
 -- failed, or what is mistaken in the words
 abbrev pub IsToldAs : Option (List ℕ) → Option (List ℕ) → Result Outcome Failure → Type 0
+IsToldAs old new (Ok UnknownSecurity) = Appends old new unknown_line ⊎ AppendsPrefix old new unknown_line
 IsToldAs old new (Ok outcome) = new ≡ old
 IsToldAs old new (Err (Day fault)) = Appends old new (fault_line fault) ⊎ AppendsPrefix old new (fault_line fault)
 IsToldAs old new (Err (Words error)) = ⊤

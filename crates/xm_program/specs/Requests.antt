@@ -16,20 +16,26 @@ use Rattle.clap.specs.declared.error.kind.ErrorKind.TheVariants as kind
 use Rattle.std_io.specs.declared.io.kind.ErrorKind.{ErrorKind as ReadKind}
 use Rattle.std_io.specs.declared.io.kind.ErrorKind.TheVariants as reading
 use Rattle.xm_files.specs.declared.order_files.TheConstants.{MAX_FILES}
+use Rattle.xm_files.specs.Rows.{whole_of}
 use Rattle.xm_replay.specs.declared.faults.DayFault.TheVariants.{OutOfMemory}
 use Rattle.xm_texts.specs.declared.asked.AskedTexts.{AskedTexts}
 use Rattle.xm_config.specs.Opening.{max_workers}
 use Rattle.xm_program.specs.declared.concurrency.Concurrency.{Concurrency}
 use Rattle.xm_program.specs.declared.concurrency.Concurrency.TheVariants.{Threads, Workers}
 use Rattle.xm_program.specs.Outcomes.{outcome_status}
+use Rattle.xm_calls.specs.declared.asked.CallsAsked.{CallsAsked}
+use Rattle.xm_calls.specs.declared.asked.Form.{Form}
+use Rattle.xm_calls.specs.declared.asked.Form.TheVariants.{Csv, Plain}
 use Rattle.xm_program.specs.declared.outcome.Outcome.{Outcome}
 use Rattle.xm_program.specs.declared.outcome.Strictness.{Strictness}
 use Rattle.xm_program.specs.declared.outcome.Strictness.TheVariants.{Lenient, Strict}
 use Rattle.xm_program.specs.declared.requests.Request.{Request}
 use Rattle.xm_program.specs.declared.requests.Request.TheVariants as request
 use Rattle.xm_program.specs.declared.requests.Request.TheVariants.{Check, Help}
+use Rattle.xm_program.specs.declared.requests.AuctionRequest.{AuctionRequest}
 use Rattle.xm_program.specs.declared.requests.Carrying.{Carrying}
 use Rattle.xm_program.specs.declared.requests.DayRequest.{DayRequest}
+use Rattle.xm_program.specs.declared.requests.ExplanationRequest.{ExplanationRequest}
 use Rattle.xm_program.specs.declared.requests.Failure.{Failure}
 use Rattle.xm_program.specs.declared.requests.Failure.TheVariants.{Day, Words}
 
@@ -93,13 +99,32 @@ carry_app =
 abbrev pub check_app : App
 check_app = with_rule (new_app (codes "check")) (path_rule (codes "SEGMENT"))
 
+-- `--security NAME`, which has to be given
+abbrev pub required_rule : Text → Rule
+required_rule id = record (file_rule id) { required = true }
+
+-- `SEGMENT ORDERS... --carry IN`: the files of a day, of which the carry file may be left out
+abbrev pub with_day_files : App → App
+with_day_files app = with_rule (with_rule (with_rule app (path_rule (codes "SEGMENT"))) (paths_rule (codes "ORDERS") max_order_files)) (file_rule (codes "carry"))
+
+-- `auction` with these, `--security NAME`, `--record N` and `--csv`
+abbrev pub auction_app : App
+auction_app =
+    with_rule (with_rule (with_rule (with_day_files (new_app (codes "auction"))) (required_rule (codes "security"))) (file_rule (codes "record"))) (flag_rule (codes "csv"))
+
+-- `explain` with these
+abbrev pub explain_app : App
+explain_app = with_day_files (new_app (codes "explain"))
+
 -- `xetra-day` without its subcommands, of which one has to be given
 abbrev pub top_app : App
 top_app = on_top (λ s. record s { has_version = true; subcommand_required = true; arg_required_else_help = true }) (new_app (codes "xetra-day"))
 
 -- `xetra-day`, with a subcommand
 abbrev pub day_app : App
-day_app = with_subcommand (with_subcommand (with_subcommand top_app run_app.top) carry_app.top) check_app.top
+day_app =
+    with_subcommand (with_subcommand (with_subcommand (with_subcommand (with_subcommand top_app run_app.top) carry_app.top) check_app.top) auction_app.top)
+    explain_app.top
 
 -- ---- what the words ask for
 
@@ -120,10 +145,34 @@ pub record AskedDay : Type 0 where
   -- whether the status tells that it is incomplete
   pub strictness : Strictness
 
--- a day, or the check of a segment file
+-- what is wrong with the files of a day, by their paths
+pub record AskedExplanation : Type 0 where
+  pub segment : Text
+  pub orders : List Text
+  -- the carry file that the day opens with, if it opens with one
+  pub carried : Option Text
+
+-- the calls of a security, by the paths of the files of its day
+pub record AskedAuction : Type 0 where
+  pub segment : Text
+  pub orders : List Text
+  pub carried : Option Text
+  -- its name
+  pub security : Text
+  -- the record at which its call is told, or none, where each end of a call is
+  pub at : Option ℕ
+  pub form : Form
+
+-- which calls of it are told, and how
+abbrev pub calls_asked : AskedAuction → CallsAsked
+calls_asked a = record { at = a.at; form = a.form }
+
+-- a day, the check of a segment file, the calls of a security, or what is wrong with files
 pub data Asked : Type 0 where
   day : AskedDay → Asked
   check : Text → Asked
+  auction : AskedAuction → Asked
+  explanation : AskedExplanation → Asked
 
 -- a number of workers or of threads, by its decimal digits
 abbrev pub count_in : Text → Option ℕ
@@ -231,6 +280,32 @@ carried_day_in rows =
     option_and_then (λ from. option_and_then (λ kept. day_in (Some (from, kept.1)) kept.0 rows)
     (kept_in (first_of (codes "out") rows) (paths_in rows))) (first_of (codes "IN") rows)
 
+-- the record at which a call is told, if these values say it, by its number
+abbrev pub record_of : Option Text → Option (Option ℕ)
+record_of None = Some None
+record_of (Some text) = option_map Some (whole_of text)
+
+abbrev pub form_in : List Row → Form
+form_in rows = if is_given (first_of (codes "csv") rows) then Csv else Plain
+
+-- the calls of a security that these values ask for
+abbrev pub auction_in : List Row → Option AskedAuction
+auction_in rows =
+    option_and_then (λ segment. option_and_then (λ orders. option_and_then (λ security. option_map (λ at. record {
+      segment = segment;
+      orders = orders;
+      carried = first_of (codes "carry") rows;
+      security = security;
+      at = at;
+      form = form_in rows;
+    }) (record_of (first_of (codes "record") rows))) (first_of (codes "security") rows)) (order_files (paths_in rows))) (first_of (codes "SEGMENT") rows)
+
+-- what is wrong with the files that these values name
+abbrev pub explanation_in : List Row → Option AskedExplanation
+explanation_in rows =
+    option_and_then (λ segment. option_map (λ orders. record { segment = segment; orders = orders; carried = first_of (codes "carry") rows }) (order_files (paths_in rows)))
+    (first_of (codes "SEGMENT") rows)
+
 abbrev pub asked_in : Option (Text × List Row) → Option Asked
 asked_in None = None
 asked_in (Some p) =
@@ -238,7 +313,11 @@ asked_in (Some p) =
     then option_map day (run_day_in p.1)
     else (if bytes_eq p.0 (codes "carry")
     then option_map day (carried_day_in p.1)
-    else (if bytes_eq p.0 (codes "check") then option_map check (first_of (codes "SEGMENT") p.1) else None))
+    else (if bytes_eq p.0 (codes "check")
+    then option_map check (first_of (codes "SEGMENT") p.1)
+    else (if bytes_eq p.0 (codes "auction")
+    then option_map auction (auction_in p.1)
+    else (if bytes_eq p.0 (codes "explain") then option_map explanation (explanation_in p.1) else None))))
 
 -- the day or the check that the words ask for
 abbrev pub asked_of : List Text → Option Asked
@@ -302,10 +381,36 @@ pub record AsksCheck (words : List Text) (segment : Text) : Type 0 where
   pub words_are : words ≡ program ∷ codes "check" ∷ segment ∷ []
   pub segment_is_plain : is_plain_word segment ≡ true
 
+abbrev pub is_csv : Form → Bool
+is_csv Csv = true
+is_csv Plain = false
+
+-- the words are the program's name, `auction` with its paths, `--security` with a name, and then, as far as they are asked for, `--record`
+-- with a number, `--carry` with a path, and `--csv`; its order files are not too many
+pub record AsksAuction (words : List Text) (a : AskedAuction) : Type 0 where
+  pub program : Text
+  pub record_text : Option Text
+  pub words_are : words ≡ program ∷ codes "auction" ∷ a.segment ∷ (a.orders
+      ++ (option_words (codes "--security") (Some a.security) ++ (option_words (codes "--record") record_text ++ (option_words (codes "--carry") a.carried
+      ++ (if is_csv a.form then codes "--csv" ∷ [] else [])))))
+  pub are_plain : list_all is_plain_path (Some a.segment ∷ Some a.security ∷ record_text ∷ a.carried ∷ map Some a.orders) ≡ true
+  pub are_so_many : (1 ≤ length a.orders) × (length a.orders ≤ max_order_files)
+  pub record_is : record_of record_text ≡ Some a.at
+
+-- the words are the program's name, `explain` with its paths, and then, if it is asked for, `--carry` with a path; its order files are not
+-- too many
+pub record AsksExplanation (words : List Text) (e : AskedExplanation) : Type 0 where
+  pub program : Text
+  pub words_are : words ≡ program ∷ codes "explain" ∷ e.segment ∷ (e.orders ++ option_words (codes "--carry") e.carried)
+  pub are_plain : list_all is_plain_path (Some e.segment ∷ e.carried ∷ map Some e.orders) ≡ true
+  pub are_so_many : (1 ≤ length e.orders) × (length e.orders ≤ max_order_files)
+
 -- the words ask for it in a form that is always taken
 abbrev pub Asks : List Text → Asked → Type 0
 Asks words (day d) = AsksDay words d
 Asks words (check segment) = AsksCheck words segment
+Asks words (auction a) = AsksAuction words a
+Asks words (explanation e) = AsksExplanation words e
 
 -- ---- the answer
 
@@ -326,10 +431,25 @@ named_day d = record {
   strictness = d.strictness;
 }
 
+abbrev pub named_auction : AuctionRequest → AskedAuction
+named_auction a = record {
+  segment = a.segment.now;
+  orders = map (λ s. s.now) a.orders.items;
+  carried = option_map (λ s. s.now) a.carried;
+  security = a.security.now;
+  at = a.at;
+  form = a.form;
+}
+
+abbrev pub named_explanation : ExplanationRequest → AskedExplanation
+named_explanation e = record { segment = e.segment.now; orders = map (λ s. s.now) e.orders.items; carried = option_map (λ s. s.now) e.carried }
+
 -- the request is what was asked for, and not a help text
 abbrev pub IsRequest : Option Asked → Request → Type 0
 IsRequest asked (request.Day d) = asked ≡ Some (day (named_day d))
 IsRequest asked (Check segment) = asked ≡ Some (check segment.now)
+IsRequest asked (request.Auction a) = asked ≡ Some (auction (named_auction a))
+IsRequest asked (request.Explanation e) = asked ≡ Some (explanation (named_explanation e))
 IsRequest asked (Help error) = ⊥
 
 -- what was asked for is met, if there was something

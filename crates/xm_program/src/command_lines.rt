@@ -2,14 +2,16 @@
 ghost use Rattle.std.specs.Prelude.{◌≡◌, ◌≤◌, IfOk, false};
 ghost use Rattle.clap.specs.Words.{app_of, new_app, rule_of};
 ghost use Rattle.clap.specs.declared.builder.command.Command.TheViews.{out-Command as fields_of};
-ghost use Rattle.xm_program.specs.Requests.{carry_app, check_app, count_rule, day_app, file_rule, flag_rule, path_rule, paths_rule, run_app, top_app, with_options, workers_rule};
+ghost use Rattle.xm_program.specs.Requests.{auction_app, carry_app, check_app, count_rule, day_app, explain_app, file_rule, flag_rule, path_rule, paths_rule, required_rule, run_app, top_app, with_day_files, with_options, workers_rule};
 
 use crate::help_texts::{
-    ANSWERS_HELP, ANSWERS_SHORT, CARRIED_HELP, CARRY_HELP, CARRY_SHORT, CARRY_USAGE, CHECK_HELP,
-    CHECK_SHORT, DAY_HELP, DAY_SHORT, DEPTH_HELP, DEPTH_SHORT, EVENTS_HELP, EVENTS_SHORT,
-    KEEP_HELP, KEEP_SHORT, ORDERS_AND_OUT_HELP, ORDERS_HELP, RUN_HELP, RUN_SHORT, SEGMENT_HELP,
-    STATUS_HELP, STRICT_HELP, STRICT_SHORT, THREADS_HELP, THREADS_SHORT, TRADES_HELP, TRADES_SHORT,
-    WORKERS_HELP, WORKERS_SHORT,
+    ANSWERS_HELP, ANSWERS_SHORT, AUCTION_HELP, AUCTION_SHORT, CARRIED_HELP, CARRY_HELP,
+    CARRY_SHORT, CARRY_USAGE, CHECK_HELP, CHECK_SHORT, CSV_HELP, CSV_SHORT, DAY_HELP, DAY_SHORT,
+    DEPTH_HELP, DEPTH_SHORT, EARLIER_HELP, EARLIER_SHORT, EVENTS_HELP, EVENTS_SHORT, EXPLAIN_HELP,
+    EXPLAIN_SHORT, KEEP_HELP, KEEP_SHORT, ORDERS_AND_OUT_HELP, ORDERS_HELP, RECORD_HELP,
+    RECORD_SHORT, RUN_HELP, RUN_SHORT, SECURITY_HELP, SEGMENT_HELP, STATUS_HELP, STRICT_HELP,
+    STRICT_SHORT, THREADS_HELP, THREADS_SHORT, TRADES_HELP, TRADES_SHORT, WORKERS_HELP,
+    WORKERS_SHORT,
 };
 use clap::{Arg, ArgAction, Command, value_parser};
 use std::alloc::Global;
@@ -27,6 +29,10 @@ pub(crate) const RUN: &str = "run";
 pub(crate) const CARRY: &str = "carry";
 
 pub(crate) const CHECK: &str = "check";
+
+pub(crate) const AUCTION: &str = "auction";
+
+pub(crate) const EXPLAIN: &str = "explain";
 
 /// The command that prints help, which clap adds.
 pub(crate) const HELP: &str = "help";
@@ -46,6 +52,9 @@ pub(crate) const THREADS: &str = "threads";
 /// The value of an option that is the path of a file.
 const FILE: &str = "FILE";
 
+/// The option with the carry file that a day opens with.
+pub(crate) const EARLIER: &str = "carry";
+
 /// The value of `--out`.
 const OUT: &str = "OUT";
 
@@ -59,6 +68,12 @@ pub(crate) const DEPTH: &str = "depth";
 
 pub(crate) const STRICT: &str = "strict";
 
+pub(crate) const SECURITY: &str = "security";
+
+pub(crate) const RECORD: &str = "record";
+
+pub(crate) const CSV: &str = "csv";
+
 /// The command line of the program.
 pub(crate) fn command_line<'a>(alloc: Global) -> Result<Command<'a>, OutOfMemory>
     ensures { IfOk result (λ command. app_of command ≡ day_app) }
@@ -67,7 +82,9 @@ pub(crate) fn command_line<'a>(alloc: Global) -> Result<Command<'a>, OutOfMemory
         .bin_name(PROGRAM)?
         .subcommand(run_command(alloc)?)?
         .subcommand(carry_command(alloc)?)?
-        .subcommand(check_command(alloc)?)?;
+        .subcommand(check_command(alloc)?)?
+        .subcommand(auction_command(alloc)?)?
+        .subcommand(explain_command(alloc)?)?;
     Ok(command)
 }
 
@@ -130,6 +147,41 @@ fn check_command<'a>(alloc: Global) -> Result<Command<'a>, OutOfMemory>
 {
     let segment = path(alloc, SEGMENT, SEGMENT_HELP);
     Ok(titled(alloc, CHECK, CHECK_SHORT, CHECK_HELP).arg(segment)?)
+}
+
+/// The part of the command line that tells the calls of a security.
+pub(crate) fn auction_command<'a>(alloc: Global) -> Result<Command<'a>, OutOfMemory>
+    ensures app { IfOk result (λ command. app_of command ≡ auction_app) }
+    ensures local { IfOk result (λ command. (fields_of command).has_globals ≡ false) }
+{
+    let command = titled(alloc, AUCTION, AUCTION_SHORT, AUCTION_HELP);
+    let command = with_day_files(alloc, command)?
+        .arg(needed(alloc, SECURITY, "NAME", SECURITY_HELP))?
+        .arg(file(alloc, RECORD, "N", RECORD_SHORT, RECORD_HELP))?
+        .arg(flag(alloc, CSV, CSV_SHORT, CSV_HELP))?;
+    Ok(command)
+}
+
+/// The part of the command line that tells what is wrong with files.
+pub(crate) fn explain_command<'a>(alloc: Global) -> Result<Command<'a>, OutOfMemory>
+    ensures app { IfOk result (λ command. app_of command ≡ explain_app) }
+    ensures local { IfOk result (λ command. (fields_of command).has_globals ≡ false) }
+{
+    let command = titled(alloc, EXPLAIN, EXPLAIN_SHORT, EXPLAIN_HELP);
+    with_day_files(alloc, command)
+}
+
+/// The same part, with the files of a day.
+fn with_day_files<'a>(alloc: Global, command: Command<'a>) -> Result<Command<'a>, OutOfMemory>
+    requires { (fields_of command).has_globals ≡ false }
+    ensures app { IfOk result (λ with. app_of with ≡ with_day_files (app_of command.entry)) }
+    ensures local { IfOk result (λ with. (fields_of with).has_globals ≡ false) }
+{
+    let command = command
+        .arg(path(alloc, SEGMENT, SEGMENT_HELP))?
+        .arg(paths(alloc, ORDERS, MAX_FILES, ORDERS_HELP))?
+        .arg(file(alloc, EARLIER, CARRIED, EARLIER_SHORT, EARLIER_HELP))?;
+    Ok(command)
 }
 
 /// A command with its help in short and at length, behind which the exit statuses stand.
@@ -200,6 +252,19 @@ fn file<'a>(alloc: Global, name: &'a str, value: &'a str, short: &'a str, long: 
         .action(ArgAction::Set)
         .help(short)
         .long_help(long)
+}
+
+/// An option that has to be given, with its help.
+fn needed<'a>(alloc: Global, name: &'a str, value: &'a str, help: &'a str) -> Arg<'a>
+    ensures rule { rule_of result ≡ required_rule name.entry.now }
+    ensures local { result.global ≡ false }
+{
+    Arg::new(alloc, name)
+        .long(name)
+        .value_name(value)
+        .required(true)
+        .action(ArgAction::Set)
+        .help(help)
 }
 
 /// A flag, with its help in short and at length.

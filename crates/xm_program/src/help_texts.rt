@@ -28,7 +28,9 @@ pub(crate) const DAY_HELP: &str =
     "Replays a trading day of a segment of securities and writes its statement.
 
 docs/FORMATS.md tells all of the files that are read and written.
-`xetra-day run --help` shows a whole small day.";
+`xetra-day run --help` shows a whole small day. Where a file has a fault, or rows were refused,
+`xetra-day explain` says what is wrong and how to mend it; why the price of an auction is the
+price, `xetra-day auction` shows.";
 
 pub(crate) const RUN_SHORT: &str =
     "Runs the day of its files and writes its statement to standard output";
@@ -38,8 +40,10 @@ pub(crate) const RUN_HELP: &str =
 
 ORDERS is an order file or several, 256 at most: one day, in the order given, each with a header.
 docs/FORMATS.md tells all of the files that are read and written. SEGMENT and ORDERS may be pipes,
-as /dev/stdin or <(zcat day.csv.gz), and so may FILE, as >(gzip > answers.csv.gz). A whole small
-day, whose two files can be copied as they stand:
+as /dev/stdin or <(zcat day.csv.gz), and so may FILE, as >(gzip > answers.csv.gz).
+`xetra-day explain SEGMENT ORDERS` says what is wrong with files, where that isn't plain.
+
+A whole small day, whose two files can be copied as they stand:
 
 segment.toml:
 
@@ -196,9 +200,56 @@ pub(crate) const CHECK_HELP: &str =
 The line is `OK <securities> securities <members> members`. The first fault ends the check: of the
 segment file, of the opening of the segment, of the writing. docs/FORMATS.md tells of each.";
 
+pub(crate) const AUCTION_SHORT: &str =
+    "Shows why the price of each call of a security is the price";
+
+pub(crate) const AUCTION_HELP: &str = "Shows why the price of each call of a security is the price.
+
+Of each end of a call it writes to standard output the limits that the price may have, with the
+units of buys and of sells that accept each, those that can be executed, and the side that is left
+with more; the last price; the ranges that are asked, and whether they were left; the price, and the
+rule that decided. The files are those of `xetra-day run`, with their faults.";
+
+pub(crate) const SECURITY_HELP: &str = "The security, by its name in the segment file";
+
+pub(crate) const RECORD_SHORT: &str = "Shows the call as it stands when this record comes";
+
+pub(crate) const RECORD_HELP: &str =
+    "Shows the call as it stands when this record comes, as if it ended there
+
+The header of the first order file has the number 1, as in answers, trades and events.";
+
+pub(crate) const CSV_SHORT: &str = "Writes the tables as CSV";
+
+pub(crate) const CSV_HELP: &str =
+    "Writes the tables as CSV: a line for each candidate, range, last price and price
+
+docs/FORMATS.md tells of each field.";
+
+pub(crate) const BAD_RECORD: &str = "--record N has the number of a record: digits alone";
+
+pub(crate) const EARLIER_SHORT: &str = "The carry file (CSV) that the day opens with";
+
+pub(crate) const EARLIER_HELP: &str =
+    "The carry file (CSV) that the day opens with, as IN of `carry`
+
+Without it the day opens with no order and no stop, as that of `run` does.";
+
+pub(crate) const EXPLAIN_SHORT: &str =
+    "Says what is wrong with files and how to mend it, and what a day leaves unsaid";
+
+pub(crate) const EXPLAIN_HELP: &str =
+    "Says what is wrong with files and how to mend it, and what a day leaves unsaid.
+
+It writes to standard output up to 20 mistakes, each with its file, its line and record, its column
+or key, the text found, and what may stand there. The first is the fault by which `xetra-day run` of
+these files ends. Where there is none, it runs the day and tells for each refusal how many rows were
+refused so, where the first of them stands and why, and which securities haven't ended, in which
+phase and since which record. It ends with the status of `xetra-day run --strict`.";
+
 pub(crate) const STATUS_HELP: &str = "Exit status:
   0  it is done: the statement or the line was written
-  1  it is not done: standard error has one line that names the fault
+  1  it is not done: standard error has one line that names the fault; of explain: a file is mistaken
   2  the command line is mistaken
   3  the script xetra-day has no program to run: standard error says why
-  4  with --strict, it is done, and a row was refused, or a security hasn't ended";
+  4  with --strict, and of explain: it is done, and a row was refused, or a security hasn't ended";

@@ -1,5 +1,5 @@
 //! The files that a day is read from.
-ghost use Rattle.std.specs.Prelude.{◌≡◌, ◌≤◌, IfOk, IsErr, length, map};
+ghost use Rattle.std.specs.Prelude.{◌≡◌, ◌≤◌, IfOk, IsErr, is_some, length, map};
 ghost use Rattle.std.specs.Fn.{FnOnceReturnsAt, FnReturnsAt};
 ghost use Rattle.std.specs.Io.{ReadsAtMost};
 ghost use Rattle.std.specs.Io.KnownBytes.{ReadConsumes};
@@ -29,6 +29,20 @@ pub fn open_input<F, O: FnOnce(&str) -> io::Result<F>>(opens: O, path: &str) -> 
     ensures { (answer : _) × FnOnceReturnsAt O.FnOnce opens path.now answer × (result ≡ input_of answer) }
 {
     input_of(opens(path))
+}
+
+/// The same, where a path is given.
+pub fn open_where_given<F, O: FnOnce(&str) -> io::Result<F>>(
+    opens: O,
+    path: Option<&str>,
+) -> Option<Input<F>>
+    requires { O.IsAlwaysCallable opens }
+    ensures { is_some result ≡ is_some path.entry }
+{
+    match path {
+        None => None,
+        Some(path) => Some(open_input(opens, path)),
+    }
 }
 
 /// The files at these paths, in their order, each as it is opened, or `OutOfMemory` where their list can't be held.

@@ -8,11 +8,13 @@ ghost use Rattle.xm_files.specs.declared.order_files.TheConstants.{MAX_FILES};
 ghost use Rattle.xm_program.specs.Days.{AppendsBeginning, CheckCallEnds, DayCallEnds, DayIsSent, EndsBy, FilesEnd, IsChosen, IsDayBy, SendingEnds, asked_with, sendings};
 ghost use Rattle.xm_program.specs.Ends.{AskedEnds, CallEnds, IsDone, IsToldAs};
 ghost use Rattle.xm_program.specs.Outputs.{outputs_of};
-ghost use Rattle.xm_program.specs.Requests.{RefusesBytes, asked_of, asked_texts, check, day, day_app, named_day, end_status};
+ghost use Rattle.xm_program.specs.Requests.{RefusesBytes, asked_of, asked_texts, check, day, day_app, end_status, named_day};
 
+use crate::auctions::write_auction;
 use crate::complaints::Complaints;
 use crate::concurrency::Concurrency;
 use crate::count::Count;
+use crate::explanations::write_explanation;
 use crate::fault_lines::fault_line;
 use crate::outcome::Outcome;
 use crate::outputs::TextFiles;
@@ -38,6 +40,9 @@ use xm_memory::OutOfMemory;
 use xm_name_index::{Seed, Storage};
 use xm_segment::NoGate;
 use xm_ticks::write_whole;
+
+/// What is told where the words name no security of the segment.
+const UNKNOWN_SECURITY: &str = "xetra-day: the segment file has no security of this name\n";
 
 /// The least bytes of order files that are worth several threads: those of some 20,000 rows.
 const LONG_FILE: u64 = 700_000;
@@ -81,6 +86,8 @@ fn answer<R: AllocGlobal + Files + RandomSource + Threads + Wait + Sync, W: Writ
     match requests::read_words(rt.alloc(), words)? {
         Request::Day(request) => Ok(write_day(rt, &request, out)?),
         Request::Check { segment } => Ok(check_file(rt, segment, out)?),
+        Request::Auction(request) => Ok(write_auction(rt, &request, out)?),
+        Request::Explanation(request) => Ok(write_explanation(rt, &request, out)?),
         Request::Help(text) => Ok(print_help(text, out)?),
     }
 }
@@ -198,7 +205,7 @@ fn check_file<R: AllocGlobal + Files + RandomSource, W: Write>(
 }
 
 /// Where the structures of a call lie, whose tables have a seed that is drawn.
-fn storage<R: AllocGlobal + RandomSource>(rt: &R) -> Storage<Global> {
+pub(crate) fn storage<R: AllocGlobal + RandomSource>(rt: &R) -> Storage<Global> {
     Storage {
         alloc: rt.alloc(),
         seed: Seed::drawn(rt),
@@ -368,7 +375,7 @@ fn send_texts<W: Write, F: Write>(
 }
 
 /// Writes a text, and sees that all of it went out.
-fn send<W: Write>(out: &mut W, text: &Vec<u8>) -> Result<(), DayFault>
+pub(crate) fn send<W: Write>(out: &mut W, text: &Vec<u8>) -> Result<(), DayFault>
     ensures sent { OnOk result (Appends (W.contents out.old) (W.contents out.new) text.now.items) }
     ensures failed { IfErr result (λ fault. (fault ≡ DayFault.WriteFailed) × AppendsBeginning (W.contents out.old) (W.contents out.new) text.now.items) }
 {
@@ -403,7 +410,10 @@ fn tell<E: Write>(complaints: &mut E, ended: Result<Outcome, Failure>) -> ExitCo
     ensures told { IsToldAs (E.contents complaints.old) (E.contents complaints.new) ended }
 {
     let status = match ended {
-        Ok(outcome) => outcome.status(),
+        Ok(outcome) => {
+            tell_outcome(complaints, outcome);
+            outcome.status()
+        }
         Err(failure) => {
             let status = failure.status();
             complain(complaints, failure);
@@ -411,6 +421,18 @@ fn tell<E: Write>(complaints: &mut E, ended: Result<Outcome, Failure>) -> ExitCo
         }
     };
     ExitCode::from(status)
+}
+
+/// Writes that the segment has no such security, where that is what came of a call.
+fn tell_outcome<E: Write>(complaints: &mut E, outcome: Outcome)
+    ensures { IsToldAs (E.contents complaints.old) (E.contents complaints.new) (Ok outcome) }
+{
+    match outcome {
+        Outcome::UnknownSecurity => {
+            let _ = write_whole(complaints, UNKNOWN_SECURITY.as_bytes());
+        }
+        Outcome::Done | Outcome::Incomplete | Outcome::Mistaken => {}
+    }
 }
 
 /// Writes the line of a fault, or what is mistaken in the words.

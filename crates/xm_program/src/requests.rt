@@ -3,16 +3,18 @@ ghost use Rattle.std.specs.Prelude.{◌≡◌, ◌≤◌, [], IfOk, IfErr, IfSom
 ghost use Rattle.std.specs.List.{list_any};
 ghost use Rattle.clap.specs.Words.{app_of, fault_of, first_of, found_of, kind_of, one_of, rows_of, subcommand_rows_of, takes};
 ghost use Rattle.clap.specs.declared.error.kind.ErrorKind.TheVariants as kind;
-ghost use Rattle.xm_program.specs.Requests.{AnswersWords, Asked, Asks, IsGranted, IsOfWords, IsRequest, IsTold, IsUnread, Meets, answer_of, are_apart, asked_in, asked_of, asked_texts, can_write, carried_by, carried_day_in, concurrency_in, count_in, day, day_app, day_in, inputs, kept_in, named_day, failure_status, is_file, is_given, is_one_path, order_files, outputs, paths_in, run_day_in, strictness_in, threads_in};
+ghost use Rattle.xm_files.specs.Rows.{whole_of};
+ghost use Rattle.xm_program.specs.Requests.{AnswersWords, Asked, Asks, IsGranted, IsOfWords, IsRequest, IsTold, IsUnread, Meets, answer_of, are_apart, asked_in, asked_of, asked_texts, auction, auction_in, can_write, carried_by, carried_day_in, concurrency_in, count_in, day, day_app, day_in, explanation, explanation_in, form_in, inputs, kept_in, named_day, failure_status, is_file, is_given, is_one_path, order_files, outputs, paths_in, record_of, run_day_in, strictness_in, threads_in};
 
 use crate::command_lines::{
-    ANSWERS, CARRIED, CARRY, CHECK, DEPTH, EVENTS, HELP, KEEP, ORDERS, RUN, SEGMENT, STRICT,
-    THREADS, TRADES, WORKERS, carry_command, command_line, run_command,
+    ANSWERS, AUCTION, CARRIED, CARRY, CHECK, CSV, DEPTH, EARLIER, EVENTS, EXPLAIN, HELP, KEEP,
+    ORDERS, RECORD, RUN, SECURITY, SEGMENT, STRICT, THREADS, TRADES, WORKERS, auction_command,
+    carry_command, command_line, explain_command, run_command,
 };
 use crate::concurrency::{Concurrency, concurrency_of};
 use crate::count::Count;
 use crate::help_texts::{
-    CANNOT_KEEP, CANNOT_SHARE, CANNOT_TELL, KEPT_BY_OUT, KEPT_NOWHERE, TOO_MANY_FILES,
+    BAD_RECORD, CANNOT_KEEP, CANNOT_SHARE, CANNOT_TELL, KEPT_BY_OUT, KEPT_NOWHERE, TOO_MANY_FILES,
 };
 use crate::outcome::Strictness;
 use arrayvec::ArrayVec;
@@ -21,9 +23,11 @@ use clap::{ArgMatches, Command, Error};
 use std::alloc::Global;
 use std::io;
 use strsim::osa_distance;
+use xm_calls::Form;
 use xm_day::{AskedTexts, DayFault};
 use xm_files::MAX_FILES;
 use xm_memory::OutOfMemory;
+use xm_ticks::read_number;
 
 /// So many files a day is read from at most, with the segment file and the carry file.
 const MAX_INPUTS: usize = MAX_FILES + 2;
@@ -41,8 +45,37 @@ pub enum Request<'a> {
     Day(DayRequest<'a>),
     /// The check of a segment file, which is given by its path.
     Check { segment: &'a str },
+    /// The calls of a security.
+    Auction(AuctionRequest<'a>),
+    /// What is wrong with the files of a day.
+    Explanation(ExplanationRequest<'a>),
     /// A help text, or the version.
     Help(Error),
+}
+
+/// What is wrong with the files of a day, by their paths.
+#[derive(Debug, Drop)]
+pub struct ExplanationRequest<'a> {
+    pub segment: &'a str,
+    /// Of its order files, one after the other.
+    pub orders: ArrayVec<&'a str, MAX_FILES>,
+    /// Of the carry file that it opens with, if it opens with one.
+    pub carried: Option<&'a str>,
+}
+
+/// The calls of a security, by the paths of the files of its day.
+#[derive(Debug, Drop)]
+pub struct AuctionRequest<'a> {
+    pub segment: &'a str,
+    /// Of its order files, one after the other.
+    pub orders: ArrayVec<&'a str, MAX_FILES>,
+    /// Of the carry file that it opens with, if it opens with one.
+    pub carried: Option<&'a str>,
+    /// The name of the security.
+    pub security: &'a str,
+    /// The record at which its call is told. Where none is given, each end of a call is.
+    pub at: Option<u32>,
+    pub form: Form,
 }
 
 /// A day, by the paths of its files and by how its rows are taken.
@@ -229,7 +262,7 @@ fn close_command(alloc: Global, words: &[String]) -> Result<Option<Error>, OutOf
 fn nearest_command(alloc: Global, word: &str) -> Result<Option<&'static str>, OutOfMemory> {
     let mut nearest = None;
     let mut fewest = usize::MAX;
-    for command in [RUN, CARRY, CHECK, HELP] {
+    for command in [RUN, CARRY, CHECK, AUCTION, EXPLAIN, HELP] {
         let edits = osa_distance(alloc, word, command)?;
         if 0 < edits && edits <= (command.len() / 3).max(1) && edits < fewest {
             nearest = Some(command);
@@ -280,6 +313,8 @@ fn command_at_hand<'a>(
 ) -> Result<Command<'a>, OutOfMemory> {
     match matches.subcommand() {
         Some((CARRY, _)) => Ok(carry_command(alloc)?.bin_name("xetra-day carry")?),
+        Some((AUCTION, _)) => Ok(auction_command(alloc)?.bin_name("xetra-day auction")?),
+        Some((EXPLAIN, _)) => Ok(explain_command(alloc)?.bin_name("xetra-day explain")?),
         _ => Ok(run_command(alloc)?.bin_name("xetra-day run")?),
     }
 }
@@ -295,6 +330,7 @@ fn why_not(matches: &ArgMatches<'_>) -> &'static str {
                 None => KEPT_BY_OUT,
             }
         }
+        Some((AUCTION, values)) if paths_in(values).len() <= MAX_FILES => BAD_RECORD,
         Some((_, values)) => why_no_day(values, paths_in(values), None),
         None => CANNOT_TELL,
     }
@@ -324,6 +360,8 @@ fn request_in<'a>(matches: &ArgMatches<'a>) -> Option<Request<'a>>
         CHECK => Some(Request::Check {
             segment: text_in(values, SEGMENT)?,
         }),
+        AUCTION => auction_in(values),
+        EXPLAIN => explanation_in(values),
         _ => None,
     }
 }
@@ -361,6 +399,65 @@ fn run_day_in<'a>(values: &ArgMatches<'a>) -> Option<Request<'a>>
     ensures { Meets (option_map day (run_day_in (rows_of (found_of values.now)))) result }
 {
     day_in(values, &None, paths_in(values))
+}
+
+/// The calls of a security that the values of a subcommand ask for.
+fn auction_in<'a>(values: &ArgMatches<'a>) -> Option<Request<'a>>
+    ensures { Meets (option_map auction (auction_in (rows_of (found_of values.now)))) result }
+{
+    Some(Request::Auction(AuctionRequest {
+        segment: text_in(values, SEGMENT)?,
+        orders: order_files(paths_in(values))?,
+        carried: text_in(values, EARLIER),
+        security: text_in(values, SECURITY)?,
+        at: record_of(text_in(values, RECORD))?,
+        form: form_in(values),
+    }))
+}
+
+/// The files whose mistakes the values of a subcommand ask for.
+fn explanation_in<'a>(values: &ArgMatches<'a>) -> Option<Request<'a>>
+    ensures { Meets (option_map explanation (explanation_in (rows_of (found_of values.now)))) result }
+{
+    Some(Request::Explanation(ExplanationRequest {
+        segment: text_in(values, SEGMENT)?,
+        orders: order_files(paths_in(values))?,
+        carried: text_in(values, EARLIER),
+    }))
+}
+
+/// The record at which a call is told, if the words say it.
+fn record_of(text: Option<&str>) -> Option<Option<u32>>
+    ensures { result ≡ record_of (option_map (λ s. s.now) text.entry) }
+{
+    match text {
+        None => Some(None),
+        Some(text) => record_number(text.as_bytes()).map(Some),
+    }
+}
+
+/// The number of a record, by its digits, if 32 bits hold it.
+fn record_number(text: &[u8]) -> Option<u32>
+    ensures { result ≡ whole_of text.now }
+{
+    if text.len() > 10 {
+        return None;
+    }
+    match read_number(text) {
+        Some(number) => u32::try_from(number).ok(),
+        None => None,
+    }
+}
+
+/// How tables are written, by the values of a subcommand.
+fn form_in(values: &ArgMatches<'_>) -> Form
+    ensures { result ≡ form_in (rows_of (found_of values.now)) }
+{
+    if is_given(text_in(values, CSV)) {
+        Form::Csv
+    } else {
+        Form::Plain
+    }
 }
 
 /// The day among the values of a subcommand that has the paths of two carry files.

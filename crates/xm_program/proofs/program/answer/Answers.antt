@@ -1,7 +1,7 @@
 use Rattle.std.proofs.Common.{rules, ap, ◌≡◌, Ok, Err, inr, map, string_bytes}
 use Rattle.clap.specs.Words.{fault_of}
 use Rattle.xm_replay.specs.declared.faults.DayFault.TheVariants.{WriteFailed}
-use Rattle.xm_program.specs.Requests.{AnswersWords, asked_of, check, day, day_app, named_day}
+use Rattle.xm_program.specs.Requests.{AnswersWords, asked_of, auction, check, day, day_app, explanation, named_auction, named_day, named_explanation}
 use Rattle.xm_program.specs.declared.requests.Failure.TheVariants.{Day}
 use Rattle.xm_program.specs.declared.requests.Request.TheVariants as request
 use Rattle.xm_program.proofs.Ends.{all-done, asks-help, fault-done, refused-done}
@@ -52,3 +52,31 @@ returns-in_ok-print_help-in-Help g c =
     let words = map string_bytes c.args.words.now in
     let answered : AnswersWords (fault_of day_app words) (asked_of words) (Ok (request.Help c.in-Help.text)) = search rules in
     inr (asks-help (fault_of day_app words) (asked_of words) c.in-Help.text answered, c.in_ok-print_help-in-Help.ensures.done)
+
+pub returns-in_err-write_auction-in-Auction : goal.returns-in_err-write_auction-in-Auction
+returns-in_err-write_auction-in-Auction g c =
+    let words = map string_bytes c.args.words.now in
+    let met = c.in_err-write_auction-in-Auction in
+    let answered : AnswersWords (fault_of day_app words) (asked_of words) (Ok (request.Auction c.in-Auction.request)) = search rules in
+    let is : c.from_residual-in_err-write_auction-in-Auction.result ≡ Err (Day met.field-0.0) = search rules in
+    rw is (fault-done _ _ (auction (named_auction c.in-Auction.request)) _ _ met.field-0.0 answered.0 answered.1 met.ensures.ends (λ h. ap g.W.Write.contents (met.ensures.untouched h)))
+
+pub returns-in_ok-write_auction-in-Auction : goal.returns-in_ok-write_auction-in-Auction
+returns-in_ok-write_auction-in-Auction g c =
+    let words = map string_bytes c.args.words.now in
+    let answered : AnswersWords (fault_of day_app words) (asked_of words) (Ok (request.Auction c.in-Auction.request)) = search rules in
+    all-done _ _ (auction (named_auction c.in-Auction.request)) _ _ _ answered.0 answered.1 c.in_ok-write_auction-in-Auction.ensures.ends
+
+pub returns-in_err-write_explanation-in-Explanation : goal.returns-in_err-write_explanation-in-Explanation
+returns-in_err-write_explanation-in-Explanation g c =
+    let words = map string_bytes c.args.words.now in
+    let met = c.in_err-write_explanation-in-Explanation in
+    let answered : AnswersWords (fault_of day_app words) (asked_of words) (Ok (request.Explanation c.in-Explanation.request)) = search rules in
+    let is : c.from_residual-in_err-write_explanation-in-Explanation.result ≡ Err (Day met.field-0.0) = search rules in
+    rw is (fault-done _ _ (explanation (named_explanation c.in-Explanation.request)) _ _ met.field-0.0 answered.0 answered.1 met.ensures.ends (λ h. ap g.W.Write.contents (met.ensures.untouched h)))
+
+pub returns-in_ok-write_explanation-in-Explanation : goal.returns-in_ok-write_explanation-in-Explanation
+returns-in_ok-write_explanation-in-Explanation g c =
+    let words = map string_bytes c.args.words.now in
+    let answered : AnswersWords (fault_of day_app words) (asked_of words) (Ok (request.Explanation c.in-Explanation.request)) = search rules in
+    all-done _ _ (explanation (named_explanation c.in-Explanation.request)) _ _ _ answered.0 answered.1 c.in_ok-write_explanation-in-Explanation.ensures.ends

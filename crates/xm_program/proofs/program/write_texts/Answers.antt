@@ -1,13 +1,6 @@
-use Rattle.std.proofs.Common.{◌≡◌, ◌∙◌, List, ap, inl, length, map, refl, sym}
-use Rattle.std.proofs.lemmas.List.{length-map}
-use Rattle.std.proofs.lemmas.Slice.Zip.{AllZip-long}
-use Rattle.std.specs.List.{AllZip}
-use Rattle.xm_program.proofs.Sent.{ends-said}
+use Rattle.std.proofs.Common.{inl, refl, sym}
+use Rattle.xm_program.proofs.Sent.{ends-said, so-many}
 use Rattle.xm_program.proofs.program.write_texts.Goals as goal
-
--- there are as many as were opened, whatever is read of each
-so-many : {A B C : Type 0} (R : A → B → Type 0) (paths : List A) (opened now : List B) (read : B → C) → AllZip R paths opened → now ≡ opened → length (map read now) ≡ length paths
-so-many R paths opened now read all is = length-map now read ∙ ap length is ∙ AllZip-long R paths opened all
 
 pub returns-in-None-clause-ends : goal.returns-in-None-clause-ends
 returns-in-None-clause-ends g c =
