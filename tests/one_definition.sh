@@ -16,7 +16,7 @@ for path in sorted(pathlib.Path("crates").glob("*/specs/**/*.antt")):
         if record is not None and text and indent <= record:
             record = None
         opens = re.match(r"(pub|abbrev|unfoldable|record\s+[A-Z])", text)
-        if record is not None or not opens or re.match(r"(pub )?mod\b", text):
+        if record is not None or not opens or re.match(r"(pub )?(mod|use)\b", text):
             continue
         if re.match(r"(pub\s+)?record\b", text):
             record = indent

@@ -54,6 +54,20 @@ def statement_of(line):
     return (ROOT / orders.replace(".orders.csv", ".statement")).read_text() if orders else ""
 
 
+def shown_behind(page, line):
+    """The text that the page shows behind a call."""
+    _, _, rest = (ROOT / page).read_text(encoding="utf-8").partition(f"\n{line}\n")
+    shown = re.search(r"^```text\n(.*?)^```$", rest, re.S | re.M)
+    return shown[1] if shown else "nothing is shown"
+
+
+def is_right(page, line, printed):
+    """Whether a call prints what stands beside it; of the tables of an auction the page shows the first."""
+    if " auction " in line:
+        return printed.startswith(shown_behind(page, line))
+    return printed == statement_of(line)
+
+
 def faults_of_calls(copy):
     lines = [(page, line) for page in PAGES for block in fenced(page, "sh") for line in block.splitlines() if line != "./test"]
     for page in set(PAGES) - {page for page, _ in lines}:
@@ -63,7 +77,7 @@ def faults_of_calls(copy):
             print(f"readme: not called, as there is no matplotlib: {line}")
             continue
         ran = call(copy, line)
-        if (ran.returncode, ran.stdout, ran.stderr) != (0, statement_of(line), ""):
+        if ran.returncode != 0 or ran.stderr or not is_right(page, line, ran.stdout):
             yield f"{page}: {line}: status {ran.returncode}, it prints {ran.stdout}{ran.stderr}"
     for made, stored in WRITTEN.items():
         if not (copy / made).exists() or not filecmp.cmp(copy / made, ROOT / "examples" / stored, shallow=False):

@@ -48,8 +48,32 @@ macro_rules! mistakes_carry {
     };
 }
 
+/// A mistake in the words of `auction`, which its usage is told behind.
+macro_rules! mistakes_auction {
+    ($message:expr) => {
+        Printed::Text(concat!(
+            "error: ",
+            $message,
+            "\n\nUsage: xetra-day auction [OPTIONS] --security <NAME> <SEGMENT> <ORDERS>...\n\nFor more information, try '--help'.\n"
+        ))
+    };
+}
+
+/// A mistake in the words of `explain`, which its usage is told behind.
+macro_rules! mistakes_explain {
+    ($message:expr) => {
+        Printed::Text(concat!(
+            "error: ",
+            $message,
+            "\n\nUsage: xetra-day explain [OPTIONS] <SEGMENT> <ORDERS>...\n\nFor more information, try '--help'.\n"
+        ))
+    };
+}
+
+mod auctions;
 mod cascades;
 mod ends;
+mod explanations;
 mod help;
 mod runtime;
 mod words;

@@ -113,11 +113,11 @@ pub fn are_ends(
     }
 }
 
-const UNREAD_SEGMENT: Printed = Printed::Text("xetra-day: segment: line 0: ReadFailed\n");
+pub const UNREAD_SEGMENT: Printed = Printed::Text("xetra-day: segment: line 0: ReadFailed\n");
 
 const UNREAD_ORDERS: Printed = Printed::Text("xetra-day: orders: line 0: ReadFailed\n");
 
-const BAD_SECOND_FILE: Printed = Printed::Text("xetra-day: orders 2: line 2: BadField\n");
+pub const BAD_SECOND_FILE: Printed = Printed::Text("xetra-day: orders 2: line 2: BadField\n");
 
 const STATEMENTS: [End; 7] = [
     prints!(Printed::Text(STATEMENT), b"run", b"day.toml", b"day.csv"),

@@ -10,8 +10,10 @@ const RUN_HELP: &str = "Runs the day of its files and writes its statement to st
 
 ORDERS is an order file or several, 256 at most: one day, in the order given, each with a header.
 docs/FORMATS.md tells all of the files that are read and written. SEGMENT and ORDERS may be pipes,
-as /dev/stdin or <(zcat day.csv.gz), and so may FILE, as >(gzip > answers.csv.gz). A whole small
-day, whose two files can be copied as they stand:
+as /dev/stdin or <(zcat day.csv.gz), and so may FILE, as >(gzip > answers.csv.gz).
+`xetra-day explain SEGMENT ORDERS` says what is wrong with files, where that isn't plain.
+
+A whole small day, whose two files can be copied as they stand:
 
 segment.toml:
 
@@ -107,10 +109,10 @@ Options:
 
 Exit status:
   0  it is done: the statement or the line was written
-  1  it is not done: standard error has one line that names the fault
+  1  it is not done: standard error has one line that names the fault; of explain: a file is mistaken
   2  the command line is mistaken
   3  the script xetra-day has no program to run: standard error says why
-  4  with --strict, it is done, and a row was refused, or a security hasn't ended
+  4  with --strict, and of explain: it is done, and a row was refused, or a security hasn't ended
 ";
 
 /// What `check --help` prints.
@@ -131,19 +133,19 @@ Options:
 
 Exit status:
   0  it is done: the statement or the line was written
-  1  it is not done: standard error has one line that names the fault
+  1  it is not done: standard error has one line that names the fault; of explain: a file is mistaken
   2  the command line is mistaken
   3  the script xetra-day has no program to run: standard error says why
-  4  with --strict, it is done, and a row was refused, or a security hasn't ended
+  4  with --strict, and of explain: it is done, and a row was refused, or a security hasn't ended
 ";
 
 /// How each help text ends.
 const STATUSES: &str = "Exit status:
   0  it is done: the statement or the line was written
-  1  it is not done: standard error has one line that names the fault
+  1  it is not done: standard error has one line that names the fault; of explain: a file is mistaken
   2  the command line is mistaken
   3  the script xetra-day has no program to run: standard error says why
-  4  with --strict, it is done, and a row was refused, or a security hasn't ended
+  4  with --strict, and of explain: it is done, and a row was refused, or a security hasn't ended
 ";
 
 const WHOLE_HELP: Printed = Printed::Between("Replays a trading day of a segment", STATUSES);

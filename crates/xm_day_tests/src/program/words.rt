@@ -6,7 +6,8 @@ use super::ends::{
 use std::process::Abort;
 use xm_config::MAX_WORKERS;
 use xm_program::{
-    Concurrency, Count, DayRequest, Failure, Request, Strictness, TextPaths, read_words,
+    AuctionRequest, Concurrency, Count, DayRequest, ExplanationRequest, Failure, Form, Request,
+    Strictness, TextPaths, read_words,
 };
 
 /// Adds words to a command line.
@@ -82,6 +83,33 @@ fn texts_asked(rt: &(impl Abort + AllocGlobal), texts: &TextPaths<'_>) -> String
     told.expect(rt, "memory")
 }
 
+/// What calls a command line asks for, as a text.
+fn calls_asked(rt: &(impl Abort + AllocGlobal), request: &AuctionRequest<'_>) -> String {
+    let orders = listed(rt, request.orders.as_slice());
+    let (security, segment) = (request.security, request.segment);
+    let form = match request.form {
+        Form::Plain => "plain",
+        Form::Csv => "csv",
+    };
+    let asked = match request.at {
+        None => format!(in rt.alloc(); "auction of {security} in {segment} and {orders}, {form}"),
+        Some(record) => {
+            format!(in rt.alloc();
+                "auction of {security} at {record} in {segment} and {orders}, {form}"
+            )
+        }
+    };
+    asked.expect(rt, "memory")
+}
+
+/// The files that a command line asks to be explained, as a text.
+fn explanation_asked(rt: &(impl Abort + AllocGlobal), request: &ExplanationRequest<'_>) -> String {
+    let orders = listed(rt, request.orders.as_slice());
+    let (segment, carried) = (request.segment, request.carried.unwrap_or("nothing"));
+    let asked = format!(in rt.alloc(); "explain {segment} and {orders} behind {carried}");
+    asked.expect(rt, "memory")
+}
+
 /// What a command line is answered with, as a text that tells which answer it is.
 fn answer_to(rt: &(impl Abort + AllocGlobal), line: &[String]) -> String {
     let alloc = rt.alloc();
@@ -92,6 +120,14 @@ fn answer_to(rt: &(impl Abort + AllocGlobal), line: &[String]) -> String {
             format!(in alloc; "{day}, {texts}")
         }
         Ok(Request::Check { segment }) => format!(in alloc; "check {segment}"),
+        Ok(Request::Auction(request)) => {
+            let asked = calls_asked(rt, request);
+            format!(in alloc; "{asked}")
+        }
+        Ok(Request::Explanation(request)) => {
+            let asked = explanation_asked(rt, request);
+            format!(in alloc; "{asked}")
+        }
         Ok(Request::Help(text)) => format!(in alloc; "help {text}"),
         Err(Failure::Day(fault)) => format!(in alloc; "fault {fault}"),
         Err(Failure::Words(text)) => format!(in alloc; "{text}"),
@@ -256,6 +292,104 @@ const RUNS: [Answered; 29] = [
             "--threads=2",
         ],
         CANNOT_SHARE,
+    ),
+];
+
+const AUCTIONS: [Answered; 7] = [
+    (
+        &["auction", "day.toml", "day.csv", "--security", "XYZ"],
+        Printed::Text("auction of XYZ in day.toml and day.csv, plain"),
+    ),
+    (
+        &[
+            "auction",
+            "--csv",
+            "day.toml",
+            "a.csv",
+            "b.csv",
+            "--security=XYZ",
+            "--record=12",
+        ],
+        Printed::Text("auction of XYZ at 12 in day.toml and a.csv, b.csv, csv"),
+    ),
+    (
+        &[
+            "auction",
+            "day.toml",
+            "day.csv",
+            "--security",
+            "",
+            "--record",
+            "4294967295",
+        ],
+        Printed::Text("auction of  at 4294967295 in day.toml and day.csv, plain"),
+    ),
+    (
+        &[
+            "auction",
+            "day.toml",
+            "day.csv",
+            "--security",
+            "XYZ",
+            "--record",
+            "4294967296",
+        ],
+        mistakes_auction!("--record N has the number of a record: digits alone"),
+    ),
+    (
+        &[
+            "auction",
+            "day.toml",
+            "day.csv",
+            "--security",
+            "XYZ",
+            "--record",
+            "+1",
+        ],
+        mistakes_auction!("--record N has the number of a record: digits alone"),
+    ),
+    (
+        &[
+            "auction",
+            "day.toml",
+            "day.csv",
+            "--security=XYZ",
+            "--security=XYZ",
+        ],
+        mistakes_auction!("the argument '--security <NAME>' cannot be used multiple times"),
+    ),
+    (
+        &["auctoin", "day.toml"],
+        Printed::Text(
+            "error: unrecognized subcommand 'auctoin'\n\n  tip: a similar subcommand exists: 'auction'\n\nUsage: xetra-day <COMMAND>\n\nFor more information, try '--help'.\n",
+        ),
+    ),
+];
+
+const EXPLANATIONS: [Answered; 5] = [
+    (
+        &["explain", "day.toml", "day.csv"],
+        Printed::Text("explain day.toml and day.csv behind nothing"),
+    ),
+    (
+        &["explain", "--carry=in.csv", "day.toml", "a.csv", "b.csv"],
+        Printed::Text("explain day.toml and a.csv, b.csv behind in.csv"),
+    ),
+    (
+        &["explain", "day.toml"],
+        Printed::Text(
+            "error: the following required arguments were not provided:\n  <ORDERS>...\n\nUsage: xetra-day explain <SEGMENT> <ORDERS>...\n\nFor more information, try '--help'.\n",
+        ),
+    ),
+    (
+        &["explain", "day.toml", "day.csv", "--carry=a", "--carry=a"],
+        mistakes_explain!("the argument '--carry <IN>' cannot be used multiple times"),
+    ),
+    (
+        &["explane", "day.toml"],
+        Printed::Text(
+            "error: unrecognized subcommand 'explane'\n\n  tip: a similar subcommand exists: 'explain'\n\nUsage: xetra-day <COMMAND>\n\nFor more information, try '--help'.\n",
+        ),
     ),
 ];
 
@@ -627,6 +761,8 @@ fn are_many_answered(rt: &(impl Abort + AllocGlobal), many: &ManyFiles) {
 fn words_of_command_lines(rt: HostRuntime) {
     are_answered(&rt, &RUNS);
     are_answered(&rt, &CARRIES);
+    are_answered(&rt, &AUCTIONS);
+    are_answered(&rt, &EXPLANATIONS);
     are_answered(&rt, &CHECKS);
     are_answered(&rt, &NUMBERS);
     are_answered(&rt, &MISTAKES);
