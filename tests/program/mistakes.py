@@ -101,7 +101,7 @@ def wrong_of_others(program: str) -> list[str]:
     first = (MISTAKES / "command_new.orders.txt").read_text()
     expects(["segment.toml", "orders.csv", "side_in_capitals.orders.csv", "gone.csv"], 1, f"{second}gone.csv: {none}\n")
     expects(["segment.toml", "command_new.orders.csv", "side_in_capitals.orders.csv"], 1, first + second)
-    expects(["segment.toml", "orders.csv"], 0, "no mistake: 7 rows accepted, 0 refused\n")
+    expects(["segment.toml", "ended.csv"], 0, "no mistake: 10 rows accepted, 0 refused\n")
     expects(["segment.toml", "unsaid.csv"], 4, UNSAID)
     return wrong
 
